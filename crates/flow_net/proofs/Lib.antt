@@ -1,0 +1,11 @@
+pub mod Limits
+pub mod Sums
+pub mod Zips
+pub mod Cuts
+pub mod Sides
+pub mod Pushes
+pub mod HalfArcs
+pub mod AugmentingPaths
+pub mod ZeroFlows
+pub mod MaxFlows
+pub mod Connections

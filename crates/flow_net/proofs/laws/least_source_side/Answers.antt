@@ -1,0 +1,5 @@
+use Rattle.flow_net.proofs.Sides.{least_source_side}
+use Rattle.flow_net.proofs.laws.least_source_side.Goals as goal
+
+pub returns : goal.returns
+returns c = least_source_side

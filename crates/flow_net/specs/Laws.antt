@@ -1,0 +1,59 @@
+-- The laws that the rest of the toolkit stands on. Each is the contract of a function of `laws`.
+use Rattle.std.specs.Prelude.{◌≢◌, ℕ, ◌+◌, ◌≤◌, ◌⊎◌, ◌↔◌, Bool, List, IsTrue, IsFalse}
+use Rattle.flow_net.specs.Nets.{Net, IsNet, IsNode, unit, both_ways}
+use Rattle.flow_net.specs.NodeSets.{just}
+use Rattle.flow_net.specs.Flows.{out_of, into, IsFeasible, HasValue, IsGreatest}
+use Rattle.flow_net.specs.Cuts.{IsCut, capacity, IsMinimumCut, IsLeastCapacity, IsInLeastSourceSide, IsInLeastSinkSide}
+use Rattle.flow_net.specs.Connectivity.{IsConnectivity, IsUndirectedConnectivity, IsPairConnectivity}
+use Rattle.flow_net.specs.Residual.{IsClosed, IsReachable, IsReaching}
+use Rattle.flow_net.specs.Paths.{IsPath, HasRoom, IsApart, push_all, IsMoreBy}
+
+-- no source is a sink
+abbrev pub AreApart : (ℕ → Bool) → (ℕ → Bool) → Type 0
+AreApart s t = (v : ℕ) → IsTrue (s v) → IsFalse (t v)
+
+-- no feasible flow's value passes a cut's capacity
+abbrev pub WeakDuality : Type 0
+WeakDuality = (net : Net) (s t X : ℕ → Bool) (xs : List ℕ) → IsNet net → IsFeasible net s t xs → IsCut s t X
+    → out_of s net.arcs xs ≤ capacity net X + into s net.arcs xs
+
+-- a cut that no residual half-arc leaves is minimum, and the flow greatest: its value is the cut's capacity
+abbrev pub ClosedCut : Type 0
+ClosedCut = (net : Net) (s t X : ℕ → Bool) (xs : List ℕ) → IsNet net → IsFeasible net s t xs → IsCut s t X → IsClosed net xs X
+    → IsGreatest net s t (capacity net X) × IsMinimumCut net s t X × HasValue net s xs (capacity net X)
+
+-- the theorem of Ford and Fulkerson: one number is the greatest value of a feasible flow and the least capacity of a cut
+abbrev pub MaxFlowMinCut : Type 0
+MaxFlowMinCut = (net : Net) (s t : ℕ → Bool) → IsNet net → AreApart s t → (k : ℕ) × IsGreatest net s t k × IsLeastCapacity net s t k
+
+-- what the residual network of a greatest flow reaches from the sources is the least source side
+abbrev pub LeastSourceSide : Type 0
+LeastSourceSide = (net : Net) (s t X : ℕ → Bool) (xs : List ℕ) → IsNet net → IsFeasible net s t xs → IsReachable net s xs X
+    → ((v : ℕ) → IsTrue (t v) → IsFalse (X v)) → (v : ℕ) → IsTrue (X v) ↔ IsInLeastSourceSide net s t v
+
+-- what reaches a sink in the residual network of a greatest flow is the least sink side
+abbrev pub LeastSinkSide : Type 0
+LeastSinkSide = (net : Net) (s t X : ℕ → Bool) (xs : List ℕ) → IsNet net → IsFeasible net s t xs → IsReaching net t xs X
+    → ((v : ℕ) → IsTrue (s v) → IsFalse (X v)) → (v : ℕ) → IsTrue (X v) ↔ IsInLeastSinkSide net s t v
+
+-- a push along a residual path from a source to a sink keeps the flow feasible and raises its value by the amount
+abbrev pub AugmentingPath : Type 0
+AugmentingPath = (net : Net) (s t : ℕ → Bool) (xs : List ℕ) (d u w : ℕ) (hs : List ℕ) → IsFeasible net s t xs → IsTrue (s u) → IsTrue (t w) → IsFalse (s w)
+    → IsPath net u hs w → IsApart hs → HasRoom net xs d hs → IsFeasible net s t (push_all xs hs d) × IsMoreBy net s xs d (push_all xs hs d)
+
+-- the connectivity with the terminals is the greatest value of a flow where every capacity is 1
+abbrev pub PairByFlow : Type 0
+PairByFlow = (net : Net) (s t : ℕ → Bool) (k : ℕ) → IsNet net → AreApart s t → IsGreatest (unit net) s t k ↔ IsPairConnectivity net s t k
+
+-- k is the least connectivity of a node with another, to it or from it
+pub record IsLeastOfPairs (net : Net) (r k : ℕ) : Type 0 where
+  pub reached : (v : ℕ) × IsNode net v × (v ≢ r) × (IsPairConnectivity net (just r) (just v) k ⊎ IsPairConnectivity net (just v) (just r) k)
+  pub least : (v j : ℕ) → IsNode net v → v ≢ r → IsPairConnectivity net (just r) (just v) j ⊎ IsPairConnectivity net (just v) (just r) j → k ≤ j
+
+-- the connectivity is the least over one node, whichever it is, and every other, both ways
+abbrev pub ConnectivityByPairs : Type 0
+ConnectivityByPairs = (net : Net) (r k : ℕ) → IsNet net → IsNode net r → IsConnectivity net k ↔ IsLeastOfPairs net r k
+
+-- the undirected connectivity is the directed one of the network both ways
+abbrev pub UndirectedByBothWays : Type 0
+UndirectedByBothWays = (net : Net) (k : ℕ) → IsConnectivity (both_ways net) k ↔ IsUndirectedConnectivity net k

@@ -1,0 +1,47 @@
+//! The laws of maximum flows and minimum cuts. Each is the contract of a function that computes nothing.
+ghost use Rattle.flow_net.specs.Laws.{WeakDuality, ClosedCut, MaxFlowMinCut, LeastSourceSide, LeastSinkSide, AugmentingPath, PairByFlow, ConnectivityByPairs, UndirectedByBothWays};
+
+/// No feasible flow's value passes a cut's capacity (Ford and Fulkerson 1956).
+pub fn weak_duality()
+    ensures { WeakDuality }
+{}
+
+/// A cut that no residual half-arc leaves is minimum, the flow is greatest, and its value is the cut's capacity.
+pub fn closed_cut()
+    ensures { ClosedCut }
+{}
+
+/// The greatest value of a feasible flow is the least capacity of a cut (Ford and Fulkerson 1956).
+pub fn max_flow_min_cut()
+    ensures { MaxFlowMinCut }
+{}
+
+/// What the residual network of a greatest flow reaches from the sources is the least source side.
+pub fn least_source_side()
+    ensures { LeastSourceSide }
+{}
+
+/// What reaches a sink in the residual network of a greatest flow is the least sink side.
+pub fn least_sink_side()
+    ensures { LeastSinkSide }
+{}
+
+/// A push along a residual path keeps a flow feasible and raises its value by the amount (Ford and Fulkerson 1956).
+pub fn augmenting_path()
+    ensures { AugmentingPath }
+{}
+
+/// The connectivity with the terminals is the greatest value of a flow where every capacity is 1.
+pub fn pair_by_flow()
+    ensures { PairByFlow }
+{}
+
+/// The connectivity is the least over one node and every other, both ways.
+pub fn connectivity_by_pairs()
+    ensures { ConnectivityByPairs }
+{}
+
+/// The undirected connectivity is the directed one of the network both ways.
+pub fn undirected_by_both_ways()
+    ensures { UndirectedByBothWays }
+{}

@@ -1,0 +1,22 @@
+//! Networks, tables of flows, and the theory of maximum flows and minimum cuts.
+//!
+//! This is the lowest crate of the toolkit. It says what a network, a feasible flow, a cut and the edge connectivity
+//! are (`specs/`, one page to believe), proves the laws that join them (`laws`, after Ford and Fulkerson 1956), and has
+//! the code through which every other crate touches a network or a flow.
+//!
+//! A solver gets at flows by the calls of [`FlowTable`] alone. They speak of *half-arcs*: half-arc `2·i` runs along
+//! arc `i`, and half-arc `2·i + 1` runs against it, which is where flow can be taken back. Each look and each push is one
+//! step, and the table counts its steps for contracts: the count takes no bytes, and no running program can read it.
+#![tactic(auto)]
+
+pub mod laws;
+mod networks;
+mod problems;
+mod tables;
+
+pub use networks::{Arc, Network, OutOfMemory};
+pub use problems::Problem;
+pub use tables::FlowTable;
+
+#[cfg(test)]
+mod tests;

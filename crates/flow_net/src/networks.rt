@@ -1,0 +1,161 @@
+//! Networks: a number of nodes and a list of arcs.
+ghost use Rattle.std.specs.Prelude.{◌≡◌, ◌+◌, ◌*◌, ◌<◌, ◌≤◌, ◌↔◌, [], ◌∷◌, ◌++◌, length, map, slice_get, IsTrue, OnOk, OnErr};
+ghost use Rattle.flow_net.specs.Nets.{Net, IsNet, IsArcWithin, arc_at, unit, unit_arc, both_ways, reversed};
+
+use std::alloc::Global;
+use std::marker::Model;
+
+/// A directed arc between two nodes, as a line `a SRC DST CAP` of the DIMACS format (1990) has it.
+#[derive(Clone, Copy, Debug, PartialEq, Eq)]
+pub struct Arc {
+    /// The node that the arc leaves, from 1 on.
+    pub src: u32,
+    /// The node that the arc enters, from 1 on.
+    pub dst: u32,
+    /// The most flow that the arc may carry.
+    pub cap: u64,
+}
+
+/// A growth of memory was refused.
+#[derive(Clone, Copy, Debug, PartialEq, Eq)]
+pub struct OutOfMemory;
+
+/// Nodes 1 to `nodes()`, and a list of arcs between them: parallel arcs, opposite arcs and self-loops may be among them.
+///
+/// A network has 2 to 1,000,000 nodes and at most 8,000,000 arcs. So a sum of capacities is below 2^87.
+#[derive(Drop)]
+pub struct Network {
+    nodes: u32,
+    arcs: Vec<Arc>,
+}
+
+impl Model for Network {
+    ghost use Rattle.flow_net.specs.Nets.{Net, IsNet};
+
+    ghost Value = { Net };
+
+    ghost view = { λ n. record { nodes = n.nodes; arcs = n.arcs.items } };
+
+    ghost invariant = { λ n. IsNet (record { nodes = n.nodes; arcs = n.arcs.items }) };
+}
+
+impl Network {
+    /// A network of 2 to 1,000,000 nodes with no arcs. It takes no memory.
+    pub fn new(alloc: Global, nodes: u32) -> Network
+        requires at_least { 2 ≤ nodes }
+        requires at_most { nodes ≤ 1000000 }
+        ensures { result ≡ record { nodes = nodes; arcs = [] } }
+    {
+        Network {
+            nodes,
+            arcs: Vec::new(alloc),
+        }
+    }
+
+    /// The number of nodes, which is also the greatest node.
+    pub fn nodes(&self) -> u32
+        ensures nodes { result ≡ self.now.nodes }
+        ensures is_net { IsNet self.now }
+    {
+        self.nodes
+    }
+
+    /// The number of arcs.
+    pub fn len(&self) -> u32
+        ensures len { result ≡ length self.now.arcs }
+        ensures is_net { IsNet self.now }
+    {
+        self.arcs.len() as u32
+    }
+
+    /// Whether there is no arc.
+    pub fn is_empty(&self) -> bool
+        ensures { IsTrue result ↔ (self.now.arcs ≡ []) }
+    {
+        self.arcs.is_empty()
+    }
+
+    /// The arc at a place, counted from 0 in the order in which arcs were pushed.
+    pub fn arc(&self, i: u32) -> Arc
+        requires { i < length self.now.arcs }
+        ensures arc { result ≡ arc_at self.now i }
+        ensures found { slice_get self.now.arcs i ≡ Some result }
+        ensures is_net { IsNet self.now }
+    {
+        self.arcs[i as usize]
+    }
+
+    /// Appends an arc whose ends are nodes of the network, where there are fewer than 8,000,000 arcs.
+    ///
+    /// # Errors
+    ///
+    /// `OutOfMemory` where the growth was refused; the network is then unchanged.
+    pub fn push(&mut self, arc: Arc) -> Result<(), OutOfMemory>
+        requires room { length self.old.arcs < 8000000 }
+        requires within { IsArcWithin self.old.nodes arc }
+        ensures ok { OnOk result (self.new ≡ record self.old { arcs = self.old.arcs ++ arc ∷ [] }) }
+        ensures err { OnErr result (self.new ≡ self.old) }
+    {
+        match self.arcs.push(arc) {
+            Ok(()) => Ok(()),
+            Err(_) => Err(OutOfMemory),
+        }
+    }
+
+    /// The same network with every capacity set to 1, in which a flow counts arcs. It takes no memory.
+    pub fn unit(self) -> Network
+        ensures { result ≡ unit self }
+    {
+        let Network { nodes, mut arcs } = self;
+        set_units(&mut arcs);
+        Network { nodes, arcs }
+    }
+
+    /// Appends the reverse of each arc, in order, with the same capacity, where there are at most 4,000,000 arcs.
+    ///
+    /// # Errors
+    ///
+    /// `OutOfMemory` where the growth was refused; the network is then unchanged.
+    pub fn both_ways(&mut self) -> Result<(), OutOfMemory>
+        requires room { length self.old.arcs ≤ 4000000 }
+        ensures ok { OnOk result (self.new ≡ both_ways self.old) }
+        ensures err { OnErr result (self.new ≡ self.old) }
+    {
+        append_reversed(&mut self.arcs)?;
+        Ok(())
+    }
+}
+
+/// Sets each capacity to 1.
+fn set_units(arcs: &mut Vec<Arc>)
+    ensures { arcs.new.items ≡ map unit_arc arcs.old.items }
+{
+    for arc in arcs.iter_mut() {
+        arc.cap = 1;
+    }
+}
+
+/// Appends the reverse of each arc, or leaves the arcs: all the memory is asked for before the first is appended.
+fn append_reversed(arcs: &mut Vec<Arc>) -> Result<(), OutOfMemory>
+    requires room { length arcs.old.items ≤ 4000000 }
+    ensures ok { OnOk result (arcs.new.items ≡ arcs.old.items ++ map reversed arcs.old.items) }
+    ensures err { OnErr result (arcs.new.items ≡ arcs.old.items) }
+{
+    let len = arcs.len();
+    if arcs.reserve(len).is_err() {
+        return Err(OutOfMemory);
+    }
+    for i in 0..len {
+        let Arc { src, dst, cap } = arcs[i];
+        let back = Arc {
+            src: dst,
+            dst: src,
+            cap,
+        };
+        match arcs.push(back) {
+            Ok(()) => {}
+            Err(_) => unreachable!(),
+        }
+    }
+    Ok(())
+}

@@ -51,7 +51,7 @@ undirected net k = (
 )
 
 -- a set that holds one node and not another is a cut of the two
-cut_of_two : (X : ℕ → Bool) (u v : ℕ) → X u ≡ true → X v ≡ false → IsCut (just u) (just v) X
+pub cut_of_two : (X : ℕ → Bool) (u v : ℕ) → X u ≡ true → X v ≡ false → IsCut (just u) (just v) X
 cut_of_two X u v i o = record {
   sources = λ w e. ap X (eqb-true w u e) ∙ i;
   sinks = λ w e. ap X (eqb-true w v e) ∙ o;
@@ -68,10 +68,11 @@ pair_by_solve net s t k l = record {
   least = λ Y c. omega (arith, minimum_leaving net s t l.0 Y l.1 c, capacity-unit net l.0, l.2);
 }
 
-just_self : (v : ℕ) → just v v ≡ true
+pub just_self : (v : ℕ) → just v v ≡ true
 just_self v = eq-eqb v v refl
 
-cut_proper : (net : Net) (u v : ℕ) (X : ℕ → Bool) → 1 ≤ u → u ≤ net.nodes → 1 ≤ v → v ≤ net.nodes → IsCut (just u) (just v) X → IsProper net X
+-- a cut of two nodes is neither empty nor all
+pub cut_proper : (net : Net) (u v : ℕ) (X : ℕ → Bool) → 1 ≤ u → u ≤ net.nodes → 1 ≤ v → v ≤ net.nodes → IsCut (just u) (just v) X → IsProper net X
 cut_proper net u v X a b c d k = record { inside = (u, a, b, k.sources u (just_self u)); outside = (v, c, d, k.sinks v (just_self v)) }
 
 -- the pair connectivity is the greatest value at capacities of 1
@@ -87,21 +88,21 @@ pair_exists net u v n ne =
     let m = max_flow_min_cut (unit net) (just u) (just v) (IsNet-unit net n) (λ w e. ne_eqb w v (λ f. ne (sym (eqb-true w u e) ∙ f))) in
     (m.0, pair_by_solve net (just u) (just v) m.0 m.2)
 
--- a proper set parts any node from another, one way or the other
-proper_parts : (net : Net) (r k : ℕ) (X : ℕ → Bool) → IsNet net → IsLeastOfPairs net r k → IsProper net X → k ≤ leaving net X
-proper_parts net r k X n l p = elim (cases_Bool (X r)) [
+-- a proper set parts any node from another, one way or the other: no fewer arcs leave it than any pair has
+pub proper_parts : (net : Net) (r k : ℕ) (X : ℕ → Bool) → IsNet net → ((v j : ℕ) → IsNode net v → v ≢ r → IsPairConnectivity net (just r) (just v) j ⊎ IsPairConnectivity net (just v) (just r) j → k ≤ j) → IsProper net X → k ≤ leaving net X
+proper_parts net r k X n least p = elim (cases_Bool (X r)) [
   | inl i ↦
       let v = p.outside.0 in
       let o : X v ≡ false = p.outside.3 in
       let ne : v ≢ r = λ e. (let same : X v ≡ X r = ap X e in cc) in
       let c = pair_exists net r v n (λ e. ne (sym e)) in
-      omega (arith, l.least v c.0 (p.outside.1, p.outside.2) ne (inl c.1), c.1.least X (cut_of_two X r v i o))
+      omega (arith, least v c.0 (p.outside.1, p.outside.2) ne (inl c.1), c.1.least X (cut_of_two X r v i o))
   | inr o ↦
       let v = p.inside.0 in
       let i : X v ≡ true = p.inside.3 in
       let ne : v ≢ r = λ e. (let same : X v ≡ X r = ap X e in cc) in
       let c = pair_exists net v r n ne in
-      omega (arith, l.least v c.0 (p.inside.1, p.inside.2) ne (inr c.1), c.1.least X (cut_of_two X v r i o))
+      omega (arith, least v c.0 (p.inside.1, p.inside.2) ne (inr c.1), c.1.least X (cut_of_two X v r i o))
 ]
 
 -- a set of the least number of leaving arcs gives the least pair
@@ -142,7 +143,7 @@ parts_least net r k at c = record { reached = first; least = rest }
 pub connected_by_pairs : (net : Net) (r k : ℕ) → IsNet net → IsNode net r → IsConnectivity net k ↔ IsLeastOfPairs net r k
 connected_by_pairs net r k n at = (
   parts_least net r k at,
-  λ l. record { reached = proper_of l.reached; least = λ X p. proper_parts net r k X n l p },
+  λ l. record { reached = proper_of l.reached; least = λ X p. proper_parts net r k X n l.least p },
 )
   where
     proper_of : ((v : ℕ) × IsNode net v × (v ≢ r) × (IsPairConnectivity net (just r) (just v) k ⊎ IsPairConnectivity net (just v) (just r) k)) → (X : ℕ → Bool) × IsProper net X × (leaving net X ≡ k)

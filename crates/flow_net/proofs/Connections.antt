@@ -9,7 +9,7 @@ use Rattle.flow_net.specs.Nets.{Net, IsNet, IsNode, unit, unit_arc, reversed, bo
 use Rattle.flow_net.specs.NodeSets.{just}
 use Rattle.flow_net.specs.Flows.{IsGreatest}
 use Rattle.flow_net.specs.Cuts.{cap_over, leaves, enters, IsCut, capacity, IsMinimumCut, IsLeastCapacity}
-use Rattle.flow_net.specs.Connectivity.{leaving, crossing, IsProper, IsConnectivity, IsUndirectedConnectivity, IsPairConnectivity}
+use Rattle.flow_net.specs.Connectivity.{leaving, crossing, IsProper, IsConnectivity, IsUndirectedConnectivity, IsPairConnectivity, IsUndirectedPairConnectivity}
 use Rattle.flow_net.specs.Laws.{AreApart, IsLeastOfPairs}
 use Rattle.flow_net.proofs.Limits.{IsNet-unit}
 use Rattle.flow_net.proofs.MaxFlows.{max_flow_min_cut, greatest_is_least, least_is_greatest}
@@ -49,6 +49,39 @@ undirected net k = (
     least = λ X p. omega (arith, c.least X (record { inside = p.inside; outside = p.outside }), leaving-both_ways net X);
   },
 )
+
+pub undirected_pair : (net : Net) (s t : ℕ → Bool) (k : ℕ) → IsPairConnectivity (both_ways net) s t k ↔ IsUndirectedPairConnectivity net s t k
+undirected_pair net s t k = (
+  (λ c. record {
+    reached = (c.reached.0, c.reached.1, sym (leaving-both_ways net c.reached.0) ∙ c.reached.2);
+    least = λ X p. omega (arith, c.least X p, leaving-both_ways net X);
+  }),
+  λ c. record {
+    reached = (c.reached.0, c.reached.1, leaving-both_ways net c.reached.0 ∙ c.reached.2);
+    least = λ X p. omega (arith, c.least X p, leaving-both_ways net X);
+  },
+)
+
+-- the number of arcs that leave a set has nothing to do with capacities
+count_by_unit : (X : ℕ → Bool) (arcs : List Arc) → count_by (leaves X) (map unit_arc arcs) ≡ count_by (leaves X) arcs
+count_by_unit X [] = refl
+count_by_unit X (a ∷ arcs) = rw (sum_by-cons (λ b. cond (leaves X b) 1 0) a arcs, sum_by-cons (λ b. cond (leaves X b) 1 0) (unit_arc a) (map unit_arc arcs), count_by_unit X arcs) refl
+
+pub leaving-unit : (net : Net) (X : ℕ → Bool) → leaving (unit net) X ≡ leaving net X
+leaving-unit net X = count_by_unit X net.arcs
+
+-- so the connectivity is that of the network of unit capacities
+pub connectivity_of_unit : (net : Net) (k : ℕ) → IsConnectivity (unit net) k → IsConnectivity net k
+connectivity_of_unit net k c = record {
+  reached = (c.reached.0, record { inside = c.reached.1.inside; outside = c.reached.1.outside }, sym (leaving-unit net c.reached.0) ∙ c.reached.2);
+  least = λ X p. omega (arith, c.least X (record { inside = p.inside; outside = p.outside }), leaving-unit net X);
+}
+
+pub pair_of_unit : (net : Net) (s t : ℕ → Bool) (k : ℕ) → IsPairConnectivity (unit net) s t k → IsPairConnectivity net s t k
+pair_of_unit net s t k c = record {
+  reached = (c.reached.0, c.reached.1, sym (leaving-unit net c.reached.0) ∙ c.reached.2);
+  least = λ X p. omega (arith, c.least X p, leaving-unit net X);
+}
 
 -- a set that holds one node and not another is a cut of the two
 pub cut_of_two : (X : ℕ → Bool) (u v : ℕ) → X u ≡ true → X v ≡ false → IsCut (just u) (just v) X

@@ -31,3 +31,8 @@ pub record IsUndirectedConnectivity (net : Net) (k : ℕ) : Type 0 where
 pub record IsPairConnectivity (net : Net) (s t : ℕ → Bool) (k : ℕ) : Type 0 where
   pub reached : (X : ℕ → Bool) × IsCut s t X × (leaving net X ≡ k)
   pub least : (X : ℕ → Bool) → IsCut s t X → k ≤ leaving net X
+
+-- the same of the arcs with exactly one end in the set
+pub record IsUndirectedPairConnectivity (net : Net) (s t : ℕ → Bool) (k : ℕ) : Type 0 where
+  pub reached : (X : ℕ → Bool) × IsCut s t X × (crossing net X ≡ k)
+  pub least : (X : ℕ → Bool) → IsCut s t X → k ≤ crossing net X

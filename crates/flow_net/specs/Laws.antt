@@ -4,7 +4,7 @@ use Rattle.flow_net.specs.Nets.{Net, IsNet, IsNode, unit, both_ways}
 use Rattle.flow_net.specs.NodeSets.{just}
 use Rattle.flow_net.specs.Flows.{out_of, into, IsFeasible, HasValue, IsGreatest}
 use Rattle.flow_net.specs.Cuts.{IsCut, capacity, IsMinimumCut, IsLeastCapacity, IsInLeastSourceSide, IsInLeastSinkSide}
-use Rattle.flow_net.specs.Connectivity.{IsConnectivity, IsUndirectedConnectivity, IsPairConnectivity}
+use Rattle.flow_net.specs.Connectivity.{IsConnectivity, IsUndirectedConnectivity, IsPairConnectivity, IsUndirectedPairConnectivity}
 use Rattle.flow_net.specs.Residual.{IsClosed, IsReachable, IsReaching}
 use Rattle.flow_net.specs.Paths.{IsPath, HasRoom, IsApart, push_all, IsMoreBy}
 
@@ -54,6 +54,7 @@ pub record IsLeastOfPairs (net : Net) (r k : ℕ) : Type 0 where
 abbrev pub ConnectivityByPairs : Type 0
 ConnectivityByPairs = (net : Net) (r k : ℕ) → IsNet net → IsNode net r → IsConnectivity net k ↔ IsLeastOfPairs net r k
 
--- the undirected connectivity is the directed one of the network both ways
+-- the undirected connectivity is the directed one of the network both ways, with the terminals and without
 abbrev pub UndirectedByBothWays : Type 0
-UndirectedByBothWays = (net : Net) (k : ℕ) → IsConnectivity (both_ways net) k ↔ IsUndirectedConnectivity net k
+UndirectedByBothWays = (net : Net) (k : ℕ) → (IsConnectivity (both_ways net) k ↔ IsUndirectedConnectivity net k)
+    × ((s t : ℕ → Bool) → IsPairConnectivity (both_ways net) s t k ↔ IsUndirectedPairConnectivity net s t k)

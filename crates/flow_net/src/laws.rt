@@ -41,7 +41,7 @@ pub fn connectivity_by_pairs()
     ensures { ConnectivityByPairs }
 {}
 
-/// The undirected connectivity is the directed one of the network both ways.
+/// The undirected connectivity is the directed one of the network both ways, with the terminals and without.
 pub fn undirected_by_both_ways()
     ensures { UndirectedByBothWays }
 {}

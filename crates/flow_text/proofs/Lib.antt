@@ -1,0 +1,15 @@
+pub mod FieldLemmas
+pub mod DigitLemmas
+pub mod LineLemmas
+pub mod RuleLemmas
+pub mod FaultLemmas
+pub mod ReaderLemmas
+pub mod PieceLemmas
+pub mod EndLemmas
+pub mod TerminalLemmas
+pub mod ProblemLemmas
+pub mod SolutionLemmas
+pub mod UsualLemmas
+pub mod EarlyLemmas
+pub mod CutLemmas
+pub mod OutputLemmas

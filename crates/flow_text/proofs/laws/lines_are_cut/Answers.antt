@@ -1,0 +1,6 @@
+use Rattle.flow_text.proofs.LineLemmas.{rest_is}
+use Rattle.flow_text.proofs.CutLemmas.{joined-ended, ended_are}
+use Rattle.flow_text.proofs.laws.lines_are_cut.Goals as goal
+
+pub returns : goal.returns
+returns c = λ b. (joined-ended b, ended_are b, rest_is b)

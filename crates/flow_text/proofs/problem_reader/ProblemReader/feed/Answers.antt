@@ -1,0 +1,6 @@
+use Rattle.flow_text.specs.Problem.{known_of}
+use Rattle.flow_text.proofs.ProblemLemmas.{Adds-problem}
+use Rattle.flow_text.proofs.problem_reader.ProblemReader.feed.Goals as goal
+
+pub returns-clause-fed : goal.returns-clause-fed
+returns-clause-fed c = λ b r. c.feed.ensures.fed known_of Adds-problem b (rw (← c.self.view_is) at r)

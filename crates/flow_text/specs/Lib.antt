@@ -1,0 +1,15 @@
+pub mod Lines
+pub mod Fields
+pub mod Digits
+pub mod Tests
+pub mod Rules
+pub mod Terminals
+pub mod Problem
+pub mod Solution
+pub mod Reading
+pub mod ProblemReading
+pub mod SolutionReading
+pub mod FaultTexts
+pub mod UsualLines
+pub mod TextLaws
+pub mod Output

@@ -1,0 +1,128 @@
+-- Problem files of the DIMACS format (1990): which fault a text has, or which problem it is.
+use Rattle.std.specs.Prelude.{ℕ, Bool, not, ◌&&◌, ◌||◌, ◌==◌, nat_lt, nat_le, List, [], ◌∷◌, ◌++◌, length, map, filter, Option, Some, is_some, Result, if◌then◌else◌, codes}
+use Rattle.std.specs.List.{find}
+use Rattle.std.specs.Option.{option_map, unwrap_or}
+use Rattle.std.specs.Str.{bytes_eq}
+use Rattle.flow_net.specs.declared.networks.Arc.{Arc}
+use Rattle.flow_net.specs.Nets.{Net, Instance}
+use Rattle.flow_text.specs.Lines.{lines}
+use Rattle.flow_text.specs.Fields.{fields_of, field_at}
+use Rattle.flow_text.specs.Digits.{value_of}
+use Rattle.flow_text.specs.Tests.{first_failed, number_tests, ends_tests, Test}
+use Rattle.flow_text.specs.Terminals.{Marks, is_marked}
+use Rattle.flow_text.specs.Rules.{Rules, names, is_kind, early_fault, whole_fault, accepted}
+use Rattle.flow_text.specs.declared.faults.FaultCode.{FaultCode}
+use Rattle.flow_text.specs.declared.faults.FaultCode.TheVariants.{UnknownLine, WrongFields, SecondProblemLine, ProblemLineMissing, NotMax, NodesOutOfRange, ArcsOutOfRange, NodeOutOfRange, NodeLineAfterArcLine, NotTerminal, TerminalsMissing, AlreadyTerminal, TooManyArcs, CapacityOutOfRange, TooFewArcs}
+
+-- NODES and ARCS of `p max NODES ARCS`
+abbrev pub size_of : List (List ℕ) → ℕ × ℕ
+size_of fields = (value_of (field_at fields 2), value_of (field_at fields 3))
+
+-- ID of `n ID s` or `n ID t`
+abbrev pub node_of : List (List ℕ) → ℕ
+node_of fields = value_of (field_at fields 1)
+
+-- the arc of `a SRC DST CAP`
+abbrev pub arc_of : List (List ℕ) → Arc
+arc_of fields = record { src = value_of (field_at fields 1); dst = value_of (field_at fields 2); cap = value_of (field_at fields 3) }
+
+-- a node line with this letter in its third field
+abbrev pub is_terminal : List ℕ → List ℕ → Bool
+is_terminal letter line = is_kind (codes "n") line && bytes_eq (field_at (fields_of line) 2) letter
+
+-- What the lines before a line say: NODES and ARCS, the terminals, and the arcs.
+pub record Known : Type 0 where
+  pub size : Option (ℕ × ℕ)
+  pub marks : Marks
+  pub arcs : List Arc
+
+-- NODES and ARCS of the first problem line, the sources and the sinks of the node lines and the arcs of the arc lines, in order
+unfoldable pub known_of : List (List ℕ) → Known
+known_of before = record {
+  size = option_map (λ line. size_of (fields_of line)) (find (is_kind (codes "p")) before);
+  marks = record {
+    sources = map (λ line. node_of (fields_of line)) (filter (is_terminal (codes "s")) before);
+    sinks = map (λ line. node_of (fields_of line)) (filter (is_terminal (codes "t")) before);
+  };
+  arcs = map (λ line. arc_of (fields_of line)) (filter (is_kind (codes "a")) before);
+}
+
+abbrev pub nodes : Known → ℕ
+nodes known = (unwrap_or known.size (0, 0)).0
+
+abbrev pub arc_count : Known → ℕ
+arc_count known = (unwrap_or known.size (0, 0)).1
+
+-- whether a source or a sink is missing
+abbrev pub lacks_terminals : Marks → Bool
+lacks_terminals marks = nat_le (length marks.sources) 0 || nat_le (length marks.sinks) 0
+
+-- the tests of a problem line, after that of a second one
+unfoldable pub size_tests : List (List ℕ) → List Test
+size_tests fields =
+    (not (length fields == 4), WrongFields)
+    ∷ (not (bytes_eq (field_at fields 1) (codes "max")), NotMax)
+    ∷ number_tests (field_at fields 2) 2 1000000 NodesOutOfRange
+    ++ number_tests (field_at fields 3) 0 4000000 ArcsOutOfRange
+
+abbrev pub problem_tests : Known → List (List ℕ) → List Test
+problem_tests known fields = (is_some known.size, SecondProblemLine) ∷ size_tests fields
+
+-- the tests of a node line's own fields, and of the whole line
+unfoldable pub mark_tests : ℕ → Marks → List (List ℕ) → List Test
+mark_tests nodes marks fields =
+    (not (length fields == 3), WrongFields)
+    ∷ number_tests (field_at fields 1) 1 nodes NodeOutOfRange
+    ++ (not (bytes_eq (field_at fields 2) (codes "s") || bytes_eq (field_at fields 2) (codes "t")), NotTerminal)
+    ∷ (is_marked marks (node_of fields), AlreadyTerminal)
+    ∷ []
+
+abbrev pub node_tests : Known → List (List ℕ) → List Test
+node_tests known fields =
+    (not (is_some known.size), ProblemLineMissing)
+    ∷ (nat_lt 0 (length known.arcs), NodeLineAfterArcLine)
+    ∷ mark_tests (nodes known) known.marks fields
+
+-- the tests of an arc line
+abbrev pub arc_tests : Known → List (List ℕ) → List Test
+arc_tests known fields =
+    (not (is_some known.size), ProblemLineMissing)
+    ∷ (lacks_terminals known.marks, TerminalsMissing)
+    ∷ (nat_le (arc_count known) (length known.arcs), TooManyArcs)
+    ∷ ends_tests (nodes known) CapacityOutOfRange fields
+
+-- the fault of a line with these fields
+unfoldable pub problem_record_fault : Known → List (List ℕ) → Option FaultCode
+problem_record_fault known fields =
+    if names (codes "p") fields then first_failed (problem_tests known fields)
+    else if names (codes "n") fields then first_failed (node_tests known fields)
+    else if names (codes "a") fields then first_failed (arc_tests known fields)
+    else Some UnknownLine
+
+-- the tests of the end of input
+abbrev pub end_tests : Known → List Test
+end_tests known =
+    (not (is_some known.size), ProblemLineMissing)
+    ∷ (lacks_terminals known.marks, TerminalsMissing)
+    ∷ (nat_lt (length known.arcs) (arc_count known), TooFewArcs)
+    ∷ []
+
+-- the rules of a problem file
+abbrev pub problem_rules : Rules Known
+problem_rules = record { record_fault = problem_record_fault; end_fault = λ known. first_failed (end_tests known) }
+
+-- the network of NODES and of the arcs so far
+abbrev pub net_of : Known → Net
+net_of known = record { nodes = nodes known; arcs = known.arcs }
+
+-- the problem that an accepted text says
+abbrev pub instance_of : Known → Instance
+instance_of known = record { net = net_of known; sources = known.marks.sources; sinks = known.marks.sinks }
+
+-- the early fault of a problem text that may go on
+abbrev pub early : List ℕ → Option (ℕ × FaultCode)
+early b = early_fault problem_rules known_of b
+
+-- the first fault of a whole problem text, or the problem that it says
+unfoldable pub problem : List ℕ → Result Instance (ℕ × FaultCode)
+problem b = accepted (instance_of (known_of (lines b))) (whole_fault problem_rules known_of b)

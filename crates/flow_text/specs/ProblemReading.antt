@@ -1,0 +1,80 @@
+-- What the reader of a problem keeps and answers.
+use Rattle.std.specs.Prelude.{◌≡◌, ℕ, ◌≤◌, ◌<◌, Bool, true, false, ◌++◌, List, [], ◌∷◌, length, Option, Some, None, is_some, Result, Ok, Err, codes, if◌then◌else◌}
+use Rattle.std.specs.Str.{bytes_eq}
+use Rattle.std.specs.List.{All}
+use Rattle.std.specs.Option.{option_map}
+use Rattle.flow_net.specs.declared.networks.Arc.{Arc}
+use Rattle.flow_net.specs.Nets.{Net, Instance, IsNode, IsArcWithin}
+use Rattle.flow_text.specs.Fields.{field_at}
+use Rattle.flow_text.specs.Rules.{names}
+use Rattle.flow_text.specs.Terminals.{Marks}
+use Rattle.flow_text.specs.Problem.{Known, known_of, lacks_terminals, size_of, node_of, arc_of, net_of, problem_rules}
+use Rattle.flow_text.specs.Reading.{State, HasRead, FeedsBy, AnswersAs}
+use Rattle.flow_text.specs.declared.faults.FaultCode.{FaultCode}
+use Rattle.flow_text.specs.declared.faults.ReadFault.{ReadFault}
+use Rattle.flow_text.specs.declared.machine.Refusal.{Refusal}
+use Rattle.flow_text.specs.declared.machine.Refusal.TheVariants.{Memory}
+
+-- the terminals after a node line with these fields
+abbrev pub with_node : Marks → List (List ℕ) → Marks
+with_node marks fields = record {
+  sources = if bytes_eq (field_at fields 2) (codes "s") then marks.sources ++ node_of fields ∷ [] else marks.sources;
+  sinks = if bytes_eq (field_at fields 2) (codes "t") then marks.sinks ++ node_of fields ∷ [] else marks.sinks;
+}
+
+-- what is known after a line with these fields
+unfoldable pub with_problem_record : Known → List (List ℕ) → Known
+with_problem_record known fields = record {
+  size = if names (codes "p") fields then Some (size_of fields) else known.size;
+  marks = if names (codes "n") fields then with_node known.marks fields else known.marks;
+  arcs = if names (codes "a") fields then known.arcs ++ arc_of fields ∷ [] else known.arcs;
+}
+
+-- what is known from a problem line on: NODES, ARCS, the terminals and the arcs
+pub record Sized : Type 0 where
+  pub nodes : ℕ
+  pub declared : ℕ
+  pub marks : Marks
+  pub arcs : List Arc
+
+abbrev pub known_with : Sized → Known
+known_with sized = record { size = Some (sized.nodes, sized.declared); marks = sized.marks; arcs = sized.arcs }
+
+-- what is known: nothing before a problem line
+abbrev pub known_from : Option Sized → Known
+known_from None = record { size = None; marks = record { sources = []; sinks = [] }; arcs = [] }
+known_from (Some sized) = known_with sized
+
+-- what the keeper of an arc answers: whether the arc line has no fault, and the arc is kept
+abbrev pub KeepsArc : Sized → Arc → Result Bool Refusal → Sized → Type 0
+KeepsArc old arc (Ok true) new =
+    (lacks_terminals old.marks ≡ false) × (length old.arcs < old.declared) × IsArcWithin old.nodes arc × (new ≡ record old { arcs = old.arcs ++ arc ∷ [] })
+KeepsArc old arc (Ok false) new = new ≡ old
+KeepsArc old arc (Err refusal) new = refusal ≡ Memory
+
+-- what a problem line declares is kept: at most as many arcs, at most 4,000,000, and terminals that are nodes
+pub record IsKept (net : Net) (declared : ℕ) (marks : Marks) : Type 0 where
+  pub declared_most : declared ≤ 4000000
+  pub arcs_most : length net.arcs ≤ declared
+  pub sources_within : All (IsNode net) marks.sources
+  pub sinks_within : All (IsNode net) marks.sinks
+
+-- the reader of a problem has been fed these bytes and has refused none
+abbrev pub Reads : State Known → List ℕ → Type 0
+Reads reader b = HasRead problem_rules known_of reader b
+
+-- what `feed` answers, with these bytes fed in all
+abbrev pub Feeds : List ℕ → Result (Unit {0}) ReadFault → State Known → Type 0
+Feeds b result new = FeedsBy problem_rules known_of b result new
+
+-- what `finish` answers to a whole text
+abbrev pub Finishes : Result Instance (ℕ × FaultCode) → Result Instance ReadFault → Type 0
+Finishes answer result = AnswersAs answer result
+
+-- the network that lines say: none before a problem line
+abbrev pub known_net : Known → Option Net
+known_net known = option_map (λ size. net_of known) known.size
+
+-- the network that a reader lends: none after a refusal
+abbrev pub lent_net : State Known → Option Net
+lent_net reader = if is_some reader.refused then None else known_net reader.known

@@ -1,0 +1,68 @@
+-- What holds for every kind of file: comments, empty lines, lines that are too long, and which fault is the first.
+use Rattle.std.specs.Prelude.{ℕ, ◌+◌, Bool, false, not, ◌&&◌, ◌==◌, nat_lt, min, List, [], ◌∷◌, ◌++◌, length, Option, None, Some, Result, Ok, Err, if◌then◌else◌}
+use Rattle.std.specs.Option.{option_map, option_or}
+use Rattle.std.specs.Str.{bytes_eq}
+use Rattle.flow_text.specs.Lines.{ended, rest, lines}
+use Rattle.flow_text.specs.Fields.{fields_of, field_at}
+use Rattle.flow_text.specs.declared.faults.FaultCode.{FaultCode}
+use Rattle.flow_text.specs.declared.faults.FaultCode.TheVariants.{LineTooLong}
+
+-- The rules of a kind of file: the fault of a line with these fields by what the lines before it say, and the fault of the
+-- end of input by what all lines say.
+pub record Rules (K : Type 0) : Type 0 where
+  pub record_fault : K → List (List ℕ) → Option FaultCode
+  pub end_fault : K → Option FaultCode
+
+-- a line whose first byte is 'c'
+abbrev pub is_comment : List ℕ → Bool
+is_comment [] = false
+is_comment (c ∷ line) = c == 99
+
+-- the first field is exactly the letter
+abbrev pub names : List ℕ → List (List ℕ) → Bool
+names letter fields = bytes_eq (field_at fields 0) letter
+
+-- a line of a kind is no comment, and its first field is exactly the letter
+abbrev pub is_kind : List ℕ → List ℕ → Bool
+is_kind letter line = not (is_comment line) && names letter (fields_of line)
+
+-- the fault of a line: a comment has none, any other line has at most 200 bytes, and a line without fields is ignored
+unfoldable pub fault_of : {K : Type 0} → Rules K → K → List ℕ → Option FaultCode
+fault_of rules known line =
+    if is_comment line then None
+    else if nat_lt 200 (length line) then Some LineTooLong
+    else if not (nat_lt 0 (length (fields_of line))) then None
+    else rules.record_fault known (fields_of line)
+
+-- a line number as it is told
+abbrev pub told : ℕ → ℕ
+told k = min k 18446744073709551615
+
+-- a fault with its line, if there is one
+abbrev pub at_line : ℕ → Option FaultCode → Option (ℕ × FaultCode)
+at_line k fault = option_map (λ code. (told k, code)) fault
+
+-- the fault of the first of these lines that has one, where other lines stand before them; `known_of` tells what lines say
+unfoldable pub first_fault : {K : Type 0} → Rules K → (List (List ℕ) → K) → List (List ℕ) → List (List ℕ) → Option (ℕ × FaultCode)
+first_fault rules known_of before [] = None
+first_fault rules known_of before (line ∷ after) =
+    option_or (at_line (length before + 1) (fault_of rules (known_of before) line)) (first_fault rules known_of (before ++ line ∷ []) after)
+
+-- a line that goes on can be too long already
+abbrev pub unended_fault : List ℕ → Option FaultCode
+unended_fault line = if not (is_comment line) && nat_lt 200 (length line) then Some LineTooLong else None
+
+-- the early fault of a text that may go on: that of its ended lines, else that of the line which goes on
+unfoldable pub early_fault : {K : Type 0} → Rules K → (List (List ℕ) → K) → List ℕ → Option (ℕ × FaultCode)
+early_fault rules known_of b =
+    option_or (first_fault rules known_of [] (ended b)) (at_line (length (ended b) + 1) (unended_fault (rest b)))
+
+-- the first fault of a whole text: that of its lines, else that of its end, at the line after the last
+unfoldable pub whole_fault : {K : Type 0} → Rules K → (List (List ℕ) → K) → List ℕ → Option (ℕ × FaultCode)
+whole_fault rules known_of b =
+    option_or (first_fault rules known_of [] (lines b)) (at_line (length (lines b) + 1) (rules.end_fault (known_of (lines b))))
+
+-- what a text says, or its fault
+abbrev pub accepted : {A : Type 0} → A → Option (ℕ × FaultCode) → Result A (ℕ × FaultCode)
+accepted said None = Ok said
+accepted said (Some fault) = Err fault

@@ -1,0 +1,75 @@
+-- Solution files of the DIMACS format (1990): which fault a text has, or which value and flow lines it gives.
+use Rattle.std.specs.Prelude.{ℕ, not, ◌==◌, nat_le, List, ◌∷◌, length, map, filter, Option, None, Some, is_some, Result, if◌then◌else◌, codes}
+use Rattle.std.specs.List.{find}
+use Rattle.std.specs.Option.{option_map, unwrap_or}
+use Rattle.flow_text.specs.Lines.{lines}
+use Rattle.flow_text.specs.Fields.{fields_of, field_at}
+use Rattle.flow_text.specs.Digits.{value_of}
+use Rattle.flow_text.specs.Tests.{first_failed, number_tests, ends_tests, Test}
+use Rattle.flow_text.specs.Rules.{Rules, names, is_kind, early_fault, whole_fault, accepted}
+use Rattle.flow_text.specs.declared.faults.FaultCode.{FaultCode}
+use Rattle.flow_text.specs.declared.faults.FaultCode.TheVariants.{UnknownLine, WrongFields, SecondSolutionLine, SolutionLineMissing, TooManyFlowLines, FlowOutOfRange, ValueOutOfRange}
+use Rattle.flow_text.specs.declared.solutions.FlowLine.{FlowLine}
+
+-- VALUE of `s VALUE`
+abbrev pub given_of : List (List ℕ) → ℕ
+given_of fields = value_of (field_at fields 1)
+
+-- SRC, DST and FLOW of `f SRC DST FLOW`
+abbrev pub flow_of : List (List ℕ) → FlowLine
+flow_of fields = record { src = value_of (field_at fields 1); dst = value_of (field_at fields 2); flow = value_of (field_at fields 3) }
+
+-- What the lines before a line say: VALUE and the flow lines; and NODES of the problem.
+pub record Stated : Type 0 where
+  pub nodes : ℕ
+  pub value : Option ℕ
+  pub lines : List FlowLine
+
+-- VALUE of the first solution line, and the flow lines in order
+unfoldable pub stated_of : ℕ → List (List ℕ) → Stated
+stated_of nodes before = record {
+  nodes = nodes;
+  value = option_map (λ line. given_of (fields_of line)) (find (is_kind (codes "s")) before);
+  lines = map (λ line. flow_of (fields_of line)) (filter (is_kind (codes "f")) before);
+}
+
+-- the tests of a solution line, after that of a second one
+unfoldable pub value_tests : List (List ℕ) → List Test
+value_tests fields = (not (length fields == 2), WrongFields) ∷ number_tests (field_at fields 1) 0 73786976294838206460000000 ValueOutOfRange
+
+abbrev pub solution_tests : Stated → List (List ℕ) → List Test
+solution_tests stated fields = (is_some stated.value, SecondSolutionLine) ∷ value_tests fields
+
+-- the tests of a flow line
+abbrev pub flow_tests : Stated → List (List ℕ) → List Test
+flow_tests stated fields =
+    (not (is_some stated.value), SolutionLineMissing)
+    ∷ (nat_le 4000000 (length stated.lines), TooManyFlowLines)
+    ∷ ends_tests stated.nodes FlowOutOfRange fields
+
+-- the fault of a line with these fields
+unfoldable pub solution_record_fault : Stated → List (List ℕ) → Option FaultCode
+solution_record_fault stated fields =
+    if names (codes "s") fields then first_failed (solution_tests stated fields)
+    else if names (codes "f") fields then first_failed (flow_tests stated fields)
+    else Some UnknownLine
+
+-- the rules of a solution file
+abbrev pub solution_rules : Rules Stated
+solution_rules = record { record_fault = solution_record_fault; end_fault = λ stated. if is_some stated.value then None else Some SolutionLineMissing }
+
+-- what an accepted solution says: VALUE and the flow lines
+pub record Written : Type 0 where
+  pub value : ℕ
+  pub lines : List FlowLine
+
+abbrev pub written_of : Stated → Written
+written_of stated = record { value = unwrap_or stated.value 0; lines = stated.lines }
+
+-- the early fault of a solution text that may go on, for a problem of so many nodes
+abbrev pub early_solution : List ℕ → ℕ → Option (ℕ × FaultCode)
+early_solution b nodes = early_fault solution_rules (stated_of nodes) b
+
+-- the first fault of a whole solution text, or what it says
+unfoldable pub solution : List ℕ → ℕ → Result Written (ℕ × FaultCode)
+solution b nodes = accepted (written_of (stated_of nodes (lines b))) (whole_fault solution_rules (stated_of nodes) b)

@@ -1,0 +1,62 @@
+-- What the reader of a solution keeps and answers.
+use Rattle.std.specs.Prelude.{◌≡◌, ℕ, Bool, true, false, ◌≤◌, ◌<◌, ◌^◌, ◌++◌, List, [], ◌∷◌, length, Some, is_some, Result, Ok, Err, codes, if◌then◌else◌}
+use Rattle.std.specs.List.{All}
+use Rattle.flow_text.specs.Rules.{names}
+use Rattle.flow_text.specs.Solution.{Stated, stated_of, given_of, flow_of, Written, solution_rules}
+use Rattle.flow_text.specs.Reading.{State, HasRead, FeedsBy, AnswersAs}
+use Rattle.flow_text.specs.declared.faults.FaultCode.{FaultCode}
+use Rattle.flow_text.specs.declared.faults.ReadFault.{ReadFault}
+use Rattle.flow_text.specs.declared.machine.Refusal.{Refusal}
+use Rattle.flow_text.specs.declared.machine.Refusal.TheVariants.{Memory}
+use Rattle.flow_text.specs.declared.solutions.FlowLine.{FlowLine}
+use Rattle.flow_text.specs.declared.solutions.Solution.{Solution}
+
+-- what is known after a line with these fields
+unfoldable pub with_solution_record : Stated → List (List ℕ) → Stated
+with_solution_record stated fields = record {
+  nodes = stated.nodes;
+  value = if names (codes "s") fields then Some (given_of fields) else stated.value;
+  lines = if names (codes "f") fields then stated.lines ++ flow_of fields ∷ [] else stated.lines;
+}
+
+-- both ends of a flow line are nodes, and its flow has 64 bits
+pub record IsLineWithin (nodes : ℕ) (line : FlowLine) : Type 0 where
+  pub src_least : 1 ≤ line.src
+  pub src_most : line.src ≤ nodes
+  pub dst_least : 1 ≤ line.dst
+  pub dst_most : line.dst ≤ nodes
+  pub flow_fits : line.flow < 2 ^ 64
+
+-- what the keeper of a flow line answers: whether the line has no fault and is kept
+abbrev pub KeepsLine : Stated → FlowLine → Result Bool Refusal → Stated → Type 0
+KeepsLine old line (Ok true) new =
+    (is_some old.value ≡ true) × (length old.lines < 4000000) × IsLineWithin old.nodes line × (new ≡ record old { lines = old.lines ++ line ∷ [] })
+KeepsLine old line (Ok false) new = new ≡ old
+KeepsLine old line (Err refusal) new = refusal ≡ Memory
+
+-- the limits of a solution: VALUE, how many flow lines, and each of them
+pub record IsWithinLimits (nodes : ℕ) (written : Written) : Type 0 where
+  pub value_most : written.value ≤ 73786976294838206460000000
+  pub lines_most : length written.lines ≤ 4000000
+  pub lines_within : All (IsLineWithin nodes) written.lines
+
+-- what a solution's fields say
+abbrev pub written_in : Solution → Written
+written_in found = record { value = found.value; lines = found.lines.items }
+
+-- the reader of a solution has been fed these bytes and has refused none
+abbrev pub ReadsSolution : ℕ → State Stated → List ℕ → Type 0
+ReadsSolution nodes reader b = HasRead solution_rules (stated_of nodes) reader b
+
+-- what `feed` answers, with these bytes fed in all
+abbrev pub FeedsSolution : ℕ → List ℕ → Result (Unit {0}) ReadFault → State Stated → Type 0
+FeedsSolution nodes b result new = FeedsBy solution_rules (stated_of nodes) b result new
+
+-- what `finish` answers to a whole text
+abbrev pub FinishesSolution : Result Written (ℕ × FaultCode) → Result Solution ReadFault → Type 0
+FinishesSolution answer (Ok found) = answer ≡ Ok (written_in found)
+FinishesSolution answer (Err fault) = AnswersAs answer (Err fault)
+
+-- the flow lines that a reader lends: none after a refusal
+abbrev pub lent_lines : State Stated → List FlowLine
+lent_lines reader = if is_some reader.refused then [] else reader.known.lines

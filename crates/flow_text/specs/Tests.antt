@@ -1,0 +1,29 @@
+-- Tests in an order: the first that fails decides.
+use Rattle.std.specs.Prelude.{ℕ, Bool, not, ◌||◌, ◌==◌, nat_lt, List, [], ◌∷◌, ◌++◌, length, Option, None, Some, if◌then◌else◌}
+use Rattle.flow_text.specs.Fields.{field_at}
+use Rattle.flow_text.specs.Digits.{is_number, value_of}
+use Rattle.flow_text.specs.declared.faults.FaultCode.{FaultCode}
+use Rattle.flow_text.specs.declared.faults.FaultCode.TheVariants.{WrongFields, BadNumber, NodeOutOfRange}
+
+-- whether a test fails, and the fault that it tells
+abbrev pub Test : Type 0
+Test = Bool × FaultCode
+
+abbrev pub first_failed : List Test → Option FaultCode
+first_failed [] = None
+first_failed (test ∷ tests) = if test.0 then Some test.1 else first_failed tests
+
+-- a number from a least to a greatest
+abbrev pub number_tests : List ℕ → ℕ → ℕ → FaultCode → List Test
+number_tests field least greatest code =
+    (not (is_number field), BadNumber)
+    ∷ (nat_lt (value_of field) least || nat_lt greatest (value_of field), code)
+    ∷ []
+
+-- a line of a letter, SRC, DST and a number of 64 bits, where a greater number has this fault
+unfoldable pub ends_tests : ℕ → FaultCode → List (List ℕ) → List Test
+ends_tests nodes code fields =
+    (not (length fields == 4), WrongFields)
+    ∷ number_tests (field_at fields 1) 1 nodes NodeOutOfRange
+    ++ number_tests (field_at fields 2) 1 nodes NodeOutOfRange
+    ++ number_tests (field_at fields 3) 0 18446744073709551615 code

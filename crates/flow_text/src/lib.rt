@@ -1,0 +1,37 @@
+//! Reads and writes the texts of the DIMACS maximum flow format.
+#![tactic(auto)]
+
+mod faults;
+mod laws;
+mod line_fields;
+mod machine;
+mod numbers;
+mod output;
+mod problem_lines;
+mod problem_reader;
+mod records;
+mod scan;
+mod solution_lines;
+mod solution_reader;
+mod solutions;
+mod terminals;
+mod usual_lines;
+mod verdicts;
+
+pub use faults::{FaultCode, ReadFault};
+pub use laws::{
+    early_fault_stays, early_solution_fault_stays, lines_are_cut, lines_are_cut_one_way,
+};
+pub use line_fields::Fields;
+pub use numbers::Number;
+pub use output::{
+    Line, arc_line, connect_line, fault_line, flow_line, node_line, solution_line, verdict_line,
+};
+pub use problem_reader::ProblemReader;
+pub use scan::{fields, number};
+pub use solution_reader::SolutionReader;
+pub use solutions::{FlowLine, Solution};
+pub use verdicts::Verdict;
+
+#[cfg(test)]
+mod tests;

@@ -1,0 +1,219 @@
+//! The lines that the program writes, each with its byte 10.
+//!
+//! They follow the DIMACS maximum flow format (1990) where it has them: `s` and `f` lines are those of its solution files,
+//! `n` and `a` lines name nodes and arcs as its problem files do.
+ghost use Rattle.std.specs.Prelude.{◌≡◌, ◌+◌, ◌<◌, ◌≤◌, ◌∷◌, ◌++◌, length, drop, codes, decimal};
+ghost use Rattle.arrayvec.specs.ArrayVec.{array_vec_len};
+ghost use Rattle.flow_text.specs.FaultTexts.{fault_text};
+ghost use Rattle.flow_text.specs.Output.{arc_line, connect_line, fault_line, flow_line, node_line, solution_line, verdict_line};
+
+use crate::{FaultCode, Verdict};
+use arrayvec::ArrayVec;
+use flow_net::Arc;
+use itoa::{Buffer, Integer, write_digits};
+
+#[cfg(test)]
+mod tests;
+
+/// A line of output with its byte 10. No line is longer than 128 bytes, so that none takes memory.
+pub type Line = ArrayVec<u8, 128>;
+
+/// The line `s VALUE` that begins a solution or a cut.
+#[tactic(auto, unfolding(crate::specs::Output::solution_line))]
+pub fn solution_line(value: u128) -> Line
+    ensures { result.items ≡ solution_line value }
+{
+    number_line(b"s ", value)
+}
+
+/// The line `f SRC DST FLOW` of the flow on an arc.
+#[tactic(auto, unfolding(crate::specs::Output::flow_line))]
+pub fn flow_line(src: u32, dst: u32, flow: u64) -> Line
+    ensures { result.items ≡ flow_line src dst flow }
+{
+    let mut line = Line::new();
+    push_pair(&mut line, b'f', src, dst, flow);
+    line
+}
+
+/// The line `n NODE` of a node on the source side of a cut.
+#[tactic(auto, unfolding(crate::specs::Output::node_line))]
+pub fn node_line(node: u32) -> Line
+    ensures { result.items ≡ node_line node }
+{
+    number_line(b"n ", node)
+}
+
+/// The line `a SRC DST CAP` of an arc that leaves the source side of a cut.
+#[tactic(auto, unfolding(crate::specs::Output::arc_line))]
+pub fn arc_line(arc: Arc) -> Line
+    ensures { result.items ≡ arc_line arc }
+{
+    let mut line = Line::new();
+    push_pair(&mut line, b'a', arc.src, arc.dst, arc.cap);
+    line
+}
+
+/// The line `k VALUE` of the edge connectivity.
+#[tactic(auto, unfolding(crate::specs::Output::connect_line))]
+pub fn connect_line(value: u64) -> Line
+    ensures { result.items ≡ connect_line value }
+{
+    number_line(b"k ", value)
+}
+
+/// The line of a verdict: its word and its numbers, in the order of the variant's fields.
+///
+/// The value found may be negative; then `-` stands before its digits.
+#[tactic(auto, unfolding(crate::specs::Output::verdict_line))]
+pub fn verdict_line(verdict: &Verdict) -> Line
+    ensures { result.items ≡ verdict_line verdict.now }
+{
+    match *verdict {
+        Verdict::Over {
+            src,
+            dst,
+            flow,
+            cap,
+        } => over_line(src, dst, flow, cap),
+        Verdict::Unbalanced { node, into, out } => unbalanced_line(node, into, out),
+        Verdict::Value { given, found } => value_line(given, found),
+        Verdict::Feasible(value) => number_line(b"feasible ", value),
+        Verdict::NotMaximal(value) => number_line(b"not-maximal ", value),
+        Verdict::Optimal(value) => number_line(b"optimal ", value),
+    }
+}
+
+/// The message of a fault at a line: of a solution file where `solution` is true, and else of a problem file.
+#[tactic(auto, unfolding(crate::specs::Output::fault_line))]
+pub fn fault_line(solution: bool, line: u64, code: FaultCode) -> Line
+    ensures { result.items ≡ fault_line solution line code }
+{
+    if solution {
+        return message_line(b"flow: solution line ", line, code);
+    }
+    message_line(b"flow: line ", line, code)
+}
+
+// A word that ends with a blank, and a number.
+fn number_line<I: Integer>(word: &[u8], n: I) -> Line
+    requires word { length word.now ≤ 20 }
+    requires number { I.MAX_STR_LEN ≤ 40 }
+    ensures { result.items ≡ word.now ++ I.text n ++ codes "\n" }
+{
+    let mut line = Line::new();
+    push_bytes(&mut line, word);
+    push_number(&mut line, n);
+    push_bytes(&mut line, b"\n");
+    line
+}
+
+// Appends a letter, two nodes and an amount, which take 45 bytes at most. A solve has a line of this form for every arc,
+// so it is written backwards into bytes of its own, in front of the last, which is the line's end, and copied once.
+#[tactic(auto, using(crate::proofs::OutputLemmas::decimal_10, crate::proofs::OutputLemmas::decimal_20))]
+#[inline(always)]
+fn push_pair(line: &mut Line, letter: u8, src: u32, dst: u32, amount: u64)
+    requires { array_vec_len line.old ≤ 80 }
+    ensures { line.new.items ≡ line.old.items ++ (letter ∷ codes " " ++ decimal src ++ codes " " ++ decimal dst ++ codes " " ++ decimal amount ++ codes "\n") }
+{
+    let mut bytes = [b'\n'; 48];
+    let end = put_number(&mut bytes, amount, 47);
+    let end = put_number(&mut bytes, dst as u64, end);
+    let end = put_number(&mut bytes, src as u64, end);
+    let start = end - 1;
+    bytes[start] = letter;
+    push_bytes(line, &bytes[start..]);
+}
+
+// Writes a blank and the digits of a number so that they end at `end`, and answers where the blank stands.
+#[inline(always)]
+fn put_number(bytes: &mut [u8], n: u64, end: usize) -> usize
+    requires room { length (decimal n) < end }
+    requires within { end ≤ length bytes.old }
+    ensures start { result + length (decimal n) + 1 ≡ end }
+    ensures written { drop result bytes.new ≡ 32 ∷ decimal n ++ drop end bytes.old }
+{
+    let start = write_digits(n, bytes, end) - 1;
+    bytes[start] = b' ';
+    start
+}
+
+#[tactic(auto, unfolding(crate::specs::Output::verdict_line))]
+fn over_line(src: u32, dst: u32, flow: u128, cap: u128) -> Line
+    ensures { result.items ≡ verdict_line (Verdict.Over src dst flow cap) }
+{
+    let mut line = Line::new();
+    push_bytes(&mut line, b"over ");
+    push_number(&mut line, src);
+    push_bytes(&mut line, b" ");
+    push_number(&mut line, dst);
+    push_bytes(&mut line, b" ");
+    push_number(&mut line, flow);
+    push_bytes(&mut line, b" ");
+    push_number(&mut line, cap);
+    push_bytes(&mut line, b"\n");
+    line
+}
+
+#[tactic(auto, unfolding(crate::specs::Output::verdict_line))]
+fn unbalanced_line(node: u32, into: u128, out: u128) -> Line
+    ensures { result.items ≡ verdict_line (Verdict.Unbalanced node into out) }
+{
+    let mut line = Line::new();
+    push_bytes(&mut line, b"unbalanced ");
+    push_number(&mut line, node);
+    push_bytes(&mut line, b" ");
+    push_number(&mut line, into);
+    push_bytes(&mut line, b" ");
+    push_number(&mut line, out);
+    push_bytes(&mut line, b"\n");
+    line
+}
+
+#[tactic(auto, unfolding(crate::specs::Output::verdict_line))]
+fn value_line(given: u128, found: i128) -> Line
+    ensures { result.items ≡ verdict_line (Verdict.Value given found) }
+{
+    let mut line = Line::new();
+    push_bytes(&mut line, b"value ");
+    push_number(&mut line, given);
+    push_bytes(&mut line, b" ");
+    push_number(&mut line, found);
+    push_bytes(&mut line, b"\n");
+    line
+}
+
+// The beginning of a message, a line number and the words of a fault.
+#[tactic(auto, using(crate::proofs::OutputLemmas::fault_text_short))]
+fn message_line(start: &[u8], line: u64, code: FaultCode) -> Line
+    requires { length start.now ≤ 20 }
+    ensures { result.items ≡ start.now ++ decimal line ++ codes ": " ++ fault_text code ++ codes "\n" }
+{
+    let mut message = Line::new();
+    push_bytes(&mut message, start);
+    push_number(&mut message, line);
+    push_bytes(&mut message, b": ");
+    push_bytes(&mut message, code.text().as_bytes());
+    push_bytes(&mut message, b"\n");
+    message
+}
+
+// Appends bytes for which there is room.
+#[inline]
+fn push_bytes(line: &mut Line, bytes: &[u8])
+    requires { array_vec_len line.old + length bytes.now ≤ 128 }
+    ensures { line.new.items ≡ line.old.items ++ bytes.now }
+{
+    line.try_extend_from_slice(bytes).unwrap();
+}
+
+// Appends a number in its fewest digits, for which there is room.
+#[inline]
+fn push_number<I: Integer>(line: &mut Line, n: I)
+    requires { array_vec_len line.old + I.MAX_STR_LEN ≤ 128 }
+    ensures items { line.new.items ≡ line.old.items ++ I.text n }
+    ensures short { length (I.text n) ≤ I.MAX_STR_LEN }
+{
+    let mut buffer = Buffer::new();
+    push_bytes(line, buffer.format(n).as_bytes());
+}

@@ -1,0 +1,96 @@
+//! The terminals that the node lines name.
+ghost use Rattle.std.specs.Prelude.{◌≡◌, ◌++◌, [], OnOk, OnErr, false};
+ghost use Rattle.flow_net.specs.Nets.{AreDistinct};
+ghost use Rattle.flow_text.specs.Terminals.{is_marked, with_mark};
+ghost use Rattle.flow_text.specs.Problem.{lacks_terminals};
+
+use std::alloc::{AllocError, Global};
+use std::collections::BTreeSet;
+use std::marker::Model;
+
+/// The sources and the sinks, all different, in the order of their lines, and the set of all of them for a look-up.
+#[derive(Drop)]
+pub(crate) struct Terminals {
+    sources: Vec<u32>,
+    sinks: Vec<u32>,
+    all: BTreeSet<u32>,
+}
+
+impl Model for Terminals {
+    ghost use Rattle.std.specs.Prelude.{◌≡◌, ◌++◌, ℕ};
+    ghost use Rattle.std.specs.Ordering.{nat_cmp};
+    ghost use Rattle.std.specs.BTreeSet as sorted;
+    ghost use Rattle.flow_net.specs.Nets.{AreDistinct};
+    ghost use Rattle.flow_text.specs.Terminals.{Marks, is_marked};
+
+    ghost Value = { Marks };
+
+    ghost view = { λ t. record { sources = t.sources.items; sinks = t.sinks.items } };
+
+    ghost invariant = { λ t. record {
+      all : (q : ℕ) → sorted.contains nat_cmp t.all q ≡ is_marked (record { sources = t.sources.items; sinks = t.sinks.items }) q;
+      distinct : AreDistinct (t.sources.items ++ t.sinks.items);
+    } };
+}
+
+impl Terminals {
+    /// No terminals. It takes no memory.
+    pub(crate) fn new(alloc: Global) -> Terminals
+        ensures { result ≡ record { sources = []; sinks = [] } }
+    {
+        Terminals {
+            sources: Vec::new(alloc),
+            sinks: Vec::new(alloc),
+            all: BTreeSet::new(alloc),
+        }
+    }
+
+    /// Whether a node is a source or a sink.
+    pub(crate) fn contains(&self, node: u32) -> bool
+        ensures { result ≡ is_marked self.now node }
+    {
+        self.all.contains(&node)
+    }
+
+    /// Whether there is no source or no sink.
+    pub(crate) fn lacks_one(&self) -> bool
+        ensures { result ≡ lacks_terminals self.now }
+    {
+        self.sources.is_empty() || self.sinks.is_empty()
+    }
+
+    /// Adds a terminal. An error leaves no terminals.
+    pub(crate) fn add(&mut self, node: u32, is_source: bool) -> Result<(), AllocError>
+        requires { is_marked self.old node ≡ false }
+        ensures ok { OnOk result (self.new ≡ with_mark self.old node is_source) }
+        ensures err { OnErr result (self.new ≡ record { sources = []; sinks = [] }) }
+    {
+        if self.all.insert(node).is_ok() {
+            if is_source {
+                if self.sources.push(node).is_ok() {
+                    return Ok(());
+                }
+            } else if self.sinks.push(node).is_ok() {
+                return Ok(());
+            }
+        }
+        self.sources.clear();
+        self.sinks.clear();
+        self.all.clear();
+        Err(AllocError)
+    }
+
+    /// The sources and the sinks.
+    pub(crate) fn into_parts(self) -> (Vec<u32>, Vec<u32>)
+        ensures sources { result.0.items ≡ self.sources }
+        ensures sinks { result.1.items ≡ self.sinks }
+        ensures distinct { AreDistinct (self.sources ++ self.sinks) }
+    {
+        let Terminals {
+            sources,
+            sinks,
+            all: _,
+        } = self;
+        (sources, sinks)
+    }
+}

@@ -1,0 +1,10 @@
+pub mod Counting
+pub mod Crossings
+pub mod Found
+pub mod Marks
+pub mod Outcomes
+pub mod Packed
+pub mod Queues
+pub mod Raises
+pub mod Routes
+pub mod Sweeps

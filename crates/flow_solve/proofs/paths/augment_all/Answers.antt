@@ -1,0 +1,62 @@
+use Rattle.std.proofs.Common.{◌<◌, ◌-◌, ◌+◌, length, arith}
+use Rattle.flow_net.specs.NodeSets.{one_of}
+use Rattle.flow_solve.specs.Searches.{seen}
+use Rattle.flow_solve.specs.Trails.{capacities}
+use Rattle.flow_solve.proofs.Routes.{terminals_apart, searched_trails}
+use Rattle.flow_solve.proofs.Raises.{raised_by, settled, value_most, capacities_fit, paid_more, paid_all}
+use Rattle.flow_solve.proofs.paths.augment_all.Goals as goal
+
+pub augment-requires-clause-trails : goal.augment-requires-clause-trails
+augment-requires-clause-trails c =
+    let found = c.in-Some.ensures in
+    rw found.flows (searched_trails c.args.net.now c.loop-source.flow.flows c.args.t.now c.find_trail.new.dist c.find_trail.new.via (omega (arith, c.loop-source.invariant.via_size)) found.searched)
+
+pub overflow_add-value : goal.overflow_add-value
+overflow_add-value c =
+    let old = c.loop-source.invariant in let found = c.in-Some.ensures in let node = found.some in let net = c.args.net.now in
+    let now = raised_by net c.args.s.now c.args.t.now c.loop-source.flow.flows c.find_trail.new.dist c.find_trail.new.via c.loop-source.value c.augment.result c.in-Some.source c.find_trail.new.flow.flows c.augment.new.flow.flows
+    c.requires.terminals old.feasible old.value old.no_loops (omega (arith, old.via_size)) found.searched node.0 node.1 node.2 found.flows c.augment.ensures.room c.augment.ensures.flows in
+    let most = value_most net (one_of c.args.s.now) (one_of c.args.t.now) c.augment.new.flow.flows (c.loop-source.value + c.augment.result) c.nodes-n.ensures.is_net (terminals_apart net c.args.s.now c.args.t.now c.requires.terminals) now.feasible now.value in
+    let fit = capacities_fit net c.nodes-n.ensures.is_net in
+    omega (arith, most, fit, c.from-value.ensures)
+
+pub loop-source-smaller : goal.loop-source-smaller
+loop-source-smaller c =
+    let old = c.loop-source.invariant in let found = c.in-Some.ensures in let node = found.some in let net = c.args.net.now in
+    let now = raised_by net c.args.s.now c.args.t.now c.loop-source.flow.flows c.find_trail.new.dist c.find_trail.new.via c.loop-source.value c.augment.result c.in-Some.source c.find_trail.new.flow.flows c.augment.new.flow.flows
+    c.requires.terminals old.feasible old.value old.no_loops (omega (arith, old.via_size)) found.searched node.0 node.1 node.2 found.flows c.augment.ensures.room c.augment.ensures.flows in
+    let most = value_most net (one_of c.args.s.now) (one_of c.args.t.now) c.augment.new.flow.flows (c.loop-source.value + c.augment.result) c.nodes-n.ensures.is_net (terminals_apart net c.args.s.now c.args.t.now c.requires.terminals) now.feasible now.value in
+    let less : capacities net - (c.loop-source.value + c.from-value.result) < capacities net - c.loop-source.value = omega (arith, most, c.augment.ensures.positive, c.from-value.ensures) in less
+
+pub loop-source-preserved : goal.loop-source-preserved
+loop-source-preserved c =
+    let old = c.loop-source.invariant in let found = c.in-Some.ensures in let node = found.some in let net = c.args.net.now in
+    let now = raised_by net c.args.s.now c.args.t.now c.loop-source.flow.flows c.find_trail.new.dist c.find_trail.new.via c.loop-source.value c.augment.result c.in-Some.source c.find_trail.new.flow.flows c.augment.new.flow.flows
+    c.requires.terminals old.feasible old.value old.no_loops (omega (arith, old.via_size)) found.searched node.0 node.1 node.2 found.flows c.augment.ensures.room c.augment.ensures.flows in
+    record {
+      feasible = now.feasible;
+      value = omega (arith, now.value, c.from-value.ensures);
+      no_loops = now.no_loops;
+      dist_size = omega (arith, old.dist_size);
+      via_size = omega (arith, old.via_size);
+      queue_size = omega (arith, old.queue_size);
+      never_lowered = omega (arith, old.never_lowered, found.never_lowered, c.augment.ensures.never_lowered);
+      steps = rw c.from-value.ensures (paid_more c.args.flow.now.steps c.augment.new.flow.steps c.loop-source.value c.augment.result net.nodes (length net.arcs) (omega (arith, old.steps, found.steps, c.augment.ensures.steps)) c.augment.ensures.positive);
+    }
+
+pub returns-clause-greatest : goal.returns-clause-greatest
+returns-clause-greatest c =
+    let old = c.loop-source.invariant in let found = c.in_default.ensures in
+    (settled c.args.net.now c.args.s.now c.args.t.now c.loop-source.flow.flows (seen c.find_trail.new.dist) c.loop-source.value c.nodes-n.ensures.is_net old.feasible old.value found.none found.outside).0
+
+pub returns-clause-least : goal.returns-clause-least
+returns-clause-least c =
+    let old = c.loop-source.invariant in let found = c.in_default.ensures in
+    (settled c.args.net.now c.args.s.now c.args.t.now c.loop-source.flow.flows (seen c.find_trail.new.dist) c.loop-source.value c.nodes-n.ensures.is_net old.feasible old.value found.none found.outside).1
+
+pub returns-clause-steps : goal.returns-clause-steps
+returns-clause-steps c =
+    let old = c.loop-source.invariant in let found = c.in_default.ensures in let net = c.args.net.now in
+    paid_all net c.args.flow.now.steps c.find_trail.new.flow.steps c.loop-source.value c.nodes-n.ensures.is_net
+    (value_most net (one_of c.args.s.now) (one_of c.args.t.now) c.loop-source.flow.flows c.loop-source.value c.nodes-n.ensures.is_net (terminals_apart net c.args.s.now c.args.t.now c.requires.terminals) old.feasible old.value)
+    (omega (arith, old.steps, found.steps))

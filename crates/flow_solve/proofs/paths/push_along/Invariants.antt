@@ -1,0 +1,21 @@
+use Rattle.std.proofs.Common.{◌≡◌, ◌+◌, ◌-◌}
+use Rattle.std.specs.Prelude.{slice_index}
+use Rattle.flow_net.specs.Nets.{IsNode}
+use Rattle.flow_net.specs.Flows.{Fits}
+use Rattle.flow_net.specs.Paths.{HasRoom, push_all}
+use Rattle.flow_solve.specs.Searches.{IsMarked}
+use Rattle.flow_solve.specs.Trails.{trail_from}
+use Rattle.flow_solve.proofs.paths.push_along.Given as goal
+
+abbrev pub invariant-loop-node : goal.invariant-loop-node
+invariant-loop-node l = record {
+  fits : Fits l.net l.flow.flows;
+  node : IsNode l.net l.node;
+  marked : IsMarked l.dist (l.node - 1);
+  ahead : push_all l.flow.flows (trail_from l.net l.dist l.via l.node) l.amount ≡ push_all l.fn.flow.flows (trail_from l.net l.dist l.via l.source) l.amount;
+  room : HasRoom l.net l.flow.flows l.amount (trail_from l.net l.dist l.via l.node);
+  steps : l.flow.steps + slice_index l.dist (l.node - 1) ≡ l.fn.flow.steps + slice_index l.dist (l.source - 1);
+}
+
+abbrev pub decreases-loop-node : goal.decreases-loop-node
+decreases-loop-node l = slice_index l.dist (l.node - 1)

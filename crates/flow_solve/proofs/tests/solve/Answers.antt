@@ -1,0 +1,14 @@
+use Rattle.std.proofs.Common.{ℕ, List, subst, sym, ◌∙◌}
+use Rattle.flow_net.specs.NodeSets.{one_of}
+use Rattle.flow_net.specs.Flows.{Fits, IsFeasible}
+use Rattle.flow_solve.proofs.tests.solve.Goals as goal
+
+pub reach_back-requires-clause-feasible : goal.reach_back-requires-clause-feasible
+reach_back-requires-clause-feasible c =
+    subst (λ (xs : List ℕ). IsFeasible c.args.net.now (one_of c.split_at.result.0.now) (one_of c.split_at.result.1.now) xs) (sym c.reach.ensures.flows)
+    (c.in_ok-flow.ensures (one_of c.split_at.result.0.now) (one_of c.split_at.result.1.now))
+
+pub greatest-requires-clause-fits : goal.greatest-requires-clause-fits
+greatest-requires-clause-fits c =
+    subst (Fits c.args.net.now) (sym (c.reach_back.ensures.flows ∙ c.reach.ensures.flows))
+    (c.in_ok-flow.ensures (one_of c.split_at.result.0.now) (one_of c.split_at.result.1.now)).fits

@@ -1,0 +1,142 @@
+-- Breadth-first searches over the residual network, forwards from sources or backwards from sinks. Lists of cells have a
+-- cell for each node, that of node 1 first; the place of a node is the number of its cell.
+use Rattle.std.specs.Prelude.{◌⊎◌, ◌≡◌, ℕ, zero, suc, ◌+◌, ◌-◌, ◌*◌, ◌%◌, ◌<◌, ◌≤◌, ◌==◌, nat_lt, if◌then◌else◌, Bool, false, IsTrue, List, length, slice_index, slice_index_or}
+use Rattle.flow_net.specs.Nets.{Net}
+use Rattle.flow_net.specs.NodeSets.{one_of}
+use Rattle.flow_net.specs.Paths.{IsPath, IsApart, HasRoom}
+use Rattle.flow_net.specs.Residual.{tail_of, head_of, residual}
+use Rattle.flow_solve.specs.declared.searching.Direction.{Direction}
+use Rattle.flow_solve.specs.declared.searching.Direction.TheVariants.{Forwards, Backwards}
+use Rattle.flow_solve.specs.Packs.{group_of}
+
+-- the other half-arc of the same arc
+abbrev pub twin_of : ℕ → ℕ
+twin_of h = if h % 2 == 0 then h + 1 else h - 1
+
+-- the end of a half-arc that a search comes from, and the end that it comes to
+abbrev pub near_end : Direction → Net → ℕ → ℕ
+near_end Forwards net h = tail_of net h
+near_end Backwards net h = head_of net h
+
+abbrev pub far_end : Direction → Net → ℕ → ℕ
+far_end Forwards net h = head_of net h
+far_end Backwards net h = tail_of net h
+
+-- for a half-arc that leaves a node: the one of its arc whose near end is that node
+abbrev pub crossed : Direction → ℕ → ℕ
+crossed Forwards h = h
+crossed Backwards h = twin_of h
+
+-- no half-arc with a residual capacity has its near end in the set and its far end outside
+abbrev pub IsClosedFor : Direction → Net → List ℕ → (ℕ → Bool) → Type 0
+IsClosedFor dir net xs X = (h : ℕ) → h < 2 * length net.arcs → IsTrue (X (near_end dir net h)) → 1 ≤ residual net xs h → IsTrue (X (far_end dir net h))
+
+-- the set holds each node of a list
+abbrev pub HoldsAll : List ℕ → (ℕ → Bool) → Type 0
+HoldsAll nodes X = (v : ℕ) → IsTrue (one_of nodes v) → IsTrue (X v)
+
+-- The search has seen the node at a place: its cell has a distance, and neither of the two numbers for an unseen node,
+-- 2^32 - 1 and, for one that the search looks out for, 2^32 - 2.
+abbrev pub IsMarked : List ℕ → ℕ → Type 0
+IsMarked dist p = slice_index dist p < 4294967294
+
+-- the set of the nodes that the search has seen
+abbrev pub seen : List ℕ → ℕ → Bool
+seen dist zero = false
+seen dist (suc p) = nat_lt (slice_index_or dist p 4294967295) 4294967294
+
+-- no marked place is farther
+abbrev pub IsNear : List ℕ → ℕ → Type 0
+IsNear dist level = (p : ℕ) → IsMarked dist p → slice_index dist p ≤ level
+
+-- the set holds the node at each marked place
+abbrev pub HoldsMarked : ℕ → List ℕ → (ℕ → Bool) → Type 0
+HoldsMarked n dist X = (p : ℕ) → p < n → IsMarked dist p → IsTrue (X (p + 1))
+
+-- a sum over the marked places among the first
+abbrev pub spread : (ℕ → ℕ) → List ℕ → ℕ → ℕ
+spread w dist zero = 0
+spread w dist (suc k) = spread w dist k + (if nat_lt (slice_index dist k) 4294967294 then w k else 0)
+
+-- a sum over the first places in the queue
+abbrev pub queued : (ℕ → ℕ) → List ℕ → ℕ → ℕ
+queued w queue zero = 0
+queued w queue (suc k) = queued w queue k + w (slice_index queue k)
+
+-- the queue holds each marked place once, in its first cells, the nearest first
+pub record IsQueue (dist queue : List ℕ) (tail : ℕ) : Type 0 where
+  pub sums : (w : ℕ → ℕ) → spread w dist (length dist) ≡ queued w queue tail
+  pub places : (i : ℕ) → i < tail → slice_index queue i < length dist
+  pub marks : (i : ℕ) → i < tail → IsMarked dist (slice_index queue i)
+  pub waits : (p : ℕ) → p < length dist → IsMarked dist p → (i : ℕ) × (i < tail) × (slice_index queue i ≡ p)
+  pub levels : (p : ℕ) → p < length dist → IsMarked dist p → slice_index dist p < tail
+  pub rises : (i j : ℕ) → i ≤ j → j < tail → slice_index dist (slice_index queue i) ≤ slice_index dist (slice_index queue j)
+
+-- marks and the queue have only grown
+pub record HasGrown (dist via queue : List ℕ) (tail : ℕ) (dist' via' queue' : List ℕ) (tail' : ℕ) : Type 0 where
+  pub dist_size : length dist' ≡ length dist
+  pub via_size : length via' ≡ length via
+  pub queue_size : length queue' ≡ length queue
+  pub kept : (p : ℕ) → IsMarked dist p → (slice_index dist' p ≡ slice_index dist p) × (slice_index via' p ≡ slice_index via p)
+  pub ahead : (i : ℕ) → i < tail → slice_index queue' i ≡ slice_index queue i
+  pub more : tail ≤ tail'
+
+-- what an unseen node's cell has, by whether the search looks out for the node; and 1 where it does
+abbrev pub unseen_cell : List ℕ → ℕ → ℕ
+unseen_cell until p = if one_of until (p + 1) then 4294967294 else 4294967295
+
+abbrev pub wanted_at : List ℕ → ℕ → ℕ
+wanted_at until p = if one_of until (p + 1) then 1 else 0
+
+-- how many of the nodes that the search looks out for were seen
+pub record IsCount (until dist : List ℕ) (wanted : ℕ) : Type 0 where
+  pub cells : (p : ℕ) → p < length dist → 4294967294 ≤ slice_index dist p → slice_index dist p ≡ unseen_cell until p
+  pub count : wanted ≡ spread (wanted_at until) dist (length dist)
+
+-- the search came to the place over the half-arc in its cell of `via`, from a node that is nearer by one
+pub record IsCome (net : Net) (flows : List ℕ) (dir : Direction) (dist via : List ℕ) (p : ℕ) : Type 0 where
+  pub in_range : slice_index via p < 2 * length net.arcs
+  pub far : far_end dir net (slice_index via p) ≡ p + 1
+  pub remains : 1 ≤ residual net flows (slice_index via p)
+  pub near : 1 ≤ near_end dir net (slice_index via p)
+  pub within : near_end dir net (slice_index via p) ≤ net.nodes
+  pub marked : IsMarked dist (near_end dir net (slice_index via p) - 1)
+  pub level : slice_index dist (near_end dir net (slice_index via p) - 1) + 1 ≡ slice_index dist p
+
+-- each half-arc with a residual capacity whose near end is at the place has a marked far end, farther by one at most
+abbrev pub IsDone : Net → List ℕ → Direction → List ℕ → ℕ → Type 0
+IsDone net flows dir dist p = (h : ℕ) → h < 2 * length net.arcs → group_of net h ≡ p → 1 ≤ residual net flows (crossed dir h)
+    → IsMarked dist (head_of net h - 1) × (slice_index dist (head_of net h - 1) ≤ slice_index dist p + 1)
+
+-- What a search has found, also where it has stopped early: the starts are marked with 0; a marked place was come to;
+-- a place is done, or else no marked place is farther than it by more than one; each closed set that holds the starts
+-- holds what is marked.
+pub record IsSearched (net : Net) (flows : List ℕ) (dir : Direction) (starts dist via : List ℕ) : Type 0 where
+  pub size : length dist ≡ net.nodes
+  pub begun : (i : ℕ) → i < length starts → IsMarked dist (slice_index starts i - 1)
+  pub come : (p : ℕ) → p < net.nodes → IsMarked dist p → ((slice_index dist p ≡ 0) × IsTrue (one_of starts (p + 1))) ⊎ IsCome net flows dir dist via p
+  pub levels : (p : ℕ) → p < net.nodes → IsMarked dist p → slice_index dist p < net.nodes
+  pub even : (p : ℕ) → p < net.nodes → IsMarked dist p → IsDone net flows dir dist p ⊎ IsNear dist (slice_index dist p + 1)
+  pub least : (X : ℕ → Bool) → HoldsAll starts X → IsClosedFor dir net flows X → HoldsMarked net.nodes dist X
+
+-- the least closed set that holds the starts: all that a search can come to
+pub record IsWhole (dir : Direction) (net : Net) (flows starts : List ℕ) (X : ℕ → Bool) : Type 0 where
+  pub holds : HoldsAll starts X
+  pub closed : IsClosedFor dir net flows X
+  pub least : (Y : ℕ → Bool) → HoldsAll starts Y → IsClosedFor dir net flows Y → (v : ℕ) → IsTrue (X v) → IsTrue (Y v)
+
+-- a residual path from a node of one set to a node of another, with no two half-arcs of one arc
+pub record IsRoute (net : Net) (flows : List ℕ) (from to : ℕ → Bool) : Type 0 where
+  pub first : ℕ
+  pub last : ℕ
+  pub path : List ℕ
+  pub begins : IsTrue (from first)
+  pub ends : IsTrue (to last)
+  pub leads : IsPath net first path last
+  pub apart : IsApart path
+  pub room : HasRoom net flows 1 path
+
+-- the residual network leads, in the search's direction, from a start to one of the nodes that it looks out for
+abbrev pub HasRoute : Direction → Net → List ℕ → List ℕ → List ℕ → Type 0
+HasRoute Forwards net flows starts until = IsRoute net flows (one_of starts) (one_of until)
+HasRoute Backwards net flows starts until = IsRoute net flows (one_of until) (one_of starts)

@@ -1,0 +1,36 @@
+//! What every way to a greatest flow promises, and the cells that it works in.
+ghost use Rattle.std.specs.Prelude.{◌≡◌, ℕ, ◌+◌, ◌*◌, ◌≤◌, length, drop};
+ghost use Rattle.flow_net.specs.Nets.{Net, AreTerminals};
+ghost use Rattle.flow_net.specs.NodeSets.{one_of};
+ghost use Rattle.flow_net.specs.Flows.{Fits, IsFeasible, HasValue, IsGreatest, HasNoLoops};
+ghost use Rattle.flow_net.specs.Cuts.{IsLeastCapacity};
+
+use flow_net::{FlowTable, Network};
+
+/// How many cells a solver of this crate works in, for a network of so many nodes and arcs.
+pub fn work_len(nodes: u32, arcs: u32) -> usize
+    ensures { result ≡ 6 * nodes + 2 * arcs + 2 }
+{
+    6 * nodes as usize + 2 * arcs as usize + 2
+}
+
+/// A way to a greatest flow.
+pub trait Method {
+    /// How many steps it takes at most, for each network.
+    ghost steps_bound: { Net → ℕ };
+
+    /// Leaves a feasible flow of the greatest value in the table, with nothing on self-loops, and answers that value.
+    /// Whatever flow the table held is cleared first. `s` has the sources and `t` the sinks.
+    fn greatest(net: &Network, s: &[u32], t: &[u32], flow: &mut FlowTable, work: &mut [u32]) -> u128
+        requires fits { Fits net.now flow.old.flows }
+        requires terminals { AreTerminals net.now s.now t.now }
+        requires cells { 6 * net.now.nodes + 2 * length net.now.arcs + 2 ≤ length work.old }
+        ensures feasible { IsFeasible net.now (one_of s.now) (one_of t.now) flow.new.flows }
+        ensures value { HasValue net.now (one_of s.now) flow.new.flows result }
+        ensures greatest { IsGreatest net.now (one_of s.now) (one_of t.now) result }
+        ensures least { IsLeastCapacity net.now (one_of s.now) (one_of t.now) result }
+        ensures loops { HasNoLoops net.now flow.new.flows }
+        ensures never_lowered { flow.old.steps ≤ flow.new.steps }
+        ensures steps { flow.new.steps ≤ flow.old.steps + steps_bound net.now }
+        ensures rest { drop (6 * net.now.nodes + 2 * length net.now.arcs + 2) work.new ≡ drop (6 * net.now.nodes + 2 * length net.now.arcs + 2) work.old };
+}

@@ -1,0 +1,181 @@
+//! Augmentation along any residual path (Ford and Fulkerson 1956).
+ghost use Rattle.std.specs.Prelude.{◌≡◌, ℕ, ◌+◌, ◌-◌, ◌*◌, ◌<◌, ◌≤◌, IsTrue, IsFalse, IfSome, IfNone, length, slice_index, sum_by};
+ghost use Rattle.std.specs.List.{All};
+ghost use Rattle.flow_net.specs.Nets.{Net, IsNode, AreTerminals};
+ghost use Rattle.flow_net.specs.NodeSets.{one_of};
+ghost use Rattle.flow_net.specs.Flows.{Fits, IsFeasible, HasValue, IsGreatest, HasNoLoops};
+ghost use Rattle.flow_net.specs.Paths.{HasRoom, push_all};
+ghost use Rattle.flow_net.specs.Cuts.{IsLeastCapacity};
+ghost use Rattle.flow_solve.specs.Packs.{IsPacked};
+ghost use Rattle.flow_solve.specs.Searches.{IsMarked, IsSearched, IsWhole, seen};
+ghost use Rattle.flow_solve.specs.Trails.{AreTrails, trail_from, capacities};
+
+use crate::method::{Method, work_len};
+use crate::packing::{Packed, pack};
+use crate::searching::{Direction, Plan, WANTED, head, search};
+use flow_net::{FlowTable, Network};
+
+/// The first of some nodes that a search has seen.
+fn first_seen(nodes: &[u32], dist: &[u32]) -> Option<u32>
+    requires { All (λ v. (1 ≤ v) × (v ≤ length dist.now)) nodes.now }
+    ensures some { IfSome result (λ v. IsTrue (one_of nodes.now v) × (1 ≤ v) × (v ≤ length dist.now) × IsMarked dist.now (v - 1)) }
+    ensures none { IfNone result ((v : ℕ) → IsTrue (one_of nodes.now v) → IsFalse (seen dist.now v)) }
+{
+    for node in nodes {
+        if dist[*node as usize - 1] < WANTED {
+            return Some(*node);
+        }
+    }
+    None
+}
+
+/// Searches backwards from the sinks, and answers a source from which a trail leads to a sink, if there is one.
+fn find_trail(
+    packed: Packed<'_>,
+    flow: &mut FlowTable,
+    s: &[u32],
+    t: &[u32],
+    dist: &mut [u32],
+    via: &mut [u32],
+    queue: &mut [u32],
+) -> Option<u32>
+    requires fits { Fits packed.net.now flow.old.flows }
+    requires packed { IsPacked packed.net.now packed.first.now packed.halves.now }
+    requires sources { All (IsNode packed.net.now) s.now }
+    requires sinks { All (IsNode packed.net.now) t.now }
+    requires cells { length dist.old ≡ packed.net.now.nodes }
+    requires via_size { length via.old ≡ packed.net.now.nodes }
+    requires queue_size { length queue.old ≡ packed.net.now.nodes }
+    ensures some { IfSome result (λ v. IsTrue (one_of s.now v) × IsNode packed.entry.net.now v × IsMarked dist.new (v - 1)) }
+    ensures searched { IsSearched packed.entry.net.now flow.old.flows Direction.Backwards t.now dist.new via.new }
+    ensures none { IfNone result (IsWhole Direction.Backwards packed.entry.net.now flow.old.flows t.now (seen dist.new)) }
+    ensures outside { IfNone result ((v : ℕ) → IsTrue (one_of s.now v) → IsFalse (seen dist.new v)) }
+    ensures flows { flow.new.flows ≡ flow.old.flows }
+    ensures never_lowered { flow.old.steps ≤ flow.new.steps }
+    ensures steps { flow.new.steps ≤ flow.old.steps + 2 * length packed.entry.net.now.arcs }
+{
+    let _ = packed.net.nodes();
+    let plan = Plan {
+        direction: Direction::Backwards,
+        starts: t,
+        until: s,
+        enough: 1,
+    };
+    search(packed, flow, plan, dist, via, queue);
+    first_seen(s, dist)
+}
+
+/// The least residual capacity on the trail from a node.
+fn least_room(net: &Network, flow: &mut FlowTable, dist: &[u32], via: &[u32], source: u32) -> u64
+    requires fits { Fits net.now flow.old.flows }
+    requires trails { AreTrails net.now flow.old.flows dist.now via.now }
+    requires node { IsNode net.now source }
+    requires marked { IsMarked dist.now (source - 1) }
+    ensures room { HasRoom net.now flow.old.flows result (trail_from net.now dist.now via.now source) }
+    ensures positive { 1 ≤ result }
+    ensures flows { flow.new.flows ≡ flow.old.flows }
+    ensures steps { flow.new.steps ≡ flow.old.steps + slice_index dist.now (source - 1) }
+{
+    let mut least = u64::MAX;
+    let mut node = source;
+    while dist[node as usize - 1] > 0 {
+        let (next, room) = flow.look(net, via[node as usize - 1]);
+        least = least.min(room);
+        node = next;
+    }
+    least
+}
+
+/// Pushes an amount along the trail from a node.
+fn push_along(
+    net: &Network,
+    flow: &mut FlowTable,
+    dist: &[u32],
+    via: &[u32],
+    source: u32,
+    amount: u64,
+)
+    requires fits { Fits net.now flow.old.flows }
+    requires trails { AreTrails net.now flow.old.flows dist.now via.now }
+    requires node { IsNode net.now source }
+    requires marked { IsMarked dist.now (source - 1) }
+    requires room { HasRoom net.now flow.old.flows amount (trail_from net.now dist.now via.now source) }
+    ensures flows { flow.new.flows ≡ push_all flow.old.flows (trail_from net.now dist.now via.now source) amount }
+    ensures steps { flow.new.steps ≡ flow.old.steps + slice_index dist.now (source - 1) }
+{
+    let mut node = source;
+    while dist[node as usize - 1] > 0 {
+        let half = via[node as usize - 1];
+        flow.push(net, half, amount);
+        node = head(net, half);
+    }
+}
+
+/// Pushes as much as it can along the trail from a source, and answers how much that is.
+fn augment(net: &Network, flow: &mut FlowTable, dist: &[u32], via: &[u32], source: u32) -> u64
+    requires fits { Fits net.now flow.old.flows }
+    requires trails { AreTrails net.now flow.old.flows dist.now via.now }
+    requires node { IsNode net.now source }
+    requires marked { IsMarked dist.now (source - 1) }
+    ensures positive { 1 ≤ result }
+    ensures room { HasRoom net.now flow.old.flows result (trail_from net.now dist.now via.now source) }
+    ensures flows { flow.new.flows ≡ push_all flow.old.flows (trail_from net.now dist.now via.now source) result }
+    ensures never_lowered { flow.old.steps ≤ flow.new.steps }
+    ensures steps { flow.new.steps ≤ flow.old.steps + 2 * net.now.nodes }
+{
+    let _ = net.nodes();
+    let amount = least_room(net, flow, dist, via, source);
+    push_along(net, flow, dist, via, source, amount);
+    amount
+}
+
+/// Raises a flow of value 0 until no residual path leads from a source to a sink, and answers its value.
+fn augment_all(net: &Network, s: &[u32], t: &[u32], flow: &mut FlowTable, cells: &mut [u32]) -> u128
+    requires feasible { IsFeasible net.now (one_of s.now) (one_of t.now) flow.old.flows }
+    requires zero { HasValue net.now (one_of s.now) flow.old.flows 0 }
+    requires no_loops { HasNoLoops net.now flow.old.flows }
+    requires terminals { AreTerminals net.now s.now t.now }
+    requires cells { length cells.old ≡ 6 * net.now.nodes + 2 * length net.now.arcs + 2 }
+    ensures feasible { IsFeasible net.now (one_of s.now) (one_of t.now) flow.new.flows }
+    ensures value { HasValue net.now (one_of s.now) flow.new.flows result }
+    ensures greatest { IsGreatest net.now (one_of s.now) (one_of t.now) result }
+    ensures least { IsLeastCapacity net.now (one_of s.now) (one_of t.now) result }
+    ensures loops { HasNoLoops net.now flow.new.flows }
+    ensures never_lowered { flow.old.steps ≤ flow.new.steps }
+    ensures steps { flow.new.steps ≤ flow.old.steps + 4 * (capacities net.now + 1) * net.now.nodes * length net.now.arcs }
+{
+    let n = net.nodes() as usize;
+    let m = net.len() as usize;
+    let (dist, rest) = cells.split_at_mut(n);
+    let (via, rest) = rest.split_at_mut(n);
+    let (queue, rest) = rest.split_at_mut(n);
+    let (first, rest) = rest.split_at_mut(n + 1);
+    let (halves, _) = rest.split_at_mut(2 * m);
+    pack(net, first, halves);
+    let packed = Packed { net, first, halves };
+    let mut value = 0u128;
+    while let Some(source) = find_trail(packed, flow, s, t, dist, via, queue) {
+        value += u128::from(augment(net, flow, dist, via, source));
+    }
+    value
+}
+
+/// Augments along any residual path, as long as there is one. How many it takes may grow with the capacities: it takes at
+/// most `4·(C + 1)·n·m` steps, `C` being the sum of the capacities.
+pub struct Paths;
+
+impl Method for Paths {
+    ghost steps_bound = { λ net. 4 * (capacities net + 1) * net.nodes * length net.arcs };
+
+    fn greatest(
+        net: &Network,
+        s: &[u32],
+        t: &[u32],
+        flow: &mut FlowTable,
+        work: &mut [u32],
+    ) -> u128 {
+        let (cells, _rest) = work.split_at_mut(work_len(net.nodes(), net.len()));
+        flow.clear();
+        augment_all(net, s, t, flow, cells)
+    }
+}

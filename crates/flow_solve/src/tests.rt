@@ -1,0 +1,405 @@
+ghost use Rattle.flow_net.specs.Flows.{IsFeasible};
+ghost use Rattle.std.specs.Prelude.{◌≡◌, ◌≢◌, ℕ, Bool, ◌≤◌, ◌<◌, IsTrue, IfSome, length, slice_index, take, drop};
+ghost use Rattle.flow_net.specs.Nets.{IsNode, AreTerminals, AreDistinct};
+ghost use Rattle.std.specs.List.{All};
+
+use super::*;
+use flow_net::{Arc, FlowTable, Network};
+use std::alloc::Global;
+
+/// Whether a number stands nowhere before its place.
+fn is_new(nodes: &[u32], j: usize) -> bool
+    requires { j < length nodes.now }
+    ensures { IsTrue result → (i : ℕ) → i < j → slice_index nodes.now i ≢ slice_index nodes.now j }
+{
+    for i in 0..j {
+        if nodes[i] == nodes[j] {
+            return false;
+        }
+    }
+    true
+}
+
+/// Whether no number stands twice.
+fn all_differ(nodes: &[u32]) -> bool
+    ensures { IsTrue result → AreDistinct nodes.now }
+{
+    for j in 0..nodes.len() {
+        if !is_new(nodes, j) {
+            return false;
+        }
+    }
+    true
+}
+
+/// Whether the first `k` of some nodes may be the sources of a network, and the others its sinks.
+fn may_be_terminals(net: &Network, nodes: &[u32], k: usize) -> bool
+    ensures { IsTrue result → AreTerminals net.now (take k nodes.now) (drop k nodes.now) }
+{
+    0 < k && k < nodes.len() && all_within(nodes, net.nodes()) && all_differ(nodes)
+}
+
+/// Whether all numbers are between 1 and a number.
+fn all_within(nodes: &[u32], most: u32) -> bool
+    ensures { IsTrue result → All (λ v. (1 ≤ v) × (v ≤ most)) nodes.now }
+{
+    for node in nodes {
+        if *node < 1 || most < *node {
+            return false;
+        }
+    }
+    true
+}
+
+/// A network of 2 to 1,000,000 nodes with those of some arcs that it can have.
+fn network(alloc: Global, nodes: u32, arcs: &[(u32, u32, u64)]) -> Network
+    requires least { 2 ≤ nodes }
+    requires most { nodes ≤ 1000000 }
+{
+    let mut net = Network::new(alloc, nodes);
+    for (src, dst, cap) in arcs {
+        add(&mut net, *src, *dst, *cap);
+    }
+    net
+}
+
+/// Adds an arc, if the network can have it and there is memory.
+fn add(net: &mut Network, src: u32, dst: u32, cap: u64) {
+    let nodes = net.nodes();
+    if net.len() < 8_000_000 && 1 <= src && src <= nodes && 1 <= dst && dst <= nodes {
+        let _ = net.push(Arc { src, dst, cap });
+    }
+}
+
+/// What the solver says of a network: whether the empty flow can be raised, the greatest value, the least source side and
+/// the least sink side.
+#[derive(Drop)]
+struct Answer {
+    rises: bool,
+    value: u128,
+    side: [bool; 6],
+    back: [bool; 6],
+}
+
+/// A table of an empty flow.
+fn empty_flow(alloc: Global, net: &Network) -> Option<FlowTable>
+    ensures { IfSome result (λ table. (s t : ℕ → Bool) → IsFeasible net.now s t table.flows) }
+{
+    match FlowTable::new(alloc, net) {
+        Ok(table) => Some(table),
+        Err(_) => None,
+    }
+}
+
+/// The solver's answer for a network of at most 6 nodes and 40 arcs, if the terminals are good and its searches agree.
+fn solve(alloc: Global, net: &Network, terminals: &[u32], k: usize) -> Option<Answer> {
+    let mut work = [7u32; 120];
+    let n = net.nodes() as usize;
+    if n > 6 || net.len() > 40 || !may_be_terminals(net, terminals, k) {
+        return None;
+    }
+    let mut flow = empty_flow(alloc, net)?;
+    let (s, t) = terminals.split_at(k);
+    let mut answer = Answer {
+        rises: true,
+        value: 0,
+        side: [true; 6],
+        back: [true; 6],
+    };
+    answer.rises = reach(net, s, t, &mut flow, &mut work, &mut answer.side[..n]);
+    if reach_back(net, s, t, &mut flow, &mut work, &mut answer.back[..n]) != answer.rises {
+        return None;
+    }
+    answer.value = Paths::greatest(net, s, t, &mut flow, &mut work);
+    if reach(net, s, t, &mut flow, &mut work, &mut answer.side[..n]) {
+        return None;
+    }
+    if reach_back(net, s, t, &mut flow, &mut work, &mut answer.back[..n]) {
+        return None;
+    }
+    Some(answer)
+}
+
+/// Whether a set of nodes, given by its bits, holds a node.
+fn holds(set: u32, node: u32) -> bool {
+    1 <= node && node <= 6 && (set >> (node - 1)) % 2 == 1
+}
+
+/// Whether a set holds each of some nodes, or none of them.
+fn holds_each(set: u32, nodes: &[u32], inside: bool) -> bool {
+    for node in nodes {
+        if holds(set, *node) != inside {
+            return false;
+        }
+    }
+    true
+}
+
+/// The sum of the capacities of the arcs that leave a set.
+fn capacity(net: &Network, set: u32) -> u128 {
+    let mut sum = 0u128;
+    for i in 0..net.len() {
+        let arc = net.arc(i);
+        if holds(set, arc.src) && !holds(set, arc.dst) {
+            sum = sum.wrapping_add(u128::from(arc.cap));
+        }
+    }
+    sum
+}
+
+/// The least capacity of a cut, by trying all sets of nodes.
+fn least_capacity(net: &Network, s: &[u32], t: &[u32]) -> u128 {
+    let mut least = u128::MAX;
+    for set in 0u32..64 {
+        if holds_each(set, s, true) && holds_each(set, t, false) {
+            least = least.min(capacity(net, set));
+        }
+    }
+    least
+}
+
+/// Whether each minimum cut holds a node, or none does, by trying all sets of nodes.
+fn in_each(net: &Network, s: &[u32], t: &[u32], least: u128, node: u32, inside: bool) -> bool {
+    for set in 0u32..64 {
+        if holds_each(set, s, true)
+            && holds_each(set, t, false)
+            && capacity(net, set) == least
+            && holds(set, node) != inside
+        {
+            return false;
+        }
+    }
+    true
+}
+
+/// Whether the solver answers what a trial of all sets of nodes does.
+fn agrees(alloc: Global, net: &Network, terminals: &[u32], k: usize) -> bool {
+    if terminals.len() < k {
+        return false;
+    }
+    let (s, t) = terminals.split_at(k);
+    let least = least_capacity(net, s, t);
+    let Some(answer) = solve(alloc, net, terminals, k) else {
+        return false;
+    };
+    for place in 0u32..6 {
+        let (side, back) = (answer.side[place as usize], answer.back[place as usize]);
+        if place < net.nodes()
+            && (side != in_each(net, s, t, least, place + 1, true)
+                || back != in_each(net, s, t, least, place + 1, false))
+        {
+            return false;
+        }
+    }
+    answer.rises == (least > 0) && answer.value == least
+}
+
+/// Numbers that look random.
+#[derive(Drop)]
+struct Random {
+    state: u64,
+}
+
+impl Random {
+    fn below(&mut self, limit: u64) -> u64
+        requires { 0 < limit }
+        ensures { result < limit }
+    {
+        self.state = self
+            .state
+            .wrapping_mul(6364136223846793005)
+            .wrapping_add(1442695040888963407);
+        (self.state >> 33) % limit
+    }
+}
+
+/// A node of a network of at most 6 nodes.
+fn random_node(random: &mut Random, nodes: u32) -> u32
+    requires { 1 ≤ nodes }
+{
+    1 + random.below(u64::from(nodes)) as u32
+}
+
+/// Adds arcs between any two nodes, self-loops and parallel arcs among them, small capacities and the largest.
+fn add_arcs(net: &mut Network, random: &mut Random) {
+    for _ in 0..random.below(15) {
+        let nodes = net.nodes();
+        let src = random_node(random, nodes);
+        let dst = random_node(random, nodes);
+        let cap = [0, 1, 2, 3, 5, u64::MAX][random.below(6) as usize];
+        add(net, src, dst, cap);
+    }
+}
+
+#[test]
+fn all_sets_agree(rt: HostRuntime) {
+    let mut random = Random { state: 2026 };
+    let mut tried = 0u32;
+    for _ in 0..600 {
+        let nodes = 2 + random.below(5) as u32;
+        let mut net = Network::new(rt.alloc(), nodes);
+        add_arcs(&mut net, &mut random);
+        let terminals = [
+            random_node(&mut random, nodes),
+            random_node(&mut random, nodes),
+            random_node(&mut random, nodes),
+            random_node(&mut random, nodes),
+        ];
+        let k = 1 + random.below(2) as usize;
+        let end = k + 1 + random.below(2) as usize;
+        if may_be_terminals(&net, &terminals[..end], k) {
+            assert!(&rt; agrees(rt.alloc(), &net, &terminals[..end], k));
+            tried = tried.wrapping_add(1);
+        }
+    }
+    assert!(&rt; tried > 100);
+}
+
+/// Whether the solver answers as told for a network whose first `k` terminals are the sources. The sides have a 1 for each
+/// node inside.
+fn answers(
+    alloc: Global,
+    arcs: &[(u32, u32, u64)],
+    terminals: &[u32],
+    k: usize,
+    value: u128,
+    sides: (&[u8], &[u8]),
+) -> bool {
+    let nodes = sides.0.len();
+    if nodes < 2 || 6 < nodes || sides.1.len() != nodes {
+        return false;
+    }
+    let net = network(alloc, nodes as u32, arcs);
+    let Some(answer) = solve(alloc, &net, terminals, k) else {
+        return false;
+    };
+    for place in 0..nodes {
+        if u8::from(answer.side[place]) != sides.0[place]
+            || u8::from(answer.back[place]) != sides.1[place]
+        {
+            return false;
+        }
+    }
+    answer.value == value && agrees(alloc, &net, terminals, k)
+}
+
+#[test]
+fn known_answers(rt: HostRuntime) {
+    let a = [(1, 2, 3), (1, 3, 2), (2, 3, 1), (2, 4, 2), (3, 4, 3)];
+    assert!(&rt;
+        answers(
+            rt.alloc(),
+            &a,
+            &[1, 4],
+            1,
+            5,
+            (&[1, 0, 0, 0], &[0, 0, 0, 1])
+        )
+    );
+    let b = [(1, 2, 2), (2, 3, 2)];
+    assert!(&rt; answers(rt.alloc(), &b, &[1, 3], 1, 2, (&[1, 0, 0], &[0, 0, 1])));
+    let wider = [(1, 2, 5), (2, 3, 2)];
+    assert!(&rt; answers(rt.alloc(), &wider, &[1, 3], 1, 2, (&[1, 1, 0], &[0, 0, 1])));
+    let opposite = [(1, 2, 1), (1, 2, 4), (2, 1, 7)];
+    assert!(&rt; answers(rt.alloc(), &opposite, &[1, 2], 1, 5, (&[1, 0], &[0, 1])));
+    let two_sources = [(1, 3, 2), (2, 3, 2), (3, 4, 3)];
+    assert!(&rt;
+        answers(
+            rt.alloc(),
+            &two_sources,
+            &[1, 2, 4],
+            2,
+            3,
+            (&[1, 1, 1, 0], &[0, 0, 0, 1])
+        )
+    );
+    let loops = [(1, 1, 9), (1, 2, 1000000000000)];
+    assert!(&rt;
+        answers(
+            rt.alloc(),
+            &loops,
+            &[1, 2],
+            1,
+            1000000000000,
+            (&[1, 0], &[0, 1])
+        )
+    );
+    let pairs = [(1, 2, 5), (4, 3, 7)];
+    assert!(&rt;
+        answers(
+            rt.alloc(),
+            &pairs,
+            &[1, 4, 2, 3],
+            2,
+            12,
+            (&[1, 0, 0, 1], &[0, 1, 1, 0])
+        )
+    );
+    let between_sources = [(1, 2, 4), (2, 3, 1)];
+    assert!(&rt;
+        answers(
+            rt.alloc(),
+            &between_sources,
+            &[1, 2, 3],
+            2,
+            1,
+            (&[1, 1, 0], &[0, 0, 1])
+        )
+    );
+    let apart = [(1, 2, 1), (2, 3, 1), (4, 3, 1)];
+    assert!(&rt;
+        answers(
+            rt.alloc(),
+            &apart,
+            &[1, 3],
+            1,
+            1,
+            (&[1, 0, 0, 0], &[0, 0, 1, 1])
+        )
+    );
+    assert!(&rt; answers(rt.alloc(), &[], &[1, 3], 1, 0, (&[1, 0, 0], &[0, 0, 1])));
+    let most = u64::MAX;
+    let largest = [(1, 2, most), (1, 2, most), (1, 2, most)];
+    assert!(&rt;
+        answers(
+            rt.alloc(),
+            &largest,
+            &[1, 2],
+            1,
+            55340232221128654845,
+            (&[1, 0], &[0, 1])
+        )
+    );
+    let backwards = [(2, 1, 3), (1, 3, 1), (3, 2, 1), (2, 2, 5)];
+    assert!(&rt;
+        answers(
+            rt.alloc(),
+            &backwards,
+            &[1, 2],
+            1,
+            1,
+            (&[1, 0, 0], &[0, 1, 0])
+        )
+    );
+}
+
+#[test]
+fn a_long_chain(rt: HostRuntime) {
+    let mut net = Network::new(rt.alloc(), 100_000);
+    for i in 0u32..99_999 {
+        let v = 99_999 - i;
+        add(&mut net, v, v + 1, u64::from(v));
+    }
+    let net = net;
+    let (s, t) = ([1], [100_000]);
+    if may_be_terminals(&net, &[1, 100_000], 1) && net.nodes() == 100_000 {
+        let mut flow = FlowTable::new(rt.alloc(), &net).expect(&rt, "memory");
+        let len = work_len(net.nodes(), net.len());
+        let mut work = Vec::from_elem(rt.alloc(), 0u32, len).expect(&rt, "memory");
+        let mut side = Vec::from_elem(rt.alloc(), false, 100_000).expect(&rt, "memory");
+        assert_eq!(&rt; Paths::greatest(&net, &s, &t, &mut flow, &mut work), 1);
+        assert!(&rt; !reach(&net, &s, &t, &mut flow, &mut work, &mut side));
+        assert!(&rt; side[0]);
+        assert!(&rt; !side[1..].contains(&true));
+    }
+}

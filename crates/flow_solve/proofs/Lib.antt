@@ -8,3 +8,12 @@ pub mod Queues
 pub mod Raises
 pub mod Routes
 pub mod Sweeps
+pub mod Falls
+pub mod Places
+pub mod Descents
+pub mod Bounds
+pub mod Distances
+pub mod Ranks
+pub mod Walks
+pub mod Levelled
+pub mod Turning

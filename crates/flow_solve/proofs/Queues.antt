@@ -1,12 +1,12 @@
 -- The queue of a search, and sums over it.
-use Rattle.std.proofs.Common.{[], ◌∷◌, ◌≡◌, ◌≢◌, ℕ, zero, suc, ◌+◌, ◌-◌, ◌*◌, ◌≤◌, ◌<◌, Bool, IsTrue, cond, List, length, get_or, set, ◌∙◌, refl, sym, ap, subst, inl, inr, add-one, below_more, get_or-set_same, get_or-set_other, length-set, arith}
+use Rattle.std.proofs.Common.{[], ◌∷◌, ◌≡◌, ◌≢◌, ℕ, zero, suc, ◌+◌, ◌-◌, ◌*◌, ◌≤◌, ◌<◌, Bool, cond, List, length, get_or, set, ◌∙◌, refl, sym, ap, subst, inl, inr, add-one, below_more, get_or-set_same, get_or-set_other, length-set, arith}
 use Rattle.std.proofs.Math.Dec.{ltb}
 use Rattle.std.proofs.lemmas.Bool.{cases_eq, cases_lt, lt-ltb, le-ltb}
 use Rattle.flow_net.specs.Nets.{Net}
 use Rattle.flow_net.specs.NodeSets.{one_of}
 use Rattle.flow_net.specs.Residual.{residual}
 use Rattle.flow_solve.specs.declared.searching.Direction.{Direction}
-use Rattle.flow_solve.specs.Searches.{IsMarked, HoldsMarked, spread, queued, IsQueue, IsNear, HasGrown, IsCount, wanted_at, near_end, far_end, IsCome}
+use Rattle.flow_solve.specs.Searches.{IsMarked, spread, queued, IsQueue, IsNear, HasGrown, IsCount, wanted_at, near_end, far_end, IsCome}
 
 -- the sum over all of the first places
 abbrev pub total : (ℕ → ℕ) → ℕ → ℕ

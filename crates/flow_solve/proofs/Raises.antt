@@ -16,7 +16,8 @@ use Rattle.flow_net.proofs.AugmentingPaths.{climbs_apart, augmented, no_loops_cl
 use Rattle.flow_net.proofs.ZeroFlows.{value_bounded}
 use Rattle.flow_solve.specs.declared.searching.Direction.TheVariants.{Backwards}
 use Rattle.flow_solve.specs.Searches.{IsMarked, IsSearched, IsWhole}
-use Rattle.flow_solve.specs.Trails.{trail_from, capacities}
+use Rattle.flow_solve.specs.Bounds.{capacities}
+use Rattle.flow_solve.specs.Trails.{trail_from}
 use Rattle.flow_solve.proofs.Routes.{nearness, searched_trails, trail_is, sink_at, sink_no_source, terminals_apart}
 use Rattle.flow_solve.proofs.Outcomes.{backward_tight}
 

@@ -15,6 +15,7 @@ pub record IsSwept (net : Net) (flows : List ℕ) (dir : Direction) (starts dist
   pub order : IsQueue dist queue tail
   pub near : at < tail → IsNear dist (get_or dist (get_or queue at 0) 0 + 1)
   pub entered : (i : ℕ) → i < length starts → IsMarked dist (get_or starts i 0 - 1)
+  pub zeros : (i : ℕ) → i < length starts → get_or dist (get_or starts i 0 - 1) 0 ≡ 0
   pub done : (i : ℕ) → i < at → IsDone net flows dir dist (get_or queue i 0)
   pub come : (p : ℕ) → p < net.nodes → IsMarked dist p → ((get_or dist p 0 ≡ 0) × IsTrue (one_of starts (p + 1))) ⊎ IsCome net flows dir dist via p
   pub only : (side : ℕ → Bool) → HoldsAll starts side → IsClosedFor dir net flows side → HoldsMarked net.nodes dist side
@@ -23,6 +24,7 @@ pub searched : (net : Net) (flows : List ℕ) (dir : Direction) (starts dist via
 searched net flows dir starts dist via queue tail at s = record {
   size = s.cells;
   begun = s.entered;
+  zeros = s.zeros;
   come = s.come;
   levels = λ p l m. let r = s.order.levels p (omega (arith, s.cells)) m in let short = queue_short dist queue tail s.order in omega (arith, s.cells);
   even = λ p l m. let w = s.order.waits p (omega (arith, s.cells)) m in elim (cases_lt w.0 at) [

@@ -1,3 +1,5 @@
+pub mod Bounds
 pub mod Packs
 pub mod Searches
 pub mod Trails
+pub mod Levels

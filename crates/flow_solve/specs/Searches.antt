@@ -114,6 +114,7 @@ IsDone net flows dir dist p = (h : ℕ) → h < 2 * length net.arcs → group_of
 pub record IsSearched (net : Net) (flows : List ℕ) (dir : Direction) (starts dist via : List ℕ) : Type 0 where
   pub size : length dist ≡ net.nodes
   pub begun : (i : ℕ) → i < length starts → IsMarked dist (slice_index starts i - 1)
+  pub zeros : (i : ℕ) → i < length starts → slice_index dist (slice_index starts i - 1) ≡ 0
   pub come : (p : ℕ) → p < net.nodes → IsMarked dist p → ((slice_index dist p ≡ 0) × IsTrue (one_of starts (p + 1))) ⊎ IsCome net flows dir dist via p
   pub levels : (p : ℕ) → p < net.nodes → IsMarked dist p → slice_index dist p < net.nodes
   pub even : (p : ℕ) → p < net.nodes → IsMarked dist p → IsDone net flows dir dist p ⊎ IsNear dist (slice_index dist p + 1)

@@ -1,5 +1,5 @@
 -- Trails: the paths that a search backwards leaves, from each node that it has seen to a sink.
-use Rattle.std.specs.Prelude.{◌≡◌, ℕ, zero, suc, ◌-◌, ◌≤◌, ◌<◌, List, [], ◌∷◌, length, slice_index, sum_by}
+use Rattle.std.specs.Prelude.{◌≡◌, ℕ, zero, suc, ◌-◌, ◌≤◌, ◌<◌, List, [], ◌∷◌, length, slice_index}
 use Rattle.flow_net.specs.Nets.{Net}
 use Rattle.flow_net.specs.Residual.{head_of}
 use Rattle.flow_solve.specs.declared.searching.Direction.TheVariants.{Backwards}
@@ -20,7 +20,3 @@ pub record AreTrails (net : Net) (flows dist via : List ℕ) : Type 0 where
   pub via_size : length via ≡ net.nodes
   pub come : (p : ℕ) → p < net.nodes → IsMarked dist p → 1 ≤ slice_index dist p → IsCome net flows Backwards dist via p
   pub levels : (p : ℕ) → p < net.nodes → IsMarked dist p → slice_index dist p < net.nodes
-
--- the sum of the capacities
-abbrev pub capacities : Net → ℕ
-capacities net = sum_by (λ a. a.cap) net.arcs

@@ -1,12 +1,37 @@
-//! Maximum flows and minimum cuts, found within cells that are lent: no call of this crate takes memory or refuses.
+//! Maximum flows and minimum cuts.
+//!
+//! Given a network with sources and sinks, a [`Method`] leaves a feasible flow of the greatest value in a table; after it
+//! [`reach`] and [`reach_back`] tell the least source side and the least sink side of the minimum cuts. By the theorem of
+//! Ford and Fulkerson (1956) the greatest value of a flow is the least capacity of a cut, and a flow has it where no path
+//! of the residual network leads from a source to a sink.
+//!
+//! Everything here goes over *half-arcs*: half-arc `2·i` runs along arc `i` and half-arc `2·i + 1` against it, where flow
+//! can be taken back. A solver gets at flows by the looks and pushes of [`flow_net::FlowTable`] alone, and each of these is
+//! a counted step; the ends of arcs it may read freely.
+//!
+//! No call takes memory or refuses: all work is done in the first [`work_len`] cells of a slice that the caller lends. A
+//! cell holds a half-arc, a place or a distance. With `n` nodes and `m` arcs there are, in this order:
+//!
+//! | Cells | What they hold |
+//! |---|---|
+//! | `n` | each node's distance in the last search |
+//! | `n` | the half-arc over which the search came to it |
+//! | `n` | the search's queue |
+//! | `n + 1` | where each node's half-arcs begin in the next cells |
+//! | `2·m` | the half-arcs, those of a node side by side |
+//! | `2·n + 1` | spare |
 #![tactic(auto)]
 
+mod levels;
 mod method;
 mod packing;
 mod paths;
+mod phases;
 mod reaching;
 mod searching;
+mod walking;
 
+pub use levels::Levels;
 pub use method::{Method, work_len};
 pub use paths::Paths;
 pub use reaching::{reach, reach_back};

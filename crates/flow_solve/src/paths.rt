@@ -1,4 +1,8 @@
-//! Augmentation along any residual path (Ford and Fulkerson 1956).
+//! Augmentation along residual paths (Ford and Fulkerson 1956).
+//!
+//! A search backwards from the sinks gives each node that it sees the half-arc over which it came. These half-arcs lead on
+//! from any such node to a sink, each to a node nearer by one: the node's *trail*. So a path needs no cells of its own. It
+//! is walked twice, once to find the least residual capacity and once to push so much.
 ghost use Rattle.std.specs.Prelude.{◌≡◌, ℕ, ◌+◌, ◌-◌, ◌*◌, ◌<◌, ◌≤◌, IsTrue, IsFalse, IfSome, IfNone, length, slice_index, sum_by};
 ghost use Rattle.std.specs.List.{All};
 ghost use Rattle.flow_net.specs.Nets.{Net, IsNode, AreTerminals};
@@ -8,7 +12,8 @@ ghost use Rattle.flow_net.specs.Paths.{HasRoom, push_all};
 ghost use Rattle.flow_net.specs.Cuts.{IsLeastCapacity};
 ghost use Rattle.flow_solve.specs.Packs.{IsPacked};
 ghost use Rattle.flow_solve.specs.Searches.{IsMarked, IsSearched, IsWhole, seen};
-ghost use Rattle.flow_solve.specs.Trails.{AreTrails, trail_from, capacities};
+ghost use Rattle.flow_solve.specs.Bounds.{paths_bound};
+ghost use Rattle.flow_solve.specs.Trails.{AreTrails, trail_from};
 
 use crate::method::{Method, work_len};
 use crate::packing::{Packed, pack};
@@ -142,7 +147,7 @@ fn augment_all(net: &Network, s: &[u32], t: &[u32], flow: &mut FlowTable, cells:
     ensures least { IsLeastCapacity net.now (one_of s.now) (one_of t.now) result }
     ensures loops { HasNoLoops net.now flow.new.flows }
     ensures never_lowered { flow.old.steps ≤ flow.new.steps }
-    ensures steps { flow.new.steps ≤ flow.old.steps + 4 * (capacities net.now + 1) * net.now.nodes * length net.now.arcs }
+    ensures steps { flow.new.steps ≤ flow.old.steps + paths_bound net.now }
 {
     let n = net.nodes() as usize;
     let m = net.len() as usize;
@@ -160,12 +165,14 @@ fn augment_all(net: &Network, s: &[u32], t: &[u32], flow: &mut FlowTable, cells:
     value
 }
 
-/// Augments along any residual path, as long as there is one. How many it takes may grow with the capacities: it takes at
-/// most `4·(C + 1)·n·m` steps, `C` being the sum of the capacities.
+/// Augments along a residual path as long as there is one, with a search for each.
+///
+/// It takes at most `4·(C + 1)·n·m` steps, `C` being the sum of the capacities: that is what is proved. As its paths are
+/// shortest ones, it takes no more than some `n·m` searches either (Edmonds and Karp 1972). It suits small networks.
 pub struct Paths;
 
 impl Method for Paths {
-    ghost steps_bound = { λ net. 4 * (capacities net + 1) * net.nodes * length net.arcs };
+    ghost steps_bound = { paths_bound };
 
     fn greatest(
         net: &Network,

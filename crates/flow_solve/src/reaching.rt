@@ -1,4 +1,7 @@
-//! The least sides of the minimum cuts, found by a search from a greatest flow.
+//! The least sides of the minimum cuts, by one search of the residual network of a greatest flow.
+//!
+//! What the sources reach there is the least source side, and what reaches a sink is the least sink side: whichever
+//! greatest flow it is, and though there may be many minimum cuts.
 ghost use Rattle.std.specs.Prelude.{◌≡◌, ℕ, ◌+◌, ◌*◌, ◌<◌, ◌≤◌, ◌↔◌, true, false, not, IsTrue, IsFalse, length, drop};
 ghost use Rattle.std.specs.List.{All};
 ghost use Rattle.flow_net.specs.Nets.{Net, IsNode, AreTerminals};

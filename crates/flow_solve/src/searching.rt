@@ -1,4 +1,11 @@
 //! Breadth-first searches of the residual network: forwards from sources, or backwards from sinks.
+//!
+//! There is one loop for both directions. It walks the half-arcs that leave a node. Forwards it may go over such a
+//! half-arc, and backwards over its twin, which runs towards the node; in both cases to the node at the other end. It reads
+//! that end first, which is no step, and looks only if the node is unseen.
+//!
+//! A search can stop early: the nodes that it looks out for have a distance of their own while they are unseen, so that it
+//! counts them as it enters them.
 ghost use Rattle.std.specs.Prelude.{◌⊎◌, ◌≡◌, ℕ, Bool, List, IsTrue, ◌+◌, ◌-◌, ◌*◌, ◌<◌, ◌≤◌, length, slice_index};
 ghost use Rattle.std.specs.List.{All};
 ghost use Rattle.flow_net.specs.Nets.{Net, IsNode};

@@ -91,7 +91,8 @@ fn empty_flow(alloc: Global, net: &Network) -> Option<FlowTable>
     }
 }
 
-/// The solver's answer for a network of at most 6 nodes and 40 arcs, if the terminals are good and its searches agree.
+/// The solvers' answer for a network of at most 6 nodes and 40 arcs, if the terminals are good and they and their searches
+/// agree.
 fn solve(alloc: Global, net: &Network, terminals: &[u32], k: usize) -> Option<Answer> {
     let mut work = [7u32; 120];
     let n = net.nodes() as usize;
@@ -111,6 +112,9 @@ fn solve(alloc: Global, net: &Network, terminals: &[u32], k: usize) -> Option<An
         return None;
     }
     answer.value = Paths::greatest(net, s, t, &mut flow, &mut work);
+    if Levels::greatest(net, s, t, &mut flow, &mut work) != answer.value {
+        return None;
+    }
     if reach(net, s, t, &mut flow, &mut work, &mut answer.side[..n]) {
         return None;
     }
@@ -401,5 +405,33 @@ fn a_long_chain(rt: HostRuntime) {
         assert!(&rt; !reach(&net, &s, &t, &mut flow, &mut work, &mut side));
         assert!(&rt; side[0]);
         assert!(&rt; !side[1..].contains(&true));
+    }
+}
+
+#[test]
+fn two_paths_and_a_thin_one_between(rt: HostRuntime) {
+    let c = 1000000000000;
+    let net = [(1, 2, c), (1, 3, c), (2, 3, 1), (2, 4, c), (3, 4, c)];
+    let sides: (&[u8], &[u8]) = (&[1, 0, 0, 0], &[0, 0, 0, 1]);
+    assert!(&rt; answers(rt.alloc(), &net, &[1, 4], 1, 2000000000000, sides));
+}
+
+#[test]
+fn a_star(rt: HostRuntime) {
+    let mut net = Network::new(rt.alloc(), 200_002);
+    for i in 0u32..200_000 {
+        add(&mut net, 1, i + 2, 1);
+        add(&mut net, i + 2, 200_002, 1);
+    }
+    let net = net;
+    let (s, t) = ([1], [200_002]);
+    if may_be_terminals(&net, &[1, 200_002], 1) && net.nodes() == 200_002 {
+        let mut flow = FlowTable::new(rt.alloc(), &net).expect(&rt, "memory");
+        let len = work_len(net.nodes(), net.len());
+        let mut work = Vec::from_elem(rt.alloc(), 0u32, len).expect(&rt, "memory");
+        assert_eq!(&rt;
+            Levels::greatest(&net, &s, &t, &mut flow, &mut work),
+            200_000
+        );
     }
 }

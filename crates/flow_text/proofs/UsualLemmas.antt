@@ -5,7 +5,7 @@ use Rattle.std.specs.Char.{is_ascii_digit}
 use Rattle.std.specs.Str.{all_ascii_digits}
 use Rattle.std.proofs.lemmas.Grind.{common_steps}
 use Rattle.std.proofs.lemmas.Bool.{true≢false}
-use Rattle.std.proofs.lemmas.List.{take-append-drop, drop-drop, length-take-le, take_more, get_or_append_left}
+use Rattle.std.proofs.lemmas.List.{take-append-drop, drop-drop, get_or-drop, length-drop, length-take-le, take_more, get_or_append_left}
 use Rattle.std.proofs.lemmas.List.Elements.{All-cons, All-append, All-get_or}
 use Rattle.std.proofs.Math.Nat.{pow-suc}
 use Rattle.std.proofs.Math.Seq.{take-append_seam, get_or-append_seam}
@@ -16,7 +16,7 @@ use Rattle.flow_text.specs.Digits.{value_of, is_number}
 use Rattle.flow_text.specs.Rules.{is_comment}
 use Rattle.flow_text.specs.Tests.{first_failed, ends_tests}
 use Rattle.flow_text.specs.declared.faults.FaultCode.{FaultCode}
-use Rattle.flow_text.specs.UsualLines.{IsNumberUntil, IsLetter, IsUsual}
+use Rattle.flow_text.specs.UsualLines.{IsLeading, IsNumberUntil, IsLetter, IsUsual}
 use Rattle.flow_text.proofs.FieldLemmas.{fields_of-field, fields_of-blank, fields_of-last}
 
 -- one digit more
@@ -38,23 +38,18 @@ pub digits-push : (xs : List ℕ) (c : ℕ) → all_ascii_digits xs ≡ true →
 digits-push [] c h digit = rw digit refl
 digits-push (x ∷ xs) c h digit = let parts = and-parts (is_ascii_digit x) (all_ascii_digits xs) h in rw (parts.0) (digits-push xs c parts.1 digit)
 
--- the first digits, and one more
-pub record IsCounted (text : List ℕ) (value i : ℕ) : Type 0 where
-  pub digits : all_ascii_digits (take i text) ≡ true
-  pub value_is : value ≡ value_of (take i text)
-  pub fits : value < 10 ^ i
-
-pub IsCounted-more : (text : List ℕ) (value i : ℕ) → i < length text → is_ascii_digit (get_or text i 0) ≡ true → get_or text i 0 - 48 ≤ 9 → IsCounted text value i
-    → IsCounted text (value * 10 + (get_or text i 0 - 48)) (i + 1)
-IsCounted-more text value i inside digit nine so = record {
+-- one digit more
+pub IsLeading-more : (text : List ℕ) (value i : ℕ) → i < length text → is_ascii_digit (get_or text i 0) ≡ true → get_or text i 0 - 48 ≤ 9 → IsLeading text value i
+    → IsLeading text (value * 10 + (get_or text i 0 - 48)) (i + 1)
+IsLeading-more text value i inside digit nine so = record {
   digits = rw (take_more text i 0 inside) (digits-push (take i text) (get_or text i 0) so.digits digit);
   value_is = rw (take_more text i 0 inside) (ap (λ v. v * 10 + (get_or text i 0 - 48)) so.value_is ∙ sym (value_of-push (take i text) (get_or text i 0)));
   fits = let f = so.fits in rw (add-one, pow-suc 10 i) (omega arith);
 }
 
-pub IsCounted-none : (text : List ℕ) → IsCounted text 0 0
+pub IsLeading-none : (text : List ℕ) → IsLeading text 0 0
 unfolding value_of
-IsCounted-none text = record { digits = refl; value_is = refl; fits = omega arith }
+IsLeading-none text = record { digits = refl; value_is = refl; fits = omega arith }
 
 -- digits are no blanks, and they end no line
 All-digits : (P : ℕ → Type 0) → ((c : ℕ) → is_ascii_digit c ≡ true → P c) → (xs : List ℕ) → all_ascii_digits xs ≡ true → All P xs
@@ -147,13 +142,13 @@ IsUsual-from letter text src dst number first second third l long is_letter is_b
     ∙ ap (λ rest. d ++ 32 ∷ rest) (b_end ∙ split-number (drop (first + second + 4) text) 10 number third c))) in
     let line = usual letter s d n in
     let is : text ≡ line ++ 10 ∷ more = text-usual letter text s d n more whole in
-    let a_len = length-take-le first (drop 2 text) a.leading.within in
-    let b_len = length-take-le second (drop (first + 3) text) b.leading.within in
-    let c_len = length-take-le third (drop (first + second + 4) text) c.leading.within in
+    let a_len = length-take-le first (drop 2 text) (omega arith) in
+    let b_len = length-take-le second (drop (first + 3) text) (omega (arith, b.within)) in
+    let c_len = length-take-le third (drop (first + second + 4) text) (omega (arith, c.within)) in
     let len : length line ≡ first + second + third + 4 = length-usual letter s d n ∙ omega arith in
     let taken : take (first + second + third + 4) text ≡ line = ap (λ k. take k text) (sym len) ∙ ap (take (length line)) is ∙ take-append_seam line (10 ∷ more) in
     let a_some = a.some in let b_some = b.some in let c_some = c.some in
-    let a_short = a.leading.short in let b_short = b.leading.short in let c_short = c.leading.short in
+    let a_short = a.short in let b_short = b.short in let c_short = c.short in
     record {
       first = subst (λ k. IsFirstByte (is_byte 10) text (Some k)) len (subst (λ t. IsFirstByte (is_byte 10) t (Some (length line))) (sym is)
           (first-end line more (inside-usual letter s d n l.inner a.leading.digits b.leading.digits c.leading.digits)));
@@ -170,6 +165,31 @@ IsUsual-from letter text src dst number first second third l long is_letter is_b
       number_digits = number-of n (omega arith) c.leading.digits;
       number_value = sym c.leading.value_is;
     }
+
+-- the same by the places of the bytes behind the numbers
+pub IsUsual-at : (letter : ℕ) (text : List ℕ) (src dst number first second at : ℕ) → IsLetter letter → 2 ≤ length text → get_or text 0 0 ≡ letter → get_or text 1 0 ≡ 32
+    → 2 ≤ first → first + 1 ≤ second → second + 1 ≤ at
+    → IsNumberUntil (drop 2 text) 32 src (first - 2) → IsNumberUntil (drop (first + 1) text) 32 dst (second - (first + 1)) → IsNumberUntil (drop (second + 1) text) 10 number (at - (second + 1))
+    → IsUsual letter text src dst number at
+IsUsual-at letter text src dst number first second at l long is_letter is_blank' low_first low_second low_at a b c =
+    let b_at : first + 1 ≡ first - 2 + 3 = omega arith in
+    let c_at : second + 1 ≡ first - 2 + (second - (first + 1)) + 4 = omega arith in
+    let last : first - 2 + (second - (first + 1)) + (at - (second + 1)) + 4 ≡ at = omega arith in
+    subst (λ k. IsUsual letter text src dst number k) last (IsUsual-from letter text src dst number (first - 2) (second - (first + 1)) (at - (second + 1)) l long is_letter is_blank' a
+    (subst (λ k. IsNumberUntil (drop k text) 32 dst (second - (first + 1))) b_at b)
+    (subst (λ k. IsNumberUntil (drop k text) 10 number (at - (second + 1))) c_at c))
+
+-- a digit more, by its place in the whole text
+pub IsLeading-at : (text : List ℕ) (value start i : ℕ) → start ≤ i → i < length text → is_ascii_digit (get_or text i 0) ≡ true → get_or text i 0 - 48 ≤ 9 → IsLeading (drop start text) value (i - start)
+    → IsLeading (drop start text) (value * 10 + (get_or text i 0 - 48)) (i + 1 - start)
+IsLeading-at text value start i low inside digit nine so =
+    let place : start + (i - start) ≡ i = omega arith in
+    let same : get_or (drop start text) (i - start) 0 ≡ get_or text i 0 = get_or-drop start text (i - start) 0 ∙ ap (λ k. get_or text k 0) place in
+    let next : i - start + 1 ≡ i + 1 - start = omega arith in
+    let long : i - start < length (drop start text) = omega (arith, length-drop start text) in
+    subst (λ k. IsLeading (drop start text) (value * 10 + (get_or text i 0 - 48)) k) next
+    (subst (λ d. IsLeading (drop start text) (value * 10 + (d - 48)) (i - start + 1)) same
+    (IsLeading-more (drop start text) value (i - start) long (rw same digit) (rw same nine) so))
 
 -- the tests of such a line pass
 pub ends-pass : (nodes : ℕ) (code : FaultCode) (letter src dst number : List ℕ)

@@ -1,5 +1,5 @@
 -- The usual form of an arc line and of a flow line: the letter, one blank, and three numbers with one blank between them.
-use Rattle.std.specs.Prelude.{◌≡◌, ℕ, ◌<◌, ◌≤◌, true, false, List, [], ◌∷◌, length, take, slice_index, Some}
+use Rattle.std.specs.Prelude.{◌≡◌, ℕ, ◌^◌, ◌<◌, ◌≤◌, true, false, List, [], ◌∷◌, length, take, slice_index, Some}
 use Rattle.std.specs.Str.{all_ascii_digits}
 use Rattle.memchr.specs.Find.{IsFirstByte, is_byte}
 use Rattle.flow_text.specs.Lines.{is_end}
@@ -7,17 +7,17 @@ use Rattle.flow_text.specs.Fields.{fields_of, is_blank}
 use Rattle.flow_text.specs.Digits.{value_of, is_number}
 use Rattle.flow_text.specs.Rules.{is_comment}
 
--- the first bytes, so many and at most 19, are digits of this value
+-- the first bytes, so many, are digits of this value
 pub record IsLeading (text : List ℕ) (value count : ℕ) : Type 0 where
-  pub within : count ≤ length text
-  pub short : count ≤ 19
   pub digits : all_ascii_digits (take count text) ≡ true
   pub value_is : value ≡ value_of (take count text)
+  pub fits : value < 10 ^ count
 
 -- the first bytes, so many and at most 19, are a number of this value, and this byte is behind them
 pub record IsNumberUntil (text : List ℕ) (end value count : ℕ) : Type 0 where
   pub leading : IsLeading text value count
   pub some : 0 < count
+  pub short : count ≤ 19
   pub within : count < length text
   pub ends : slice_index text count ≡ end
 

@@ -1,16 +1,19 @@
 //! The usual form of an arc line and of a flow line, read in one pass: the letter, one blank, and three numbers of at most 19
 //! digits with one blank between them.
-ghost use Rattle.std.specs.Prelude.{◌≡◌, ◌+◌, ◌<◌, ◌≤◌, ℕ, length, IfSome};
+ghost use Rattle.std.specs.Prelude.{◌+◌, ◌-◌, ◌≤◌, length, drop, IfSome};
 ghost use Rattle.flow_text.specs.UsualLines.{IsLeading, IsNumberUntil, IsLetter, IsUsual};
 
-// The value of the digits that the text begins with, at most 19, and how many they are.
+// The value of the digits from `start` on, at most 19, and the place behind them.
 #[inline(always)]
-fn leading_digits(text: &[u8]) -> (u64, usize)
-    ensures { IsLeading text.now result.0 result.1 }
+fn leading_digits(text: &[u8], start: usize) -> (u64, usize)
+    requires { start ≤ length text.now }
+    ensures low { start ≤ result.1 }
+    ensures short { result.1 ≤ start + 19 }
+    ensures leading { IsLeading (drop start text.now) result.0 (result.1 - start) }
 {
-    let most = text.len().min(19);
+    let most = text.len().min(start + 19);
     let mut value: u64 = 0;
-    for i in 0..most {
+    for i in start..most {
         if !text[i].is_ascii_digit() {
             return (value, i);
         }
@@ -19,18 +22,18 @@ fn leading_digits(text: &[u8]) -> (u64, usize)
     (value, most)
 }
 
-// The value of the number that the text begins with, where it has at most 19 digits and this byte is behind it, and where
-// that byte is.
+// The value of the number that begins at `start`, where it has at most 19 digits and this byte is behind it, and the place of
+// that byte.
 #[inline(always)]
-fn number_until(text: &[u8], end: u8) -> Option<(u64, usize)>
-    ensures { IfSome result (λ found. IsNumberUntil text.now end found.0 found.1) }
+fn number_until(text: &[u8], start: usize, end: u8) -> Option<(u64, usize)>
+    requires { start ≤ length text.now }
+    ensures { IfSome result (λ found. (start ≤ found.1) × IsNumberUntil (drop start text.now) end found.0 (found.1 - start)) }
 {
-    let (value, count) = leading_digits(text);
-    if count > 0 && count < text.len() && text[count] == end {
-        Some((value, count))
-    } else {
-        None
+    let (value, at) = leading_digits(text, start);
+    if at == start || at >= text.len() || text[at] != end {
+        return None;
     }
+    Some((value, at))
 }
 
 /// The three numbers of the line that the text begins with and the place of its byte 10, where it has the usual form.
@@ -42,8 +45,8 @@ pub(crate) fn usual_line(text: &[u8], letter: u8) -> Option<(u64, u64, u64, usiz
     if text.len() < 2 || text[0] != letter || text[1] != b' ' {
         return None;
     }
-    let (src, first) = number_until(&text[2..], b' ')?;
-    let (dst, second) = number_until(&text[first + 3..], b' ')?;
-    let (number, third) = number_until(&text[first + second + 4..], b'\n')?;
-    Some((src, dst, number, first + second + third + 4))
+    let (src, first) = number_until(text, 2, b' ')?;
+    let (dst, second) = number_until(text, first + 1, b' ')?;
+    let (number, at) = number_until(text, second + 1, b'\n')?;
+    Some((src, dst, number, at))
 }

@@ -1,7 +1,7 @@
 use Rattle.std.proofs.Common.{◌≡◌, ◌+◌, ◌-◌, ◌*◌, ◌≤◌, length}
 use Rattle.flow_net.specs.NodeSets.{one_of}
 use Rattle.flow_net.specs.Flows.{IsFeasible, HasValue, HasNoLoops}
-use Rattle.flow_solve.specs.Trails.{capacities}
+use Rattle.flow_solve.specs.Bounds.{capacities}
 use Rattle.flow_solve.proofs.paths.augment_all.Given as goal
 
 abbrev pub invariant-loop-source : goal.invariant-loop-source

@@ -22,6 +22,7 @@ loop-at-init c =
         order = starts.queue;
         near = λ l p m. omega (arith, starts.near p m);
         entered = starts.begun;
+        zeros = λ i l. omega (arith, starts.near (get_or c.args.plan.starts.now i 0 - 1) (starts.begun i l));
         done = λ i l. absurd (omega arith);
         come = λ p l m. inl (omega (arith, starts.near p m), starts.come p (omega arith) m);
         only = λ side all closed p l m. all (p + 1) (starts.come p (omega arith) m);
@@ -66,6 +67,7 @@ loop-at-preserved c =
         order = now.queue;
         near = λ m p marked. let r = now.near p marked in let s = now.queue.rises c.loop-at.at (c.loop-at.at + 1) (omega arith) m in omega (arith, r, s, level);
         entered = λ i m. grows (get_or c.args.plan.starts.now i 0 - 1) (swept.entered i m);
+        zeros = λ i m. (now.grown.kept (get_or c.args.plan.starts.now i 0 - 1) (swept.entered i m)).0 ∙ swept.zeros i m;
         done = below_more (λ i. IsDone net flows dir dist' (get_or queue' i 0)) c.loop-at.at
             (λ i m h b e r.
             let was = swept.done i m h b (e ∙ ahead i m) r in let kept = (now.grown.kept (head_of net h - 1) was.0).0 in let same = level_at i (omega arith) in

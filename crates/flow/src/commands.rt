@@ -1,0 +1,170 @@
+//! The commands that the program understands, with the help that it prints for each.
+
+ghost use Rattle.std.specs.Prelude.{◌≡◌, Some, codes};
+
+use clap::{Arg, ArgAction, Command, Error};
+use std::alloc::Global;
+
+const STATUSES: &str = "Exit status:
+  0  done
+  2  the command line is refused
+  3  the problem has a fault; standard error tells its line and what is wrong
+  4  a file, a stream or memory failed; standard error tells which";
+
+const SOLVE: &str = "Reads a maximum flow problem in the DIMACS format and prints
+  s VALUE          the greatest value that a flow has
+  f SRC DST FLOW   a flow of that value: a line for each arc, in their order";
+
+const CUT: &str = "Reads a maximum flow problem in the DIMACS format and prints
+  s VALUE          the least capacity that a cut has
+  n NODE           the nodes on the source side of such a cut, rising
+Of all minimum cuts it is the one nearest the sources: a node is printed only if
+it lies on the source side of every minimum cut.";
+
+const CONNECT: &str = "Reads a problem in the DIMACS maximum flow format and prints
+  k VALUE          the edge connectivity of its network: the least number of arc
+                   lines that leave a set of nodes, neither empty nor all
+Parallel arcs count one by one, and self-loops and capacities don't count.";
+
+const CHECK: &str = "Reads a problem and a solution in the DIMACS format and prints a verdict, the
+first that applies:
+  over SRC DST FLOW CAP    the flow from SRC to DST passes the capacity
+  unbalanced NODE IN OUT   what enters the node isn't what leaves it
+  value GIVEN FOUND        the value of the s line isn't that of the flow
+  not-maximal VALUE        a flow of greater value exists
+  optimal VALUE            no flow has a greater value";
+
+const CHECK_STATUSES: &str = "Exit status:
+  0  the solution is optimal, or feasible where that is asked for
+  1  it isn't; standard output tells why
+  2  the command line is refused
+  3  the problem or the solution has a fault; standard error tells its line and
+     what is wrong
+  4  a file, a stream or memory failed; standard error tells which";
+
+/// All commands. Their only error is that memory was refused.
+pub fn commands<'a>(alloc: Global) -> Result<Command<'a>, Error> {
+    let flow = Command::new(alloc, "flow")
+        .version("0.1.0")
+        .about("Maximum flows, minimum cuts and edge connectivity of networks in the DIMACS format")
+        .after_help(STATUSES);
+    Ok(
+        flow.subcommand(solve(alloc)?)?
+            .subcommand(cut(alloc)?)?
+            .subcommand(connect(alloc)?)?
+            .subcommand(check(alloc)?)?,
+    )
+}
+
+// `flow solve [--value] [FILE]`
+fn solve<'a>(alloc: Global) -> Result<Command<'a>, Error> {
+    let solve = Command::new(alloc, "solve")
+        .about("Print a maximum flow")
+        .long_about(SOLVE)
+        .after_help(STATUSES);
+    Ok(
+        solve
+            .arg(flag(alloc, "value", "Print the value alone"))?
+            .arg(problem(alloc))?,
+    )
+}
+
+// `flow cut [--arcs] [--sink] [FILE]`
+fn cut<'a>(alloc: Global) -> Result<Command<'a>, Error> {
+    let cut = Command::new(alloc, "cut")
+        .about("Print a minimum cut")
+        .long_about(CUT)
+        .after_help(STATUSES);
+    Ok(
+        cut.arg(flag(
+            alloc,
+            "arcs",
+            "Print the arcs that leave the source side too, as lines a SRC DST CAP",
+        ))?
+        .arg(flag(
+            alloc,
+            "sink",
+            "Print the minimum cut nearest the sinks instead",
+        ))?
+        .arg(problem(alloc))?,
+    )
+}
+
+// `flow connect [--undirected] [--pair] [FILE]`
+fn connect<'a>(alloc: Global) -> Result<Command<'a>, Error> {
+    let connect = Command::new(alloc, "connect")
+        .about("Print the edge connectivity")
+        .long_about(CONNECT)
+        .after_help(STATUSES);
+    Ok(
+        connect
+            .arg(flag(
+                alloc,
+                "undirected",
+                "Count the arc lines with exactly one end in the set",
+            ))?
+            .arg(flag(
+                alloc,
+                "pair",
+                "Only sets with every source inside and every sink outside",
+            ))?
+            .arg(problem(alloc))?,
+    )
+}
+
+// `flow check [--feasible] PROBLEM [SOLUTION]`
+fn check<'a>(alloc: Global) -> Result<Command<'a>, Error> {
+    let check = Command::new(alloc, "check")
+        .about("Check a solution of a problem")
+        .long_about(CHECK)
+        .after_help(CHECK_STATUSES);
+    Ok(
+        check
+            .arg(flag(
+                alloc,
+                "feasible",
+                "Print feasible VALUE and don't ask whether a greater flow exists",
+            ))?
+            .arg(
+                problem(alloc)
+                    .value_name("PROBLEM")
+                    .required(true)
+                    .help("The problem"),
+            )?
+            .arg(solution(alloc))?,
+    )
+}
+
+// A flag that is given by its name.
+fn flag<'a>(alloc: Global, name: &'a str, help: &'a str) -> Arg<'a>
+    ensures id { result.id ≡ name.entry }
+    ensures long { result.long ≡ Some name.entry }
+    ensures action { result.action ≡ Some ArgAction.SetTrue }
+{
+    Arg::new(alloc, name)
+        .long(name)
+        .action(ArgAction::SetTrue)
+        .help(help)
+}
+
+// The file of a problem.
+fn problem<'a>(alloc: Global) -> Arg<'a>
+    ensures id { result.id.now ≡ codes "problem" }
+    ensures action { result.action ≡ Some ArgAction.Set }
+{
+    Arg::new(alloc, "problem")
+        .value_name("FILE")
+        .action(ArgAction::Set)
+        .help("The problem; standard input where no file is named")
+}
+
+// The file of a solution.
+fn solution<'a>(alloc: Global) -> Arg<'a>
+    ensures id { result.id.now ≡ codes "solution" }
+    ensures action { result.action ≡ Some ArgAction.Set }
+{
+    Arg::new(alloc, "solution")
+        .value_name("SOLUTION")
+        .action(ArgAction::Set)
+        .help("The solution; standard input where no file is named")
+}

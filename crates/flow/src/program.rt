@@ -1,0 +1,102 @@
+//! The program over any files and streams.
+
+ghost use Rattle.std.specs.Prelude.{◌≡◌};
+
+use crate::commands::commands;
+use crate::requests::{Files, job_of};
+use clap::error::ErrorKind;
+use flow_tools::memory::Script;
+use flow_tools::{Input, Job, Output, put_all, run};
+use std::alloc::Global;
+
+/// Where the inputs that a command line names are opened.
+pub trait Source {
+    /// An input that was opened.
+    type In: Input + Drop;
+
+    /// The input of the named file, or of standard input where no name is given. `None` only where a named file can't be
+    /// opened.
+    fn input(&mut self, name: Option<&str>) -> Option<Self::In>;
+}
+
+/// Reads the words of a command line, opens the files that they name and runs the job. The answer is the status: that of
+/// the run, 2 where the words are refused, 0 after help, 4 where a file can't be opened or memory was refused.
+pub fn program<S: Source, O: Output, E: Output>(
+    alloc: Global,
+    words: &[&str],
+    source: &mut S,
+    out: &mut O,
+    err: &mut E,
+) -> u8 {
+    let command = match commands(alloc) {
+        Ok(command) => command,
+        Err(_) => return tell(err, &[b"flow: out of memory\n"]),
+    };
+    match command.try_get_matches_from(words) {
+        Ok(matches) => match job_of(&matches) {
+            Some((job, files)) => run_files(alloc, job, files, source, out, err),
+            None => 2,
+        },
+        Err(error) => refuse(alloc, error, out, err),
+    }
+}
+
+// Opens the problem, and then the solution where the job checks one, and runs the job.
+fn run_files<S: Source, O: Output, E: Output>(
+    alloc: Global,
+    job: Job,
+    files: Files<'_>,
+    source: &mut S,
+    out: &mut O,
+    err: &mut E,
+) -> u8 {
+    let mut problem = match source.input(files.problem) {
+        Some(problem) => problem,
+        None => return refuse_file(files.problem, err),
+    };
+    match job {
+        Job::Check { .. } => match source.input(files.solution) {
+            Some(mut solution) => run(alloc, job, &mut problem, &mut solution, out, err),
+            None => refuse_file(files.solution, err),
+        },
+        _ => {
+            let mut nothing = Script::new(b"", 1, false, 0);
+            run(alloc, job, &mut problem, &mut nothing, out, err)
+        }
+    }
+}
+
+// Tells that a file can't be opened, its name as it was given.
+fn refuse_file<E: Output>(name: Option<&str>, err: &mut E) -> u8 {
+    let name = name.unwrap_or("").as_bytes();
+    tell(err, &[b"flow: cannot open ", name, b"\n"])
+}
+
+// Prints what the parse of the words ended with in place of a job: help, or why they are refused.
+fn refuse<O: Output, E: Output>(alloc: Global, error: clap::Error, out: &mut O, err: &mut E) -> u8 {
+    let text = match error.to_string(alloc) {
+        Ok(text) if error.kind() != ErrorKind::OutOfMemory => text,
+        _ => return tell(err, &[b"flow: out of memory\n"]),
+    };
+    let bytes = text.as_str().as_bytes();
+    if error.use_stderr() {
+        tell(err, &[bytes]);
+        return 2;
+    }
+    match put_all(out, bytes) {
+        Ok(()) => 0,
+        Err(_) => tell(err, &[b"flow: write failed\n"]),
+    }
+}
+
+// Puts a message in parts, as far as they are taken, and answers the status of a device or memory that failed.
+fn tell<E: Output>(err: &mut E, parts: &[&[u8]]) -> u8
+    ensures { result ≡ 4 }
+{
+    for part in parts {
+        if put_all(err, part).is_err() {
+            return 4;
+        }
+    }
+    4
+}

@@ -1,0 +1,9 @@
+use Rattle.std.proofs.Common.{◌≡◌, ◌+◌, drop}
+use Rattle.flow_solve.proofs.Ranks.{IsAhead}
+use Rattle.flow_solve.proofs.walking.push_over.Given as goal
+
+abbrev pub invariant-loop-half : goal.invariant-loop-half
+invariant-loop-half l = record {
+  ahead : IsAhead l.net l.fn.flow.flows l.path l.amount l.flow.flows (drop l.half-index l.path);
+  steps : l.flow.steps ≡ l.fn.flow.steps + l.half-index;
+}

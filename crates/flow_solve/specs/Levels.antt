@@ -1,0 +1,122 @@
+-- The method by levels (Dinitz 1970): the ranks that a search gives, places that only move on, and what a phase leaves.
+use Rattle.std.specs.Prelude.{◌≡◌, ◌≢◌, ℕ, zero, suc, ◌+◌, ◌-◌, ◌*◌, ◌≤◌, ◌<◌, ◌==◌, ◌⊎◌, ◌&&◌, nat_lt, Bool, true, false, not, IsTrue, IsFalse, List, [], ◌∷◌, length, slice_index, if◌then◌else◌}
+use Rattle.std.specs.List.{AllByRecursion}
+use Rattle.flow_net.specs.Nets.{Net, IsNode}
+use Rattle.flow_net.specs.NodeSets.{one_of}
+use Rattle.flow_net.specs.Flows.{IsFeasible, HasValue, HasNoLoops}
+use Rattle.flow_net.specs.Residual.{tail_of, head_of, residual}
+use Rattle.flow_solve.specs.declared.searching.Direction.TheVariants.{Backwards}
+use Rattle.flow_solve.specs.Searches.{seen, IsSearched}
+
+-- the cell of a node; 0 for no node
+abbrev pub cell_of : List ℕ → ℕ → ℕ
+cell_of cells zero = 0
+cell_of cells (suc p) = slice_index cells p
+
+-- where a half-arc first stands among the packed ones
+abbrev pub place_of : List ℕ → ℕ → ℕ
+place_of [] h = 0
+place_of (g ∷ halves) h = if g == h then 0 else place_of halves h + 1
+
+-- how many numbers below n pass a test
+abbrev pub count_below : ℕ → (ℕ → Bool) → ℕ
+count_below zero p = 0
+count_below (suc n) p = count_below n p + (if p n then 1 else 0)
+
+-- the half-arc leads to a node of a lower rank; its place lies before the current place of the node that it leaves
+abbrev pub falls : Net → (ℕ → ℕ) → ℕ → Bool
+falls net rank h = nat_lt (rank (head_of net h)) (rank (tail_of net h))
+
+abbrev pub passed : Net → (ℕ → ℕ) → (ℕ → ℕ) → ℕ → Bool
+passed net place current h = nat_lt (place h) (current (tail_of net h))
+
+-- how many half-arcs fall, aren't passed, and meet a test
+abbrev pub is_left : Net → (ℕ → ℕ) → (ℕ → ℕ) → (ℕ → ℕ) → (ℕ → Bool) → ℕ → Bool
+is_left net rank place current test h = falls net rank h && (not (passed net place current h) && test h)
+
+abbrev pub left : Net → (ℕ → ℕ) → (ℕ → ℕ) → (ℕ → ℕ) → (ℕ → Bool) → ℕ
+left net rank place current test = count_below (2 * length net.arcs) (is_left net rank place current test)
+
+-- the tests: any half-arc, and one with a residual capacity
+abbrev pub any : ℕ → Bool
+any h = true
+
+abbrev pub is_open : Net → List ℕ → ℕ → Bool
+is_open net xs h = not (residual net xs h == 0)
+
+-- what the rest of a phase may cost, in steps
+abbrev pub owed : Net → List ℕ → List ℕ → List ℕ → List ℕ → ℕ
+owed net halves rank current xs =
+    3 * (net.nodes - 1) * left net (cell_of rank) (place_of halves) (cell_of current) (is_open net xs) + left net (cell_of rank) (place_of halves) (cell_of current) any
+
+-- no sink, and each half-arc that leads from it to another node is passed
+pub record IsDead (net : Net) (sink : ℕ → Bool) (place current : ℕ → ℕ) (v : ℕ) : Type 0 where
+  pub inner : sink v ≡ false
+  pub over : (h : ℕ) → h < 2 * length net.arcs → tail_of net h ≡ v → head_of net h ≢ v → place h < current v
+
+-- on what was passed and falls nothing remains, or it leads to a dead node
+abbrev pub IsBlocked : Net → (ℕ → Bool) → (ℕ → ℕ) → (ℕ → ℕ) → (ℕ → ℕ) → List ℕ → Type 0
+IsBlocked net sink rank place current xs = (h : ℕ) → h < 2 * length net.arcs → place h < current (tail_of net h) → rank (head_of net h) < rank (tail_of net h) → (residual net xs h ≡ 0) ⊎ IsDead net sink place current (head_of net h)
+
+-- each node's current place lies among its half-arcs, or behind them
+abbrev pub AreWithin : Net → List ℕ → (ℕ → ℕ) → Type 0
+AreWithin net first current = (v : ℕ) → IsNode net v → (slice_index first (v - 1) ≤ current v) × (current v ≤ slice_index first v)
+
+-- only one node's place has moved, and not back
+pub record HasMoved (now next : ℕ → ℕ) (x : ℕ) : Type 0 where
+  pub up : now x ≤ next x
+  pub there : (v : ℕ) → v ≢ x → next v ≡ now v
+
+-- the half-arc at a node's current place leads to a lower rank, and something remains on it
+pub record IsAdmissible (net : Net) (rank place current : ℕ → ℕ) (xs : List ℕ) (v h : ℕ) : Type 0 where
+  pub half : h < 2 * length net.arcs
+  pub tail : tail_of net h ≡ v
+  pub here : place h ≡ current v
+  pub falls : rank (head_of net h) < rank (tail_of net h)
+  pub remains : 1 ≤ residual net xs h
+
+-- what holds throughout a phase
+pub record IsInPhase (net : Net) (s t first halves rank current xs : List ℕ) (k : ℕ) : Type 0 where
+  pub feasible : IsFeasible net (one_of s) (one_of t) xs
+  pub value : HasValue net (one_of s) xs k
+  pub no_loops : HasNoLoops net xs
+  pub size : length current ≡ net.nodes
+  pub places : AreWithin net first (cell_of current)
+  pub blocked : IsBlocked net (one_of t) (cell_of rank) (place_of halves) (cell_of current) xs
+
+-- the sinks are the nodes of distance 0
+abbrev pub AreSinks : Net → List ℕ → List ℕ → Type 0
+AreSinks net t dist = (v : ℕ) → IsNode net v → (IsTrue (one_of t v) → cell_of dist v ≡ 0) × (cell_of dist v ≡ 0 → IsTrue (one_of t v))
+
+-- of two nodes the one at the lower level has the lower rank
+abbrev pub IsOrdered : Net → (ℕ → ℕ) → (ℕ → ℕ) → Type 0
+IsOrdered net level rank = (v w : ℕ) → IsNode net v → IsNode net w → level v < level w → rank v < rank w
+
+-- no half-arc with a residual capacity leads down by more than one level
+abbrev pub IsGentle : Net → List ℕ → (ℕ → ℕ) → Type 0
+IsGentle net xs level = (h : ℕ) → h < 2 * length net.arcs → 1 ≤ residual net xs h → level (tail_of net h) ≤ level (head_of net h) + 1
+
+-- levels after a search: a node that it saw is at its distance, and a source that it didn't see is far above
+pub record IsLevelled (net : Net) (s t xs dist rank : List ℕ) (level : ℕ → ℕ) : Type 0 where
+  pub gentle : IsGentle net xs level
+  pub ordered : IsOrdered net level (cell_of rank)
+  pub sinks : (v : ℕ) → IsTrue (one_of t v) → level v ≡ 0
+  pub near : (v : ℕ) → IsTrue (seen dist v) → level v ≡ cell_of dist v
+  pub far : (v : ℕ) → IsTrue (one_of s v) → IsFalse (seen dist v) → net.nodes ≤ level v
+
+-- what a search backwards that has seen a source leaves to a phase
+pub record AreLevels (net : Net) (s t xs dist rank : List ℕ) : Type 0 where
+  pub via : List ℕ
+  pub searched : IsSearched net xs Backwards t dist via
+  pub source : (v : ℕ) × IsTrue (one_of s v) × IsTrue (seen dist v)
+  pub sinks : AreSinks net t dist
+  pub ranked : (v : ℕ) → IsTrue (seen dist v) → cell_of rank v < net.nodes
+  pub levels : (level : ℕ → ℕ) × IsLevelled net s t xs dist rank level
+
+-- after j phases: whatever a search backwards finds, it sees a source only at a distance above j
+abbrev pub IsFar : Net → List ℕ → List ℕ → List ℕ → ℕ → Type 0
+IsFar net s t xs j = (dist via : List ℕ) → IsSearched net xs Backwards t dist via → (v : ℕ) → IsTrue (one_of s v) → IsTrue (seen dist v) → j + 1 ≤ cell_of dist v
+
+-- the ranks fall along a list of half-arcs
+abbrev pub Descends : Net → (ℕ → ℕ) → List ℕ → Type 0
+Descends net rank hs = AllByRecursion (λ h. rank (head_of net h) < rank (tail_of net h)) hs

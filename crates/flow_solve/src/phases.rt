@@ -1,0 +1,142 @@
+//! Phases of the method by levels: the ranks that a search backwards gives, and the walks from all sources.
+ghost use Rattle.std.specs.Prelude.{◌≡◌, ◌⊎◌, ℕ, List, true, false, ◌+◌, ◌-◌, ◌*◌, ◌<◌, ◌≤◌, min, IsTrue, IsFalse, length, slice_index};
+ghost use Rattle.std.specs.List.{All};
+ghost use Rattle.flow_net.specs.Nets.{Net, IsNode, AreTerminals};
+ghost use Rattle.flow_net.specs.NodeSets.{one_of};
+ghost use Rattle.flow_net.specs.Flows.{Fits, IsFeasible, HasValue, HasNoLoops};
+ghost use Rattle.flow_solve.specs.Packs.{IsPacked};
+ghost use Rattle.flow_solve.specs.Searches.{seen, IsWhole};
+ghost use Rattle.flow_solve.specs.Levels.{cell_of, place_of, owed, IsDead, IsInPhase, AreSinks, IsOrdered, IsGentle, AreLevels, IsFar};
+
+use crate::packing::Packed;
+use crate::searching::{Direction, Plan, WANTED, search};
+use crate::walking::{Phase, walk};
+use flow_net::FlowTable;
+
+/// Gives the node at each place in the queue its number in the queue as its rank, and every other node none.
+fn rank_all(queue: &[u32], all: u32, rank: &mut [u32])
+    requires all { all ≤ length queue.now }
+    requires places { (i : ℕ) → i < all → slice_index queue.now i < length rank.old }
+    ensures size { length rank.new ≡ length rank.old }
+    ensures ranked { (i : ℕ) → i < all → slice_index rank.new (slice_index queue.now i) < all }
+    ensures ranks { (p : ℕ) → p < length rank.old → (slice_index rank.new p ≡ 4294967295) ⊎ ((slice_index rank.new p < all) × (slice_index queue.now (slice_index rank.new p) ≡ p)) }
+{
+    rank.fill(u32::MAX);
+    for i in 0..all {
+        rank[queue[i as usize] as usize] = i;
+    }
+}
+
+/// How many nodes there are, as far as 32 bits hold it.
+fn count(nodes: &[u32]) -> u32
+    ensures { result ≡ min (length nodes.now) 4294967295 }
+{
+    nodes.len().min(u32::MAX as usize) as u32
+}
+
+/// Searches backwards from the sinks until all sources are seen, and ranks what it has seen, the nearest first. Answers
+/// whether a source was seen.
+pub(crate) fn find_levels(
+    packed: Packed<'_>,
+    flow: &mut FlowTable,
+    s: &[u32],
+    t: &[u32],
+    dist: &mut [u32],
+    rank: &mut [u32],
+    queue: &mut [u32],
+) -> bool
+    requires fits { Fits packed.net.now flow.old.flows }
+    requires packed { IsPacked packed.net.now packed.first.now packed.halves.now }
+    requires terminals { AreTerminals packed.net.now s.now t.now }
+    requires dist_size { length dist.old ≡ packed.net.now.nodes }
+    requires rank_size { length rank.old ≡ packed.net.now.nodes }
+    requires queue_size { length queue.old ≡ packed.net.now.nodes }
+    ensures levels { result ≡ true → AreLevels packed.entry.net.now s.now t.now flow.old.flows dist.new rank.new }
+    ensures whole { result ≡ false → IsWhole Direction.Backwards packed.entry.net.now flow.old.flows t.now (seen dist.new) }
+    ensures outside { result ≡ false → (v : ℕ) → IsTrue (one_of s.now v) → IsFalse (seen dist.new v) }
+    ensures dist_size { length dist.new ≡ packed.entry.net.now.nodes }
+    ensures rank_size { length rank.new ≡ packed.entry.net.now.nodes }
+    ensures queue_size { length queue.new ≡ packed.entry.net.now.nodes }
+    ensures flows { flow.new.flows ≡ flow.old.flows }
+    ensures never_lowered { flow.old.steps ≤ flow.new.steps }
+    ensures steps { flow.new.steps ≤ flow.old.steps + 2 * length packed.entry.net.now.arcs }
+{
+    let _ = packed.net.nodes();
+    let plan = Plan {
+        direction: Direction::Backwards,
+        starts: t,
+        until: s,
+        enough: count(s),
+    };
+    let seen = search(packed, flow, plan, dist, rank, queue);
+    if seen.wanted == 0 {
+        return false;
+    }
+    rank_all(queue, seen.all, rank);
+    true
+}
+
+/// Walks from each source that the search has seen, until all of them are dead. Answers the flow's value.
+fn walk_all(
+    phase: Phase<'_>,
+    flow: &mut FlowTable,
+    current: &mut [u32],
+    path: &mut [u32],
+    value: u128,
+) -> u128
+    requires terminals { AreTerminals phase.packed.net.now phase.s.now phase.t.now }
+    requires packed { IsPacked phase.packed.net.now phase.packed.first.now phase.packed.halves.now }
+    requires dist_size { length phase.dist.now ≡ phase.packed.net.now.nodes }
+    requires rank_size { length phase.rank.now ≡ phase.packed.net.now.nodes }
+    requires path_size { length path.old ≡ phase.packed.net.now.nodes }
+    requires sinks { AreSinks phase.packed.net.now phase.t.now phase.dist.now }
+    requires ranked { (v : ℕ) → IsTrue (seen phase.dist.now v) → cell_of phase.rank.now v < phase.packed.net.now.nodes }
+    requires phase { IsInPhase phase.packed.net.now phase.s.now phase.t.now phase.packed.first.now phase.packed.halves.now phase.rank.now current.old flow.old.flows value }
+    ensures path_size { length path.new ≡ phase.entry.packed.net.now.nodes }
+    ensures phase { IsInPhase phase.entry.packed.net.now phase.entry.s.now phase.entry.t.now phase.entry.packed.first.now phase.entry.packed.halves.now phase.entry.rank.now current.new flow.new.flows result }
+    ensures dead { (v : ℕ) → IsTrue (one_of phase.entry.s.now v) → IsTrue (seen phase.entry.dist.now v) → IsDead phase.entry.packed.net.now (one_of phase.entry.t.now) (place_of phase.entry.packed.halves.now) (cell_of current.new) v }
+    ensures gentle { (level : ℕ → ℕ) → IsOrdered phase.entry.packed.net.now level (cell_of phase.entry.rank.now) → IsGentle phase.entry.packed.net.now flow.old.flows level → IsGentle phase.entry.packed.net.now flow.new.flows level }
+    ensures never_lowered { flow.old.steps ≤ flow.new.steps }
+    ensures steps { flow.new.steps + owed phase.entry.packed.net.now phase.entry.packed.halves.now phase.entry.rank.now current.new flow.new.flows ≤ flow.old.steps + owed phase.entry.packed.net.now phase.entry.packed.halves.now phase.entry.rank.now current.old flow.old.flows }
+{
+    let mut raised = value;
+    for source in phase.s {
+        if phase.dist[*source as usize - 1] < WANTED {
+            raised = walk(phase, flow, current, path, *source, raised);
+        }
+    }
+    raised
+}
+
+/// A phase after its search: every node begins at its first half-arc again, and each source walks. Answers the flow's value.
+pub(crate) fn run_phase(
+    phase: Phase<'_>,
+    flow: &mut FlowTable,
+    current: &mut [u32],
+    path: &mut [u32],
+    value: u128,
+) -> u128
+    requires terminals { AreTerminals phase.packed.net.now phase.s.now phase.t.now }
+    requires packed { IsPacked phase.packed.net.now phase.packed.first.now phase.packed.halves.now }
+    requires dist_size { length phase.dist.now ≡ phase.packed.net.now.nodes }
+    requires rank_size { length phase.rank.now ≡ phase.packed.net.now.nodes }
+    requires size { length current.old ≡ phase.packed.net.now.nodes }
+    requires path_size { length path.old ≡ phase.packed.net.now.nodes }
+    requires levels { AreLevels phase.packed.net.now phase.s.now phase.t.now flow.old.flows phase.dist.now phase.rank.now }
+    requires feasible { IsFeasible phase.packed.net.now (one_of phase.s.now) (one_of phase.t.now) flow.old.flows }
+    requires value { HasValue phase.packed.net.now (one_of phase.s.now) flow.old.flows value }
+    requires loops { HasNoLoops phase.packed.net.now flow.old.flows }
+    ensures size { length current.new ≡ phase.entry.packed.net.now.nodes }
+    ensures path_size { length path.new ≡ phase.entry.packed.net.now.nodes }
+    ensures feasible { IsFeasible phase.entry.packed.net.now (one_of phase.entry.s.now) (one_of phase.entry.t.now) flow.new.flows }
+    ensures value { HasValue phase.entry.packed.net.now (one_of phase.entry.s.now) flow.new.flows result }
+    ensures loops { HasNoLoops phase.entry.packed.net.now flow.new.flows }
+    ensures few { (j : ℕ) → IsFar phase.entry.packed.net.now phase.entry.s.now phase.entry.t.now flow.old.flows j → j + 1 < phase.entry.packed.net.now.nodes }
+    ensures far { (j : ℕ) → IsFar phase.entry.packed.net.now phase.entry.s.now phase.entry.t.now flow.old.flows j → IsFar phase.entry.packed.net.now phase.entry.s.now phase.entry.t.now flow.new.flows (j + 1) }
+    ensures never_lowered { flow.old.steps ≤ flow.new.steps }
+    ensures steps { flow.new.steps ≤ flow.old.steps + 3 * (phase.entry.packed.net.now.nodes - 1) * length phase.entry.packed.net.now.arcs + length phase.entry.packed.net.now.arcs }
+{
+    let n = phase.packed.net.nodes() as usize;
+    current.copy_from_slice(&phase.packed.first[..n]);
+    walk_all(phase, flow, current, path, value)
+}

@@ -1,0 +1,196 @@
+//! Walks from a source to sinks, along half-arcs that lead to lower ranks (Dinitz 1970).
+ghost use Rattle.std.specs.Prelude.{◌≡◌, ℕ, Bool, List, ◌+◌, ◌-◌, ◌*◌, ◌<◌, ◌≤◌, IsTrue, IfSome, IfNone, length, slice_index};
+ghost use Rattle.std.specs.List.{All};
+ghost use Rattle.flow_net.specs.Nets.{Net, IsNode, AreTerminals};
+ghost use Rattle.flow_net.specs.NodeSets.{one_of};
+ghost use Rattle.flow_net.specs.Flows.{Fits};
+ghost use Rattle.flow_net.specs.Residual.{tail_of, head_of, residual};
+ghost use Rattle.flow_net.specs.Paths.{IsApart, push_all};
+ghost use Rattle.flow_solve.specs.Packs.{IsPacked};
+ghost use Rattle.flow_solve.specs.Levels.{cell_of, place_of, left, any, owed, HasMoved, IsAdmissible, IsDead, IsBlocked, AreWithin, IsInPhase, AreSinks, IsOrdered, IsGentle};
+
+use crate::packing::Packed;
+use crate::searching::head;
+use flow_net::{FlowTable, Network};
+
+/// The node that a half-arc leaves. No step: it reads the arc alone.
+fn tail(net: &Network, half: u32) -> u32
+    requires { half < 2 * length net.now.arcs }
+    ensures tail { result ≡ tail_of net.now half }
+    ensures node { IsNode net.now result }
+{
+    let arc = net.arc(half / 2);
+    if half % 2 == 0 { arc.src } else { arc.dst }
+}
+
+/// The first half-arc of a path on which the least remains, by its place on the path, and how much that is.
+fn least_on(net: &Network, flow: &mut FlowTable, path: &[u32]) -> (u32, u64)
+    requires fits { Fits net.now flow.old.flows }
+    requires some { 1 ≤ length path.now }
+    requires few { length path.now ≤ net.now.nodes }
+    requires halves { All (λ h. h < 2 * length net.now.arcs) path.now }
+    ensures place { result.0 < length path.now }
+    ensures amount { result.1 ≡ residual net.now flow.old.flows (slice_index path.now result.0) }
+    ensures least { (i : ℕ) → i < length path.now → result.1 ≤ residual net.now flow.old.flows (slice_index path.now i) }
+    ensures first { (i : ℕ) → i < result.0 → result.1 < residual net.now flow.old.flows (slice_index path.now i) }
+    ensures flows { flow.new.flows ≡ flow.old.flows }
+    ensures steps { flow.new.steps ≡ flow.old.steps + length path.now }
+{
+    let _ = net.nodes();
+    let (_, mut least) = flow.look(net, path[0]);
+    let mut place = 0;
+    for i in 1..path.len() {
+        let (_, room) = flow.look(net, path[i]);
+        if room < least {
+            least = room;
+            place = i as u32;
+        }
+    }
+    (place, least)
+}
+
+/// Pushes an amount through each half-arc of a path.
+fn push_over(net: &Network, flow: &mut FlowTable, path: &[u32], amount: u64)
+    requires fits { Fits net.now flow.old.flows }
+    requires halves { All (λ h. h < 2 * length net.now.arcs) path.now }
+    requires apart { IsApart path.now }
+    requires room { All (λ h. amount ≤ residual net.now flow.old.flows h) path.now }
+    ensures flows { flow.new.flows ≡ push_all flow.old.flows path.now amount }
+    ensures steps { flow.new.steps ≡ flow.old.steps + length path.now }
+{
+    for half in path {
+        flow.push(net, *half, amount);
+    }
+}
+
+/// Pushes along a path as much as remains on each of its half-arcs. Answers the place of the first half-arc that this
+/// fills, and the amount.
+fn augment(net: &Network, flow: &mut FlowTable, path: &[u32]) -> (u32, u64)
+    requires fits { Fits net.now flow.old.flows }
+    requires some { 1 ≤ length path.now }
+    requires few { length path.now ≤ net.now.nodes }
+    requires halves { All (λ h. h < 2 * length net.now.arcs) path.now }
+    requires apart { IsApart path.now }
+    ensures place { result.0 < length path.now }
+    ensures amount { result.1 ≡ residual net.now flow.old.flows (slice_index path.now result.0) }
+    ensures least { (i : ℕ) → i < length path.now → result.1 ≤ residual net.now flow.old.flows (slice_index path.now i) }
+    ensures first { (i : ℕ) → i < result.0 → result.1 < residual net.now flow.old.flows (slice_index path.now i) }
+    ensures flows { flow.new.flows ≡ push_all flow.old.flows path.now result.1 }
+    ensures steps { flow.new.steps ≡ flow.old.steps + 2 * length path.now }
+{
+    let (place, amount) = least_on(net, flow, path);
+    push_over(net, flow, path, amount);
+    (place, amount)
+}
+
+/// Moves a node's place on to its first half-arc that leads to a lower rank and has a residual capacity, or behind all.
+fn admissible(
+    packed: Packed<'_>,
+    flow: &mut FlowTable,
+    rank: &[u32],
+    current: &mut [u32],
+    node: u32,
+) -> Option<u32>
+    requires fits { Fits packed.net.now flow.old.flows }
+    requires packed { IsPacked packed.net.now packed.first.now packed.halves.now }
+    requires rank_size { length rank.now ≡ packed.net.now.nodes }
+    requires size { length current.old ≡ packed.net.now.nodes }
+    requires places { AreWithin packed.net.now packed.first.now (cell_of current.old) }
+    requires node { IsNode packed.net.now node }
+    ensures size { length current.new ≡ packed.entry.net.now.nodes }
+    ensures places { AreWithin packed.entry.net.now packed.entry.first.now (cell_of current.new) }
+    ensures moved { HasMoved (cell_of current.old) (cell_of current.new) node }
+    ensures blocked { (t : ℕ → Bool) → IsBlocked packed.entry.net.now t (cell_of rank.now) (place_of packed.entry.halves.now) (cell_of current.old) flow.old.flows → IsBlocked packed.entry.net.now t (cell_of rank.now) (place_of packed.entry.halves.now) (cell_of current.new) flow.old.flows }
+    ensures some { IfSome result (λ h. IsAdmissible packed.entry.net.now (cell_of rank.now) (place_of packed.entry.halves.now) (cell_of current.new) flow.old.flows node h) }
+    ensures none { IfNone result (cell_of current.new node ≡ slice_index packed.entry.first.now node) }
+    ensures flows { flow.new.flows ≡ flow.old.flows }
+    ensures never_lowered { flow.old.steps ≤ flow.new.steps }
+    ensures steps_some { IfSome result (λ h. flow.new.steps + left packed.entry.net.now (cell_of rank.now) (place_of packed.entry.halves.now) (cell_of current.new) any ≤ flow.old.steps + left packed.entry.net.now (cell_of rank.now) (place_of packed.entry.halves.now) (cell_of current.old) any + 1) }
+    ensures steps_none { IfNone result (flow.new.steps + left packed.entry.net.now (cell_of rank.now) (place_of packed.entry.halves.now) (cell_of current.new) any ≤ flow.old.steps + left packed.entry.net.now (cell_of rank.now) (place_of packed.entry.halves.now) (cell_of current.old) any) }
+{
+    let _ = packed.net.nodes();
+    let end = packed.first[node as usize];
+    let own = rank[node as usize - 1];
+    let mut place = current[node as usize - 1];
+    while place < end {
+        let half = packed.halves[place as usize];
+        if rank[head(packed.net, half) as usize - 1] < own {
+            let (_, room) = flow.look(packed.net, half);
+            if room > 0 {
+                current[node as usize - 1] = place;
+                return Some(half);
+            }
+        }
+        place += 1;
+    }
+    current[node as usize - 1] = end;
+    None
+}
+
+/// What the walks of a phase go by.
+#[derive(Clone, Copy)]
+pub(crate) struct Phase<'a> {
+    /// The network with its half-arcs side by side.
+    pub packed: Packed<'a>,
+    /// The sources.
+    pub s: &'a [u32],
+    /// The sinks.
+    pub t: &'a [u32],
+    /// The distance of each node to a sink, or a number for an unseen node.
+    pub dist: &'a [u32],
+    /// The rank of each node, the nearest first, or `u32::MAX` for an unseen node.
+    pub rank: &'a [u32],
+}
+
+/// Walks from a source until it is dead: it goes on along admissible half-arcs, augments where it comes to a sink, goes
+/// back to where the first half-arc was filled, and takes one back from a node that has none. Answers the flow's value.
+pub(crate) fn walk(
+    phase: Phase<'_>,
+    flow: &mut FlowTable,
+    current: &mut [u32],
+    path: &mut [u32],
+    source: u32,
+    value: u128,
+) -> u128
+    requires terminals { AreTerminals phase.packed.net.now phase.s.now phase.t.now }
+    requires packed { IsPacked phase.packed.net.now phase.packed.first.now phase.packed.halves.now }
+    requires dist_size { length phase.dist.now ≡ phase.packed.net.now.nodes }
+    requires rank_size { length phase.rank.now ≡ phase.packed.net.now.nodes }
+    requires path_size { length path.old ≡ phase.packed.net.now.nodes }
+    requires sinks { AreSinks phase.packed.net.now phase.t.now phase.dist.now }
+    requires phase { IsInPhase phase.packed.net.now phase.s.now phase.t.now phase.packed.first.now phase.packed.halves.now phase.rank.now current.old flow.old.flows value }
+    requires source { IsTrue (one_of phase.s.now source) }
+    requires node { IsNode phase.packed.net.now source }
+    requires ranked { cell_of phase.rank.now source < phase.packed.net.now.nodes }
+    ensures path_size { length path.new ≡ phase.entry.packed.net.now.nodes }
+    ensures phase { IsInPhase phase.entry.packed.net.now phase.entry.s.now phase.entry.t.now phase.entry.packed.first.now phase.entry.packed.halves.now phase.entry.rank.now current.new flow.new.flows result }
+    ensures dead { IsDead phase.entry.packed.net.now (one_of phase.entry.t.now) (place_of phase.entry.packed.halves.now) (cell_of current.new) source }
+    ensures gentle { (level : ℕ → ℕ) → IsOrdered phase.entry.packed.net.now level (cell_of phase.entry.rank.now) → IsGentle phase.entry.packed.net.now flow.old.flows level → IsGentle phase.entry.packed.net.now flow.new.flows level }
+    ensures risen { (v : ℕ) → cell_of current.old v ≤ cell_of current.new v }
+    ensures never_lowered { flow.old.steps ≤ flow.new.steps }
+    ensures steps { flow.new.steps + owed phase.entry.packed.net.now phase.entry.packed.halves.now phase.entry.rank.now current.new flow.new.flows ≤ flow.old.steps + owed phase.entry.packed.net.now phase.entry.packed.halves.now phase.entry.rank.now current.old flow.old.flows }
+{
+    let packed = phase.packed;
+    let _ = packed.net.nodes();
+    let mut raised = value;
+    let mut node = source;
+    let mut depth: u32 = 0;
+    'turns: loop {
+        if phase.dist[node as usize - 1] == 0 {
+            let (place, amount) = augment(packed.net, flow, &path[..depth as usize]);
+            raised += u128::from(amount);
+            depth = place;
+            node = tail(packed.net, path[depth as usize]);
+        } else if let Some(half) = admissible(packed, flow, phase.rank, current, node) {
+            path[depth as usize] = half;
+            depth += 1;
+            node = head(packed.net, half);
+        } else if depth == 0 {
+            return raised;
+        } else {
+            depth -= 1;
+            node = tail(packed.net, path[depth as usize]);
+            current[node as usize - 1] += 1;
+        }
+    }
+}

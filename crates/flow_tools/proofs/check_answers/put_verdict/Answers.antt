@@ -1,0 +1,17 @@
+use Rattle.std.proofs.Common.{refl}
+use Rattle.flow_text.specs.Output.{verdict_line}
+use Rattle.flow_tools.specs.Answers.{verdict_status}
+use Rattle.flow_tools.proofs.check_answers.put_verdict.Goals as goal
+
+pub returns-in-Err-put_all : goal.returns-in-Err-put_all
+returns-in-Err-put_all g c q accepted =
+    let v = c.in-Ok.verdict in
+    let stops = rw (c.as_slice.ensures.value, c.verdict_line.ensures) at c.in-Err-put_all.ensures.err in
+    record {
+      o = stops.sent;
+      put_o = stops.taken;
+      exit = (
+        c.in-Err-put_all.ensures.flag,
+        (verdict_line v, verdict_status v, record { written = _; accepted = accepted; verdict = v; verdict_is = c.in-Ok.ensures.verdict; text_is = refl; status_is = refl }, stops.part),
+      );
+    }

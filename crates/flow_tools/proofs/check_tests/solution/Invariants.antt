@@ -1,0 +1,7 @@
+use Rattle.std.proofs.Common.{◌≤◌, length}
+use Rattle.std.specs.List.{All}
+use Rattle.flow_text.specs.SolutionReading.{IsLineWithin}
+use Rattle.flow_tools.proofs.check_tests.solution.Given as goal
+
+abbrev pub invariant-loop-src : goal.invariant-loop-src
+invariant-loop-src g l = All (IsLineWithin l.nodes) l.lines.items × (length l.lines.items ≤ 4000000)

@@ -1,0 +1,6 @@
+use Rattle.std.proofs.Common.{◌≡◌, take}
+use Rattle.flow_tools.specs.SolutionFlows.{pair_flow}
+use Rattle.flow_tools.proofs.checking.flow_of_pair.Given as goal
+
+abbrev pub invariant-loop-line : goal.invariant-loop-line
+invariant-loop-line l = l.sum ≡ pair_flow (take l.line-index l.lines) l.src l.dst

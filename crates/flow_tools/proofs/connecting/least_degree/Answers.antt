@@ -1,0 +1,12 @@
+use Rattle.std.proofs.Common.{arith}
+use Rattle.flow_tools.proofs.ConnectingLemmas.{lesser_proper, out_proper, into_proper}
+use Rattle.flow_tools.proofs.connecting.least_degree.Goals as goal
+
+pub returns : goal.returns
+returns c =
+    let o = c.least_of-leaving.ensures.found in
+    let i = c.least_of-entering.ensures.found in
+    let n = c.nodes-n.ensures.is_net in
+    lesser_proper c.args.net.now c.least_of-leaving.result c.least_of-entering.result c.min.result c.min.ensures
+    (out_proper c.args.net.now c.count_degrees.new.out c.count_degrees.new.into o.0 c.least_of-leaving.result n (omega (arith, o.1)) c.count_degrees.ensures o.2)
+    (into_proper c.args.net.now c.count_degrees.new.out c.count_degrees.new.into i.0 c.least_of-entering.result n (omega (arith, i.1)) c.count_degrees.ensures i.2)

@@ -1,0 +1,5 @@
+use Rattle.flow_tools.specs.NodeSums.{AreEqualUnless}
+use Rattle.flow_tools.proofs.node_flows.first_unequal.Given as goal
+
+abbrev pub invariant-loop-i : goal.invariant-loop-i
+invariant-loop-i l = AreEqualUnless l.marks l.into l.out l.i

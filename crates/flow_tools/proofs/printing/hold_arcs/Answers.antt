@@ -1,0 +1,35 @@
+use Rattle.std.proofs.Common.{◌∙◌, arith}
+use Rattle.flow_net.specs.Nets.{no_arc}
+use Rattle.flow_net.specs.Cuts.{leaves}
+use Rattle.flow_text.specs.Output.{arc_line}
+use Rattle.flow_tools.specs.Sides.{side_of}
+use Rattle.flow_tools.proofs.SendLemmas.{on_err}
+use Rattle.flow_tools.proofs.LineLemmas.{line_if, lines_more, lines_skip, lines_stop, lines_end, flat_map-filter}
+use Rattle.flow_tools.proofs.PrintLemmas.{arc_line_is, no_arc_line}
+use Rattle.flow_tools.proofs.printing.hold_arcs.Goals as goal
+
+pub loop-i-preserved-then-not-does_leave : goal.loop-i-preserved-then-not-does_leave
+loop-i-preserved-then-not-does_leave g c =
+    let p = leaves (side_of c.args.sink c.args.side.now) in let arcs = c.args.net.now.arcs in (
+      lines_skip (line_if p arc_line) arcs c.loop-i.i _ _ _ _ c.loop-i.invariant.0 no_arc (omega arith) (no_arc_line p c.args.net.now c.loop-i.i c.arc-arc.result c.arc-arc.ensures.arc c.if-not-does_leave.ensures),
+      c.loop-i.invariant.1,
+    )
+
+pub returns-in_err-hold-clause-err : goal.returns-in_err-hold-clause-err
+returns-in_err-hold-clause-err g c =
+    let p = leaves (side_of c.args.sink c.args.side.now) in let arcs = c.args.net.now.arcs in
+    on_err c.from_residual.result (rw (flat_map-filter p arc_line arcs) (lines_stop (line_if p arc_line) arcs c.loop-i.i _ _ _ _ c.loop-i.invariant.0 no_arc _ _ (omega arith)
+    (arc_line_is p c.args.net.now c.loop-i.i c.arc-arc.result _ c.arc-arc.ensures.arc c.if-not-does_leave.ensures (c.as_slice.ensures.value ∙ c.arc_line.ensures)) c.in_err-hold.ensures.err))
+
+pub loop-i-preserved : goal.loop-i-preserved
+loop-i-preserved g c =
+    let p = leaves (side_of c.args.sink c.args.side.now) in let arcs = c.args.net.now.arcs in (
+      lines_more (line_if p arc_line) arcs c.loop-i.i _ _ _ _ c.loop-i.invariant.0 no_arc _ _ _ (omega arith)
+          (arc_line_is p c.args.net.now c.loop-i.i c.arc-arc.result _ c.arc-arc.ensures.arc c.if-not-does_leave.ensures (c.as_slice.ensures.value ∙ c.arc_line.ensures)) c.in_ok-hold.ensures.ok,
+      c.in_ok-hold.ensures.flag ∙ c.loop-i.invariant.1,
+    )
+
+pub returns-clause-ok : goal.returns-clause-ok
+returns-clause-ok g c =
+    let p = leaves (side_of c.args.sink c.args.side.now) in let arcs = c.args.net.now.arcs in
+    rw (flat_map-filter p arc_line arcs) (lines_end (line_if p arc_line) arcs c.loop-i.i _ _ _ _ c.loop-i.invariant.0 (omega arith))

@@ -1,0 +1,35 @@
+use Rattle.std.proofs.Common.{◌∙◌, arith}
+use Rattle.std.specs.List.{range_with_len}
+use Rattle.std.proofs.lemmas.List.FromFn.{length-range_with_len}
+use Rattle.flow_text.specs.Output.{node_line}
+use Rattle.flow_tools.specs.Sides.{side_of}
+use Rattle.flow_tools.proofs.SendLemmas.{on_err}
+use Rattle.flow_tools.proofs.LineLemmas.{line_if, lines_more, lines_skip, lines_stop, lines_end, flat_map-filter}
+use Rattle.flow_tools.proofs.PrintLemmas.{node_line_is, no_node_line}
+use Rattle.flow_tools.proofs.printing.hold_nodes.Goals as goal
+
+pub loop-i-preserved-then-not-is_inside : goal.loop-i-preserved-then-not-is_inside
+loop-i-preserved-then-not-is_inside g c =
+    let p = side_of c.args.sink c.args.side.now in let n = c.args.net.now.nodes in let e = length-range_with_len 1 n in (
+      lines_skip (line_if p node_line) (range_with_len 1 n) c.loop-i.i _ _ _ _ c.loop-i.invariant.0 0 (omega arith) (no_node_line p n c.loop-i.i (omega arith) c.if-not-is_inside.ensures),
+      c.loop-i.invariant.1,
+    )
+
+pub returns-in_err-hold-clause-err : goal.returns-in_err-hold-clause-err
+returns-in_err-hold-clause-err g c =
+    let p = side_of c.args.sink c.args.side.now in let n = c.args.net.now.nodes in let e = length-range_with_len 1 n in
+    on_err c.from_residual.result (rw (flat_map-filter p node_line (range_with_len 1 n)) (lines_stop (line_if p node_line) (range_with_len 1 n) c.loop-i.i _ _ _ _ c.loop-i.invariant.0 0 _ _ (omega arith)
+    (node_line_is p n c.loop-i.i (omega arith) _ c.if-not-is_inside.ensures (c.as_slice.ensures.value ∙ c.node_line.ensures)) c.in_err-hold.ensures.err))
+
+pub loop-i-preserved : goal.loop-i-preserved
+loop-i-preserved g c =
+    let p = side_of c.args.sink c.args.side.now in let n = c.args.net.now.nodes in let e = length-range_with_len 1 n in (
+      lines_more (line_if p node_line) (range_with_len 1 n) c.loop-i.i _ _ _ _ c.loop-i.invariant.0 0 _ _ _ (omega arith)
+          (node_line_is p n c.loop-i.i (omega arith) _ c.if-not-is_inside.ensures (c.as_slice.ensures.value ∙ c.node_line.ensures)) c.in_ok-hold.ensures.ok,
+      c.in_ok-hold.ensures.flag ∙ c.loop-i.invariant.1,
+    )
+
+pub returns-clause-ok : goal.returns-clause-ok
+returns-clause-ok g c =
+    let p = side_of c.args.sink c.args.side.now in let n = c.args.net.now.nodes in let e = length-range_with_len 1 n in
+    rw (flat_map-filter p node_line (range_with_len 1 n)) (lines_end (line_if p node_line) (range_with_len 1 n) c.loop-i.i _ _ _ _ c.loop-i.invariant.0 (omega arith))

@@ -1,0 +1,97 @@
+-- What each job puts for an accepted problem, and with which status it ends.
+use Rattle.std.specs.Prelude.{◌≡◌, ◌↔◌, ℕ, Bool, true, false, List, IsTrue, IsFalse, if◌then◌else◌, Ok}
+use Rattle.flow_net.specs.Nets.{Instance, Net, IsNode}
+use Rattle.flow_net.specs.NodeSets.{one_of}
+use Rattle.flow_net.specs.Flows.{IsFeasible, HasValue, IsGreatest, HasNoLoops}
+use Rattle.flow_net.specs.Cuts.{IsMinimumCut, IsLeastCapacity, capacity, IsInLeastSourceSide, IsInLeastSinkSide}
+use Rattle.flow_net.specs.Connectivity.{IsConnectivity, IsUndirectedConnectivity, IsPairConnectivity, IsUndirectedPairConnectivity}
+use Rattle.flow_text.specs.Output.{value_text, solve_text, cut_text, cut_text_with_arcs, connect_line, verdict_line}
+use Rattle.flow_text.specs.Solution.{Written, solution}
+use Rattle.flow_text.specs.declared.verdicts.Verdict.{Verdict}
+use Rattle.flow_text.specs.declared.verdicts.Verdict.TheVariants.{Feasible, Optimal}
+use Rattle.flow_tools.specs.Verdicts.{IsVerdict}
+use Rattle.flow_tools.specs.declared.jobs.Job.{Job}
+use Rattle.flow_tools.specs.declared.jobs.Job.TheVariants.{Solve, Cut, Connect, Check}
+
+-- One number is the greatest value of a feasible flow and the least capacity of a cut.
+pub record IsValueOf (p : Instance) (value : ℕ) : Type 0 where
+  pub greatest : IsGreatest p.net (one_of p.sources) (one_of p.sinks) value
+  pub least : IsLeastCapacity p.net (one_of p.sources) (one_of p.sinks) value
+
+-- A feasible flow of that value in which self-loops carry nothing.
+pub record IsFlowOf (p : Instance) (value : ℕ) (flows : List ℕ) : Type 0 where
+  pub feasible : IsFeasible p.net (one_of p.sources) (one_of p.sinks) flows
+  pub valued : HasValue p.net (one_of p.sources) flows value
+  pub no_loops : HasNoLoops p.net flows
+
+-- a set holds exactly the nodes that lie in the source side of every minimum cut; or, nearest the sinks, all but those
+-- that lie outside the source side of every minimum cut
+abbrev pub IsNearest : Instance → Bool → (ℕ → Bool) → Type 0
+IsNearest p false X = (v : ℕ) → IsNode p.net v → IsTrue (X v) ↔ IsInLeastSourceSide p.net (one_of p.sources) (one_of p.sinks) v
+IsNearest p true X = (v : ℕ) → IsNode p.net v → IsFalse (X v) ↔ IsInLeastSinkSide p.net (one_of p.sources) (one_of p.sinks) v
+
+-- A minimum cut of that capacity: the one nearest the sources, or nearest the sinks.
+pub record IsCutOf (p : Instance) (value : ℕ) (sink : Bool) (X : ℕ → Bool) : Type 0 where
+  pub minimum : IsMinimumCut p.net (one_of p.sources) (one_of p.sinks) X
+  pub valued : capacity p.net X ≡ value
+  pub nearest : IsNearest p sink X
+
+-- the value alone, or the value and the flows
+abbrev pub solution_text : Bool → Net → ℕ → List ℕ → List ℕ
+solution_text value_only net value flows = if value_only then value_text value else solve_text net value flows
+
+-- the value and the source side, and where it is asked for the arcs that leave it
+abbrev pub source_side_text : Bool → Net → ℕ → (ℕ → Bool) → List ℕ
+source_side_text arcs net value X = if arcs then cut_text_with_arcs net value X else cut_text net value X
+
+-- What `solve` puts: the value, and some flow that has it.
+pub record IsSolved (p : Instance) (value_only : Bool) (text : List ℕ) : Type 0 where
+  pub value : ℕ
+  pub flows : List ℕ
+  pub value_is : IsValueOf p value
+  pub flow_is : IsFlowOf p value flows
+  pub text_is : text ≡ solution_text value_only p.net value flows
+
+-- What `cut` puts: the value, and the source side of the minimum cut that is asked for.
+pub record IsSevered (p : Instance) (arcs sink : Bool) (text : List ℕ) : Type 0 where
+  pub value : ℕ
+  pub X : ℕ → Bool
+  pub value_is : IsValueOf p value
+  pub cut_is : IsCutOf p value sink X
+  pub text_is : text ≡ source_side_text arcs p.net value X
+
+-- the connectivity that is asked for: of the arcs in their direction or, undirected, of their ends; over all proper sets of
+-- nodes or, with the pair, over those with every source inside and every sink outside
+abbrev pub IsConnectivityOf : Instance → Bool → Bool → ℕ → Type 0
+IsConnectivityOf p false false k = IsConnectivity p.net k
+IsConnectivityOf p true false k = IsUndirectedConnectivity p.net k
+IsConnectivityOf p false true k = IsPairConnectivity p.net (one_of p.sources) (one_of p.sinks) k
+IsConnectivityOf p true true k = IsUndirectedPairConnectivity p.net (one_of p.sources) (one_of p.sinks) k
+
+-- What `connect` puts: the connectivity that is asked for.
+pub record IsConnected (p : Instance) (undirected pair : Bool) (text : List ℕ) : Type 0 where
+  pub value : ℕ
+  pub value_is : IsConnectivityOf p undirected pair value
+  pub text_is : text ≡ connect_line value
+
+-- the status of a check: 0 where the solution is right
+abbrev pub verdict_status : Verdict → ℕ
+verdict_status (Feasible value) = 0
+verdict_status (Optimal value) = 0
+verdict_status _ = 1
+
+-- What `check` puts for an accepted text of a solution: the verdict on it.
+pub record IsChecked (p : Instance) (q : List ℕ) (feasible_only : Bool) (text : List ℕ) (status : ℕ) : Type 0 where
+  pub written : Written
+  pub accepted : solution q p.net.nodes ≡ Ok written
+  pub verdict : Verdict
+  pub verdict_is : IsVerdict p written feasible_only verdict
+  pub text_is : text ≡ verdict_line verdict
+  pub status_is : status ≡ verdict_status verdict
+
+-- the answer of a job to a problem: a text, and the status of the run; `check` alone has to do with a solution's text q
+abbrev pub IsAnswer : Job → Instance → List ℕ → List ℕ → ℕ → Type 0
+IsAnswer (Solve value_only) p q text status = IsSolved p value_only text × (status ≡ 0)
+IsAnswer (Cut arcs sink) p q text status = IsSevered p arcs sink text × (status ≡ 0)
+IsAnswer (Connect undirected pair) p q text status = IsConnected p undirected pair text × (status ≡ 0)
+IsAnswer (Check feasible_only) p q text status = IsChecked p q feasible_only text status

@@ -1,0 +1,10 @@
+pub mod Streams
+pub mod Reading
+pub mod Sides
+pub mod Answers
+pub mod Exits
+pub mod SolutionFlows
+pub mod Verdicts
+pub mod ArcShares
+pub mod NodeSums
+pub mod Degrees

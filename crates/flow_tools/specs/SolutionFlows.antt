@@ -1,0 +1,40 @@
+-- What the flow lines of a solution add up to (solution files of the DIMACS format, 1990).
+use Rattle.std.specs.Prelude.{◌≡◌, ℕ, ◌+◌, ◌<◌, ◌≤◌, ◌⊎◌, ◌==◌, ◌&&◌, Bool, List, sum_by, pos, ◌-ℤ◌, ℤ, if◌then◌else◌}
+use Rattle.flow_net.specs.declared.networks.Arc.{Arc}
+use Rattle.flow_net.specs.Nets.{Net, Instance}
+use Rattle.flow_net.specs.NodeSets.{one_of}
+use Rattle.flow_net.specs.Flows.{flow_over, IsFeasible}
+use Rattle.flow_net.specs.Cuts.{cap_over}
+use Rattle.flow_text.specs.declared.solutions.FlowLine.{FlowLine}
+
+-- the sum of the flows of the lines whose two nodes pass a test
+abbrev pub line_flow : (ℕ → ℕ → Bool) → List FlowLine → ℕ
+line_flow p lines = sum_by (λ l. if p l.src l.dst then l.flow else 0) lines
+
+-- the test for one pair of nodes
+abbrev pub is_pair : ℕ → ℕ → ℕ → ℕ → Bool
+is_pair u v src dst = (u == src) && (v == dst)
+
+-- a pair's flow: the sum of the flows of the lines from u to v
+abbrev pub pair_flow : List FlowLine → ℕ → ℕ → ℕ
+pair_flow lines u v = line_flow (is_pair u v) lines
+
+-- a pair's capacity: the sum of the capacities of the arcs from u to v, 0 where there is none
+abbrev pub pair_cap : Net → ℕ → ℕ → ℕ
+pair_cap net u v = cap_over (λ a. is_pair u v a.src a.dst) net.arcs
+
+-- OUT and IN: the sum of the flows of the lines that begin, that end in a set of nodes
+abbrev pub lines_out_of : (ℕ → Bool) → List FlowLine → ℕ
+lines_out_of X lines = line_flow (λ src dst. X src) lines
+
+abbrev pub lines_into : (ℕ → Bool) → List FlowLine → ℕ
+lines_into X lines = line_flow (λ src dst. X dst) lines
+
+-- what leaves the sources less what enters them, below 0 where more enters them
+abbrev pub net_outflow : Instance → List FlowLine → ℤ
+net_outflow p lines = pos (lines_out_of (one_of p.sources) lines) -ℤ pos (lines_into (one_of p.sources) lines)
+
+-- some feasible flow carries in all, over the arcs of each pair of nodes, what the lines say of the pair
+abbrev pub IsFeasibleSolution : Instance → List FlowLine → Type 0
+IsFeasibleSolution p lines = (xs : List ℕ) × IsFeasible p.net (one_of p.sources) (one_of p.sinks) xs
+    × ((u v : ℕ) → flow_over (λ a. is_pair u v a.src a.dst) p.net.arcs xs ≡ pair_flow lines u v)

@@ -1,0 +1,70 @@
+//! The answer of a `check` job: the verdict on a solution, which is read once the problem is accepted.
+ghost use Rattle.std.specs.Prelude.{◌≡◌, ◌≤◌, ℕ, List, Ok};
+ghost use Rattle.flow_text.specs.Solution.{solution};
+ghost use Rattle.flow_text.specs.SolutionReading.{IsWithinLimits, written_in};
+ghost use Rattle.flow_tools.specs.Answers.{verdict_status};
+ghost use Rattle.flow_tools.specs.Exits.{Puts, Checks};
+ghost use Rattle.flow_tools.specs.Streams.{over};
+
+use super::checking::check;
+use super::jobs::{Job, Stop};
+use super::reading::read_all;
+use super::sending::put_all;
+use super::streams::{Input, Output};
+use flow_net::Problem;
+use flow_text::{Solution, SolutionReader, Verdict, verdict_line};
+use std::alloc::Global;
+
+// The status of a check: 0 where the solution is right.
+fn status_for(verdict: &Verdict) -> u8
+    ensures { result ≡ verdict_status verdict.now }
+{
+    match *verdict {
+        Verdict::Feasible(_) | Verdict::Optimal(_) => 0,
+        _ => 1,
+    }
+}
+
+// Puts the verdict on a solution that was read.
+fn put_verdict<O: Output>(
+    alloc: Global,
+    problem: &Problem,
+    found: &Solution,
+    feasible_only: bool,
+    out: &mut O,
+) -> Result<u8, Stop>
+    requires { IsWithinLimits problem.now.net.nodes (written_in found.now) }
+    ensures { (q : List ℕ) → solution q problem.now.net.nodes ≡ Ok (written_in found.now) → Puts (Job.Check feasible_only) problem.now q (over (O.taken out.old) (O.taken out.new) (O.has_failed out.old) (O.has_failed out.new)) result }
+{
+    let verdict = match check(alloc, problem, found, feasible_only) {
+        Ok(verdict) => verdict,
+        Err(_) => return Err(Stop::OutOfMemory),
+    };
+    match put_all(out, verdict_line(&verdict).as_slice()) {
+        Ok(()) => Ok(status_for(&verdict)),
+        Err(_) => Err(Stop::WriteFailed),
+    }
+}
+
+/// Reads a solution of a problem, and puts the verdict on it.
+///
+/// # Errors
+///
+/// `Fault` where the solution has one, `ReadFailed` where a pull failed, `WriteFailed` where a put failed, and
+/// `OutOfMemory`.
+pub fn answer_check<J: Input, O: Output>(
+    alloc: Global,
+    problem: &Problem,
+    feasible_only: bool,
+    given: &mut J,
+    out: &mut O,
+) -> Result<u8, Stop>
+    ensures { Checks feasible_only problem.now (over (J.left given.old) (J.left given.new) (J.has_failed given.old) (J.has_failed given.new)) (over (O.taken out.old) (O.taken out.new) (O.has_failed out.old) (O.has_failed out.new)) result }
+{
+    let reader = SolutionReader::new(alloc, problem.net().nodes());
+    let found = match read_all(given, reader, true) {
+        Ok(found) => found,
+        Err(stop) => return Err(stop),
+    };
+    put_verdict(alloc, problem, &found, feasible_only, out)
+}

@@ -1,0 +1,155 @@
+//! The checker of solutions.
+ghost use Rattle.std.specs.Prelude.{◌≡◌, ◌↔◌, ℕ, Bool, ◌<◌, ◌^◌, true, false, IfOk, IsTrue, MatchOption};
+ghost use Rattle.flow_net.specs.NodeSets.{one_of};
+ghost use Rattle.flow_net.specs.Flows.{Fits, IsFeasible, HasGreatestValue};
+ghost use Rattle.flow_text.specs.SolutionReading.{IsWithinLimits, written_in};
+ghost use Rattle.flow_tools.specs.SolutionFlows.{pair_flow, pair_cap, IsFeasibleSolution};
+ghost use Rattle.flow_tools.specs.Verdicts.{IsVerdict, IsRight, IsWithinCapacities, is_of_feasible};
+ghost use Rattle.flow_tools.specs.ArcShares.{Carries, HasLessValue};
+
+use crate::node_flows::{first_unbalanced, node_flows, outflow_of_sources};
+use crate::sharing::{Shared, share_out};
+use flow_net::{FlowTable, Network, OutOfMemory, Problem};
+use flow_solve::{reach, work_len};
+use flow_text::{FlowLine, Solution, Verdict};
+use std::alloc::Global;
+
+/// A pair's flow: the sum of the flows of its lines.
+fn flow_of_pair(lines: &[FlowLine], src: u32, dst: u32) -> u128
+    requires { pair_flow lines.now src dst < 2 ^ 128 }
+    ensures { result ≡ pair_flow lines.now src dst }
+{
+    let mut sum = 0;
+    for line in lines {
+        if line.src == src && line.dst == dst {
+            sum += line.flow as u128;
+        }
+    }
+    sum
+}
+
+/// A pair's capacity: the sum of the capacities of its arcs.
+fn cap_of_pair(net: &Network, src: u32, dst: u32) -> u128
+    ensures { result ≡ pair_cap net.now src dst }
+{
+    let mut sum = 0;
+    for i in 0..net.len() {
+        let arc = net.arc(i);
+        if arc.src == src && arc.dst == dst {
+            sum += arc.cap as u128;
+        }
+    }
+    sum
+}
+
+/// Whether a feasible flow has the greatest value.
+fn is_greatest(alloc: Global, problem: &Problem, flow: &mut FlowTable) -> Result<bool, OutOfMemory>
+    requires { IsFeasible problem.now.net (one_of problem.now.sources) (one_of problem.now.sinks) flow.old.flows }
+    ensures greatest { IfOk result (λ greatest. greatest ≡ true → HasGreatestValue problem.now.net (one_of problem.now.sources) (one_of problem.now.sinks) flow.old.flows) }
+    ensures less { IfOk result (λ greatest. greatest ≡ false → HasLessValue problem.now flow.old.flows) }
+{
+    let net = problem.net();
+    let Ok(mut work) = Vec::from_elem(alloc, 0u32, work_len(net.nodes(), net.len())) else {
+        return Err(OutOfMemory);
+    };
+    let Ok(mut side) = Vec::from_elem(alloc, false, net.nodes() as usize) else {
+        return Err(OutOfMemory);
+    };
+    let grows = reach(
+        net,
+        problem.sources(),
+        problem.sinks(),
+        flow,
+        work.as_mut_slice(),
+        side.as_mut_slice(),
+    );
+    Ok(!grows)
+}
+
+/// The verdict where no pair's flow passes its capacity and some node's balance or the value is wrong, if one is.
+fn wrong_sum(
+    alloc: Global,
+    problem: &Problem,
+    solution: &Solution,
+) -> Result<Option<Verdict>, OutOfMemory>
+    requires limits { IsWithinLimits problem.now.net.nodes (written_in solution.now) }
+    requires within { IsWithinCapacities problem.now.net solution.now.lines.items }
+    ensures { IfOk result (λ wrong. MatchOption wrong (IsRight problem.now (written_in solution.now))
+        (λ verdict. (feasible_only : Bool) → IsVerdict problem.now (written_in solution.now) feasible_only verdict)) }
+{
+    let flows = node_flows(alloc, problem.net().nodes(), solution.lines.as_slice())?;
+    if let Some(node) = first_unbalanced(alloc, problem, &flows)? {
+        let i = node as usize - 1;
+        return Ok(Some(Verdict::Unbalanced {
+            node,
+            into: flows.into[i],
+            out: flows.out[i],
+        }));
+    }
+    let given = solution.value;
+    let found = outflow_of_sources(problem, &flows);
+    if given as i128 != found {
+        return Ok(Some(Verdict::Value { given, found }));
+    }
+    Ok(None)
+}
+
+/// The verdict where no pair's flow passes its capacity, from a flow that carries what the lines say.
+fn judge(
+    alloc: Global,
+    problem: &Problem,
+    solution: &Solution,
+    flow: &mut FlowTable,
+    feasible_only: bool,
+) -> Result<Verdict, OutOfMemory>
+    requires limits { IsWithinLimits problem.now.net.nodes (written_in solution.now) }
+    requires fits { Fits problem.now.net flow.old.flows }
+    requires carries { Carries problem.now.net solution.now.lines.items flow.old.flows }
+    ensures { IfOk result (IsVerdict problem.now (written_in solution.now) feasible_only) }
+{
+    if let Some(verdict) = wrong_sum(alloc, problem, solution)? {
+        return Ok(verdict);
+    }
+    let value = solution.value;
+    if feasible_only {
+        return Ok(Verdict::Feasible(value));
+    }
+    if is_greatest(alloc, problem, flow)? {
+        Ok(Verdict::Optimal(value))
+    } else {
+        Ok(Verdict::NotMaximal(value))
+    }
+}
+
+/// Checks a solution of a problem (solution files of the DIMACS format, 1990). The verdict is the first of [`Verdict`]'s that
+/// applies; with `feasible_only` nobody asks whether a flow of greater value exists.
+///
+/// The caller ensures what an accepted solution keeps: both nodes of every line are nodes of the problem, and the lines, the
+/// flows and the value are within the limits. The flow lines of a pair of nodes are added up, and so are its arcs; the order
+/// of neither matters. No flow is searched for: the flow of the lines is put on the arcs, and one search tells whether its
+/// value is the greatest.
+///
+/// # Errors
+///
+/// `OutOfMemory` where a growth was refused.
+pub fn check(
+    alloc: Global,
+    problem: &Problem,
+    solution: &Solution,
+    feasible_only: bool,
+) -> Result<Verdict, OutOfMemory>
+    requires { IsWithinLimits problem.now.net.nodes (written_in solution.now) }
+    ensures verdict { IfOk result (IsVerdict problem.now (written_in solution.now) feasible_only) }
+    ensures feasible { IfOk result (λ verdict. IsTrue (is_of_feasible verdict) ↔ IsFeasibleSolution problem.now solution.now.lines.items) }
+{
+    let lines = solution.lines.as_slice();
+    match share_out(alloc, problem.net(), lines)? {
+        Shared::Flow(mut flow) => judge(alloc, problem, solution, &mut flow, feasible_only),
+        Shared::Over { src, dst } => Ok(Verdict::Over {
+            src,
+            dst,
+            flow: flow_of_pair(lines, src, dst),
+            cap: cap_of_pair(problem.net(), src, dst),
+        }),
+    }
+}

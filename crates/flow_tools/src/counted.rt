@@ -1,0 +1,83 @@
+//! Streams over std's readers and writers.
+ghost use Rattle.std.specs.Prelude.{◌≡◌, ◌^◌, ◌-◌, false};
+
+use super::streams::{Failed, Input, Output};
+use std::io::{Read, Write};
+
+/// A reader or a writer of std as an input or an output: one pull is one read, and one put is one write.
+///
+/// It counts down from 18,446,744,073,709,551,615 the pulls that may still deliver, so that a run over a reader without
+/// an end is bounded too. A pull past them fails, and so does a put of which the writer takes nothing.
+#[derive(Drop)]
+pub struct Counted<T> {
+    /// The reader or writer itself.
+    pub inner: T,
+    /// Whether a pull or a put has failed.
+    pub failed: bool,
+    /// How many pulls may still deliver a byte.
+    pub pulls: u64,
+}
+
+impl<T> Counted<T> {
+    /// A stream that hasn't failed. It takes no memory.
+    pub fn new(inner: T) -> Counted<T>
+        ensures inner { result.inner ≡ inner }
+        ensures fresh { result.failed ≡ false }
+        ensures pulls { result.pulls ≡ 2 ^ 64 - 1 }
+    {
+        Counted {
+            inner,
+            failed: false,
+            pulls: u64::MAX,
+        }
+    }
+}
+
+impl<T: Read> Input for Counted<T> {
+    ghost left = { λ s. T.remaining s.inner };
+
+    ghost has_failed = { λ s. s.failed };
+
+    ghost bound = { λ s. s.pulls };
+
+    fn pull(&mut self, buf: &mut [u8; 4096]) -> Result<usize, Failed> {
+        if self.pulls == 0 {
+            self.failed = true;
+            return Err(Failed);
+        }
+        match self.inner.read(buf.as_mut_slice()) {
+            Ok(count) => {
+                self.pulls -= 1;
+                Ok(count)
+            }
+            Err(_) => {
+                self.failed = true;
+                Err(Failed)
+            }
+        }
+    }
+
+    fn failed(&self) -> bool {
+        self.failed
+    }
+}
+
+impl<T: Write> Output for Counted<T> {
+    ghost taken = { λ s. T.contents s.inner };
+
+    ghost has_failed = { λ s. s.failed };
+
+    fn put(&mut self, bytes: &[u8]) -> Result<usize, Failed> {
+        match self.inner.write(bytes) {
+            Ok(count) if count > 0 || bytes.is_empty() => Ok(count),
+            _ => {
+                self.failed = true;
+                Err(Failed)
+            }
+        }
+    }
+
+    fn failed(&self) -> bool {
+        self.failed
+    }
+}

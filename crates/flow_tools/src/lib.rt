@@ -1,0 +1,44 @@
+//! Jobs over whole texts: all that the program does, over any streams.
+//!
+//! [`run`] pulls a problem from an [`Input`] piece by piece, has it solved, and puts the answer to an [`Output`]:
+//!
+//! ```text
+//! bytes → reading → Problem → answers (flow_solve) → a flow or a cut → printing → lines → sending → bytes
+//! ```
+//!
+//! What a run may put is the page `specs/Answers.antt`; how it ends, its message and its status are the page
+//! `specs/Exits.antt`. Both speak of the bytes that the streams delivered and took, and of the definitions of `flow_net` and
+//! `flow_text`, never of this code. Standard streams and files are [`Counted`]; [`memory`] has streams for tests.
+#![tactic(auto)]
+
+mod answers;
+mod check_answers;
+mod checking;
+mod connect_answers;
+mod connecting;
+mod counted;
+mod jobs;
+pub mod memory;
+mod node_flows;
+mod printing;
+mod readers;
+mod reading;
+mod running;
+mod sending;
+mod sharing;
+mod streams;
+
+pub use checking::check;
+pub use connecting::connectivity;
+pub use counted::Counted;
+pub use jobs::{Job, Stop};
+pub use running::run;
+pub use sending::{hold, put_all};
+pub use streams::{Failed, Input, Output};
+
+#[cfg(test)]
+mod check_tests;
+#[cfg(test)]
+mod job_tests;
+#[cfg(test)]
+mod tests;

@@ -1,0 +1,155 @@
+//! Streams over memory that lies ready, for tests: they ask for none, and fail where they are told to.
+ghost use Rattle.std.specs.Prelude.{◌≡◌, ◌≤◌, ◌<◌, ◌+◌, [], Some, length, false};
+ghost use Rattle.arrayvec.specs.ArrayVec.{array_vec_len};
+
+use super::streams::{Failed, Input, Output};
+use arrayvec::ArrayVec;
+
+/// An input that delivers given bytes in pieces, and fails at the pull with a given number.
+#[derive(Drop)]
+pub struct Script<'a> {
+    /// The bytes that are left.
+    pub rest: &'a [u8],
+    /// The most bytes that a pull delivers.
+    pub most: usize,
+    /// Whether a pull delivers no byte past the end of a line.
+    pub lines: bool,
+    /// The number of the pull that fails, counted from 1; 0 where none does.
+    pub fails_at: u64,
+    /// How many pulls were made, those that failed among them.
+    pub pulls: u64,
+    /// Whether a pull has failed.
+    pub failed: bool,
+    ghost most_fits: { (0 < most) × (most ≤ 4096) },
+}
+
+impl<'a> Script<'a> {
+    /// Delivers at most `most` bytes a pull, and where `lines` is true at most a line. The pull with the number
+    /// `fails_at`, counted from 1, fails; 0 is the number of none.
+    pub fn new(bytes: &'a [u8], most: usize, lines: bool, fails_at: u64) -> Script<'a>
+        requires positive { 0 < most }
+        requires fits { most ≤ 4096 }
+        ensures rest { result.rest ≡ bytes.entry }
+        ensures most { result.most ≡ most }
+        ensures lines { result.lines ≡ lines }
+        ensures fails_at { result.fails_at ≡ fails_at }
+        ensures unused { result.pulls ≡ 0 }
+        ensures fresh { result.failed ≡ false }
+    {
+        Script {
+            rest: bytes,
+            most,
+            lines,
+            fails_at,
+            pulls: 0,
+            failed: false,
+        }
+    }
+
+    // How many bytes the next pull delivers.
+    fn next_len(&self) -> usize
+        ensures fits { result ≤ 4096 }
+        ensures within { result ≤ length self.now.rest.now }
+        ensures some { 0 < length self.now.rest.now → 0 < result }
+    {
+        let most = self.most.min(self.rest.len());
+        if self.lines {
+            for i in 0..most {
+                if self.rest[i] == b'\n' {
+                    return i + 1;
+                }
+            }
+        }
+        most
+    }
+}
+
+impl Input for Script<'_> {
+    ghost left = { λ s. Some s.rest.now };
+
+    ghost has_failed = { λ s. s.failed };
+
+    ghost bound = { λ s. length s.rest.now };
+
+    fn pull(&mut self, buf: &mut [u8; 4096]) -> Result<usize, Failed> {
+        self.pulls = self.pulls.saturating_add(1);
+        if self.pulls == self.fails_at {
+            self.failed = true;
+            return Err(Failed);
+        }
+        let count = self.next_len();
+        let (piece, rest) = self.rest.split_at(count);
+        buf[..count].copy_from_slice(piece);
+        self.rest = rest;
+        Ok(count)
+    }
+
+    fn failed(&self) -> bool {
+        self.failed
+    }
+}
+
+/// An output that holds what it takes: at most so many bytes a put and so many in all, and then it fails.
+#[derive(Drop)]
+pub struct Held<const N: usize> {
+    /// What was taken.
+    pub bytes: ArrayVec<u8, N>,
+    /// The most bytes that a put takes.
+    pub most: usize,
+    /// How many more bytes are taken in all.
+    pub room: usize,
+    /// Whether a put has failed.
+    pub failed: bool,
+    ghost some: { 0 < most },
+    ghost fits: { array_vec_len bytes + room ≤ N },
+}
+
+impl<const N: usize> Held<N> {
+    /// Takes at most `most` bytes a put, and fails where `room` bytes were taken.
+    pub fn new(most: usize, room: usize) -> Held<N>
+        requires positive { 0 < most }
+        requires fits { room ≤ N }
+        ensures bytes { result.bytes.items ≡ [] }
+        ensures most { result.most ≡ most }
+        ensures room { result.room ≡ room }
+        ensures fresh { result.failed ≡ false }
+    {
+        Held {
+            bytes: ArrayVec::new(),
+            most,
+            room,
+            failed: false,
+        }
+    }
+
+    /// What was taken.
+    pub fn bytes(&self) -> &[u8]
+        ensures { result.now ≡ self.now.bytes.items }
+    {
+        self.bytes.as_slice()
+    }
+}
+
+impl<const N: usize> Output for Held<N> {
+    ghost taken = { λ s. Some s.bytes.items };
+
+    ghost has_failed = { λ s. s.failed };
+
+    fn put(&mut self, bytes: &[u8]) -> Result<usize, Failed> {
+        if bytes.is_empty() {
+            return Ok(0);
+        }
+        if self.room == 0 {
+            self.failed = true;
+            return Err(Failed);
+        }
+        let count = bytes.len().min(self.most).min(self.room);
+        self.room -= count;
+        let _ = self.bytes.try_extend_from_slice(&bytes[..count]);
+        Ok(count)
+    }
+
+    fn failed(&self) -> bool {
+        self.failed
+    }
+}

@@ -1,0 +1,165 @@
+//! The text of an answer is gathered line by line, and put when there is much of it.
+ghost use Rattle.std.specs.Prelude.{◌≡◌, ◌≤◌, ◌++◌, [], length, filter, OnOk, OnErr};
+ghost use Rattle.std.specs.List.{flat_map, zip};
+ghost use Rattle.std.specs.Io.KnownBytes.{Appends};
+ghost use Rattle.flow_net.specs.Cuts.{leaves};
+ghost use Rattle.flow_text.specs.Output.{arc_flow_line, arc_line, node_line, nodes_inside, solution_line};
+ghost use Rattle.flow_tools.specs.Answers.{solution_text, source_side_text};
+ghost use Rattle.flow_tools.specs.Sides.{side_of};
+ghost use Rattle.flow_tools.specs.Streams.{Flags, Sends, Stops};
+
+use super::sending::{Gathered, hold, put_all};
+use super::streams::{Failed, Output};
+use flow_net::{Arc, Network};
+use flow_text::{arc_line, flow_line, node_line, solution_line};
+
+/// Puts a value, and unless it is asked for alone the flow on each arc, in order.
+///
+/// # Errors
+///
+/// `Failed` where a put failed. A beginning of the text was then taken.
+pub fn put_solution<O: Output>(
+    out: &mut O,
+    net: &Network,
+    value: u128,
+    flows: &[u64],
+    value_only: bool,
+) -> Result<(), Failed>
+    requires count { length flows.now ≡ length net.now.arcs }
+    ensures ok { OnOk result (Appends (O.taken out.old) (O.taken out.new) (solution_text value_only net.now value flows.now)) }
+    ensures err { OnErr result (Stops (O.taken out.old) (O.taken out.new) (solution_text value_only net.now value flows.now)) }
+    ensures flag { Flags (O.has_failed out.old) (O.has_failed out.new) result }
+{
+    if value_only {
+        return put_all(out, solution_line(value).as_slice());
+    }
+    let mut held = Gathered::new();
+    hold_value(&mut held, value);
+    hold_flows(out, &mut held, net, flows)?;
+    put_all(out, held.as_slice())
+}
+
+/// Puts a value and the nodes of a source side, rising, and where `arcs` is true the arcs that leave it, in order.
+///
+/// The source side holds the nodes that are marked in `side`, cell `v - 1` for node `v`; where `sink` is true, the nodes
+/// that aren't.
+///
+/// # Errors
+///
+/// `Failed` where a put failed. A beginning of the text was then taken.
+pub fn put_cut<O: Output>(
+    out: &mut O,
+    net: &Network,
+    value: u128,
+    side: &[bool],
+    arcs: bool,
+    sink: bool,
+) -> Result<(), Failed>
+    requires count { length side.now ≡ net.now.nodes }
+    ensures ok { OnOk result (Appends (O.taken out.old) (O.taken out.new) (source_side_text arcs net.now value (side_of sink side.now))) }
+    ensures err { OnErr result (Stops (O.taken out.old) (O.taken out.new) (source_side_text arcs net.now value (side_of sink side.now))) }
+    ensures flag { Flags (O.has_failed out.old) (O.has_failed out.new) result }
+{
+    let mut held = Gathered::new();
+    hold_value(&mut held, value);
+    hold_nodes(out, &mut held, net, side, sink)?;
+    if !arcs {
+        return put_all(out, held.as_slice());
+    }
+    hold_arcs(out, &mut held, net, side, sink)?;
+    put_all(out, held.as_slice())
+}
+
+// Gathers the line of the value, the first of a text.
+fn hold_value(held: &mut Gathered, value: u128)
+    requires empty { held.old.items ≡ [] }
+    ensures { held.new.items ≡ solution_line value }
+{
+    let _ = held.try_extend_from_slice(solution_line(value).as_slice());
+}
+
+// Gathers the flow line of each arc.
+fn hold_flows<O: Output>(
+    out: &mut O,
+    held: &mut Gathered,
+    net: &Network,
+    flows: &[u64],
+) -> Result<(), Failed>
+    requires count { length flows.now ≡ length net.now.arcs }
+    ensures ok { OnOk result (Sends (O.taken out.old) (O.taken out.new) held.new.items (held.old.items ++ flat_map arc_flow_line (zip net.now.arcs flows.now))) }
+    ensures err { OnErr result (Stops (O.taken out.old) (O.taken out.new) (held.old.items ++ flat_map arc_flow_line (zip net.now.arcs flows.now))) }
+    ensures flag { Flags (O.has_failed out.old) (O.has_failed out.new) result }
+{
+    for i in 0..net.len() {
+        let arc = net.arc(i);
+        let line = flow_line(arc.src, arc.dst, flows[i as usize]);
+        hold(out, held, line.as_slice())?;
+    }
+    Ok(())
+}
+
+// Whether a node lies in the source side.
+fn is_inside(side: &[bool], sink: bool, node: u32) -> bool
+    requires least { 1 ≤ node }
+    requires most { node ≤ length side.now }
+    ensures { result ≡ side_of sink side.now node }
+{
+    side[node as usize - 1] != sink
+}
+
+// Gathers the line of each node of the source side.
+fn hold_nodes<O: Output>(
+    out: &mut O,
+    held: &mut Gathered,
+    net: &Network,
+    side: &[bool],
+    sink: bool,
+) -> Result<(), Failed>
+    requires count { length side.now ≡ net.now.nodes }
+    ensures ok { OnOk result (Sends (O.taken out.old) (O.taken out.new) held.new.items (held.old.items ++ flat_map node_line (nodes_inside net.now (side_of sink side.now)))) }
+    ensures err { OnErr result (Stops (O.taken out.old) (O.taken out.new) (held.old.items ++ flat_map node_line (nodes_inside net.now (side_of sink side.now)))) }
+    ensures flag { Flags (O.has_failed out.old) (O.has_failed out.new) result }
+{
+    for i in 0..net.nodes() {
+        let node = i + 1;
+        if !is_inside(side, sink, node) {
+            continue;
+        }
+        hold(out, held, node_line(node).as_slice())?;
+    }
+    Ok(())
+}
+
+// Whether an arc leaves the source side.
+fn does_leave(side: &[bool], sink: bool, arc: Arc) -> bool
+    requires src_least { 1 ≤ arc.src }
+    requires src_most { arc.src ≤ length side.now }
+    requires dst_least { 1 ≤ arc.dst }
+    requires dst_most { arc.dst ≤ length side.now }
+    ensures { result ≡ leaves (side_of sink side.now) arc }
+{
+    is_inside(side, sink, arc.src) && !is_inside(side, sink, arc.dst)
+}
+
+// Gathers the line of each arc that leaves the source side.
+fn hold_arcs<O: Output>(
+    out: &mut O,
+    held: &mut Gathered,
+    net: &Network,
+    side: &[bool],
+    sink: bool,
+) -> Result<(), Failed>
+    requires count { length side.now ≡ net.now.nodes }
+    ensures ok { OnOk result (Sends (O.taken out.old) (O.taken out.new) held.new.items (held.old.items ++ flat_map arc_line (filter (leaves (side_of sink side.now)) net.now.arcs))) }
+    ensures err { OnErr result (Stops (O.taken out.old) (O.taken out.new) (held.old.items ++ flat_map arc_line (filter (leaves (side_of sink side.now)) net.now.arcs))) }
+    ensures flag { Flags (O.has_failed out.old) (O.has_failed out.new) result }
+{
+    for i in 0..net.len() {
+        let arc = net.arc(i);
+        if !does_leave(side, sink, arc) {
+            continue;
+        }
+        hold(out, held, arc_line(arc).as_slice())?;
+    }
+    Ok(())
+}

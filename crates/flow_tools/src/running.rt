@@ -1,0 +1,109 @@
+//! The run of a job over its streams.
+ghost use Rattle.std.specs.Prelude.{◌≡◌};
+ghost use Rattle.flow_tools.specs.Exits.{Runs, EndsWith, IsTold, message_for, status_for};
+ghost use Rattle.flow_tools.specs.Streams.{over};
+
+use super::answers::{answer_cut, answer_solve};
+use super::check_answers::answer_check;
+use super::connect_answers::answer_connect;
+use super::jobs::{Job, Stop};
+use super::reading::read_all;
+use super::sending::put_all;
+use super::streams::{Input, Output};
+use flow_solve::Levels;
+use flow_text::{ProblemReader, fault_line};
+use std::alloc::Global;
+
+/// Runs a job: reads the problem, puts the answer to `out`, and answers the status of the run. Where there is no answer,
+/// `err` gets one line that says why, and `out` nothing, unless a put to it failed.
+///
+/// | Status | When | Line on `err` |
+/// |---|---|---|
+/// | 0 | all of the answer was put | none |
+/// | 1 | the verdict on a solution was put, and it says no | none |
+/// | 3 | the problem has a fault in line K | `flow: line K: TEXT` |
+/// | 3 | the solution has a fault in line K | `flow: solution line K: TEXT` |
+/// | 4 | a pull failed | `flow: read failed` |
+/// | 4 | a put to `out` failed; a beginning of the answer was put | `flow: write failed` |
+/// | 4 | memory was refused | `flow: out of memory` |
+///
+/// Each piece of an input is read before the next is pulled, and nothing is pulled after a fault or the end. `solution` is
+/// read by `Job::Check` alone, once the problem is accepted. All memory is asked for before the first byte is put. A failure of `err` cuts its line short and
+/// changes nothing else.
+pub fn run<I: Input, J: Input, O: Output, E: Output>(
+    alloc: Global,
+    job: Job,
+    problem: &mut I,
+    solution: &mut J,
+    out: &mut O,
+    err: &mut E,
+) -> u8
+    ensures { EndsWith job
+        (over (I.left problem.old) (I.left problem.new) (I.has_failed problem.old) (I.has_failed problem.new))
+        (over (J.left solution.old) (J.left solution.new) (J.has_failed solution.old) (J.has_failed solution.new))
+        (over (O.taken out.old) (O.taken out.new) (O.has_failed out.old) (O.has_failed out.new))
+        (over (E.taken err.old) (E.taken err.new) (E.has_failed err.old) (E.has_failed err.new)) result }
+{
+    match answer(alloc, job, problem, solution, out) {
+        Ok(status) => status,
+        Err(stop) => {
+            tell(err, stop);
+            status_of(stop)
+        }
+    }
+}
+
+// Reads the problem, and puts the answer to it.
+fn answer<I: Input, J: Input, O: Output>(
+    alloc: Global,
+    job: Job,
+    problem: &mut I,
+    solution: &mut J,
+    out: &mut O,
+) -> Result<u8, Stop>
+    ensures { Runs job
+        (over (I.left problem.old) (I.left problem.new) (I.has_failed problem.old) (I.has_failed problem.new))
+        (over (J.left solution.old) (J.left solution.new) (J.has_failed solution.old) (J.has_failed solution.new))
+        (over (O.taken out.old) (O.taken out.new) (O.has_failed out.old) (O.has_failed out.new)) result }
+{
+    let problem = match read_all(problem, ProblemReader::new(alloc), false) {
+        Ok(problem) => problem,
+        Err(stop) => return Err(stop),
+    };
+    match job {
+        Job::Solve { value_only } => answer_solve::<Levels, O>(alloc, &problem, value_only, out),
+        Job::Cut { arcs, sink } => answer_cut::<Levels, O>(alloc, &problem, arcs, sink, out),
+        Job::Connect { undirected, pair } => {
+            answer_connect::<Levels, O>(alloc, problem, undirected, pair, out)
+        }
+        Job::Check { feasible_only } => {
+            answer_check(alloc, &problem, feasible_only, solution, out)
+        }
+    }
+}
+
+// Puts the message of a run that ends without an answer. A failure ends the message and changes nothing else.
+fn tell<E: Output>(err: &mut E, stop: Stop)
+    ensures { IsTold (over (E.taken err.old) (E.taken err.new) (E.has_failed err.old) (E.has_failed err.new)) (message_for stop) }
+{
+    let _ = match stop {
+        Stop::Fault {
+            solution,
+            line,
+            code,
+        } => put_all(err, fault_line(solution, line, code).as_slice()),
+        Stop::ReadFailed => put_all(err, b"flow: read failed\n"),
+        Stop::WriteFailed => put_all(err, b"flow: write failed\n"),
+        Stop::OutOfMemory => put_all(err, b"flow: out of memory\n"),
+    };
+}
+
+// The status of a run that ends without an answer.
+fn status_of(stop: Stop) -> u8
+    ensures { result ≡ status_for stop }
+{
+    match stop {
+        Stop::Fault { .. } => 3,
+        _ => 4,
+    }
+}

@@ -1,0 +1,66 @@
+//! Where the bytes of a run come from, and where they go.
+ghost use Rattle.std.specs.Prelude.{◌≡◌, ◌≤◌, ℕ, Bool, List, length, IfOk};
+ghost use Rattle.std.specs.declared.option.Option.{Option};
+ghost use Rattle.std.specs.Io.KnownBytes.{ReadConsumes, WriteAppends};
+ghost use Rattle.flow_tools.specs.Streams.{Flags, Lowers, TakesSome};
+
+use thiserror::Error;
+
+/// A read or a write that a device refused, or that found no memory. It tells no more.
+#[derive(Clone, Copy, Debug, PartialEq, Eq, Error)]
+#[error("the stream failed")]
+pub struct Failed;
+
+/// A stream of bytes that is read to its end.
+pub trait Input {
+    /// The bytes that are left to read. `None` where no contract can know them, as of a file.
+    ghost left: { Self → Option (List ℕ) };
+
+    /// Whether a pull has failed.
+    ghost has_failed: { Self → Bool };
+
+    /// How many pulls may still deliver a byte.
+    ghost bound: { Self → ℕ };
+
+    /// Delivers a front of what is left at the front of the buffer, and answers how many bytes that are: 0 only at the
+    /// end. A pull that delivers a byte lowers the bound on such pulls.
+    ///
+    /// # Errors
+    ///
+    /// `Failed` where the device refused. Such a call delivers nothing, and from then on [`failed`](Input::failed) is
+    /// true.
+    fn pull(&mut self, buf: &mut [u8; 4096]) -> Result<usize, Failed>
+        ensures fits { IfOk result (λ n. n ≤ 4096) }
+        ensures bytes { ReadConsumes (left self.old) (left self.new) result buf.new }
+        ensures falls { Lowers (bound self.old) (bound self.new) result }
+        ensures flag { Flags (has_failed self.old) (has_failed self.new) result };
+
+    /// Whether a pull has failed.
+    fn failed(&self) -> bool
+        ensures { result ≡ has_failed self.now };
+}
+
+/// A stream that takes bytes.
+pub trait Output {
+    /// The bytes that were taken. `None` where no contract can know them, as of a file.
+    ghost taken: { Self → Option (List ℕ) };
+
+    /// Whether a put has failed.
+    ghost has_failed: { Self → Bool };
+
+    /// Takes a front of the bytes, and answers how many they are: at least 1 of a non-empty slice.
+    ///
+    /// # Errors
+    ///
+    /// `Failed` where the device refused. Such a call takes nothing, and from then on [`failed`](Output::failed) is
+    /// true.
+    fn put(&mut self, bytes: &[u8]) -> Result<usize, Failed>
+        ensures fits { IfOk result (λ n. n ≤ length bytes.now) }
+        ensures some { TakesSome bytes.now result }
+        ensures bytes { WriteAppends (taken self.old) (taken self.new) result bytes.now }
+        ensures flag { Flags (has_failed self.old) (has_failed self.new) result };
+
+    /// Whether a put has failed.
+    fn failed(&self) -> bool
+        ensures { result ≡ has_failed self.now };
+}

@@ -11,3 +11,6 @@ pub mod Judging
 pub mod PairSums
 pub mod ConnectingLemmas
 pub mod ConnectAnswers
+pub mod PrintedNumbers
+pub mod PrintedLines
+pub mod OptimalTexts

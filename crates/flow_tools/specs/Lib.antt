@@ -8,3 +8,4 @@ pub mod Verdicts
 pub mod ArcShares
 pub mod NodeSums
 pub mod Degrees
+pub mod SolvedTexts

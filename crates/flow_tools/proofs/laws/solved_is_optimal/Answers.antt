@@ -1,0 +1,5 @@
+use Rattle.flow_tools.proofs.OptimalTexts.{solved_optimal}
+use Rattle.flow_tools.proofs.laws.solved_is_optimal.Goals as goal
+
+pub returns : goal.returns
+returns c = solved_optimal

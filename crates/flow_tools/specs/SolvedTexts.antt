@@ -1,0 +1,27 @@
+-- The law that joins solving and checking: what `solve` puts is a solution, and the verdict on it is that it is optimal.
+use Rattle.std.specs.Prelude.{◌≡◌, ◌↔◌, ℕ, false, List, map, Ok}
+use Rattle.std.specs.List.{zip}
+use Rattle.flow_net.specs.declared.networks.Arc.{Arc}
+use Rattle.flow_net.specs.Nets.{Net, Instance, IsNet, IsProblem}
+use Rattle.flow_net.specs.NodeSets.{one_of}
+use Rattle.flow_net.specs.Flows.{IsGreatest}
+use Rattle.flow_text.specs.Solution.{Written, solution}
+use Rattle.flow_text.specs.declared.solutions.FlowLine.{FlowLine}
+use Rattle.flow_text.specs.declared.verdicts.Verdict.{Verdict}
+use Rattle.flow_text.specs.declared.verdicts.Verdict.TheVariants.{Optimal}
+use Rattle.flow_tools.specs.Verdicts.{IsVerdict}
+use Rattle.flow_tools.specs.Answers.{IsSolved}
+
+-- an arc's flow as a flow line
+abbrev pub carried_line : Arc × ℕ → FlowLine
+carried_line (arc, flow) = record { src = arc.src; dst = arc.dst; flow = flow }
+
+-- a flow as a solution: its value, and a flow line for each arc
+abbrev pub written_flow : Net → ℕ → List ℕ → Written
+written_flow net value flows = record { value = value; lines = map carried_line (zip net.arcs flows) }
+
+-- the text of a solved problem, whichever greatest flow it has, is accepted as a solution, and the one verdict on it is that
+-- it is optimal, with the greatest value
+abbrev pub SolvedIsOptimal : Type 0
+SolvedIsOptimal = (p : Instance) (text : List ℕ) (k : ℕ) → IsNet p.net → IsProblem p → IsGreatest p.net (one_of p.sources) (one_of p.sinks) k → IsSolved p false text
+    → (w : Written) × (solution text p.net.nodes ≡ Ok w) × ((verdict : Verdict) → IsVerdict p w false verdict ↔ (verdict ≡ Optimal k))

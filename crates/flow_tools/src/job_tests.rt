@@ -1,4 +1,6 @@
 //! Runs of `connect` and `check` over memory, and large problems.
+ghost use Rattle.std.specs.Prelude.{◌≤◌};
+
 use super::memory::{Held, Script};
 use super::{Input, Job, run};
 use flow_net::Arc;
@@ -26,13 +28,9 @@ struct Ended {
 }
 
 /// Runs a job over a problem and a solution, into an output that takes so many bytes.
-fn run_over(
-    alloc: Global,
-    job: Job,
-    problem: &[u8],
-    mut solution: Script<'_>,
-    room: usize,
-) -> Ended {
+fn run_over(alloc: Global, job: Job, problem: &[u8], mut solution: Script<'_>, room: usize) -> Ended
+    requires { room ≤ 256 }
+{
     let mut input = Script::new(problem, 4096, false, 0);
     let mut out: Held<256> = Held::new(16, room);
     let mut err: Held<128> = Held::new(16, 128);

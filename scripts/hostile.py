@@ -1,0 +1,281 @@
+#!/usr/bin/env python3
+"""Hostile use of the built program: memory that is refused, devices that fail, and mutated files.
+
+Usage: hostile.py PROGRAM [SECONDS [SEED]]
+
+PROGRAM is the built `flow`. Mutated files are tried for SECONDS (60), from SEED. Each check that fails is told in a line;
+the last line counts them. It needs `cc`, for the allocator that refuses a request.
+"""
+
+import os
+import random
+import resource
+import subprocess
+import sys
+import tempfile
+import time
+
+NET = b"p max 4 5\nn 1 s\nn 4 t\na 1 2 3\na 1 3 2\na 2 3 1\na 2 4 2\na 3 4 3\n"
+SOLUTION = b"s 5\nf 3 4 3\nf 2 4 2\nf 2 3 1\nf 1 3 2\nf 1 2 3\n"
+SOLVED = b"s 5\nf 1 2 3\nf 1 3 2\nf 2 3 1\nf 2 4 2\nf 3 4 3\n"
+TOO_FEW_ARCS = b"p max 2 2\nn 1 s\nn 2 t\na 1 2 1\n"
+OUT_OF_MEMORY = b"flow: out of memory\n"
+READ_FAILED = b"flow: read failed\n"
+WRITE_FAILED = b"flow: write failed\n"
+
+REFUSING_ALLOCATOR = r"""
+/* An allocator put before the C library's (LD_PRELOAD). It counts the requests for memory of a program, refuses the one
+ * whose number REFUSE_NTH gives, and at the end writes the count to the file that REFUSE_LOG names. */
+#define _GNU_SOURCE
+#include <dlfcn.h>
+#include <errno.h>
+#include <fcntl.h>
+#include <stdio.h>
+#include <stdlib.h>
+#include <string.h>
+#include <unistd.h>
+
+static void *(*real_malloc)(size_t);
+static void *(*real_realloc)(void *, size_t);
+static unsigned long requests, refused;
+
+__attribute__((constructor)) static void begin(void) {
+    const char *nth = getenv("REFUSE_NTH");
+    real_malloc = dlsym(RTLD_NEXT, "malloc");
+    real_realloc = dlsym(RTLD_NEXT, "realloc");
+    refused = nth ? strtoul(nth, NULL, 10) : 0;
+    requests = 0;
+}
+
+__attribute__((destructor)) static void end(void) {
+    const char *log = getenv("REFUSE_LOG");
+    char text[32];
+    int file, length;
+    if (!log) return;
+    file = open(log, O_WRONLY | O_CREAT | O_TRUNC, 0644);
+    if (file < 0) return;
+    length = snprintf(text, sizeof text, "%lu\n", requests);
+    if (write(file, text, (size_t)length) < 0) _exit(99);
+    close(file);
+}
+
+static int refuses(void) {
+    requests++;
+    if (requests != refused) return 0;
+    errno = ENOMEM;
+    return 1;
+}
+
+void *malloc(size_t size) {
+    if (!real_malloc) real_malloc = dlsym(RTLD_NEXT, "malloc");
+    return refuses() ? NULL : real_malloc(size);
+}
+
+void *realloc(void *block, size_t size) {
+    if (!real_realloc) real_realloc = dlsym(RTLD_NEXT, "realloc");
+    return refuses() ? NULL : real_realloc(block, size);
+}
+"""
+
+passed = 0
+failed = 0
+
+
+def check(what, holds, detail=""):
+    """Counts a check, and tells one that fails."""
+    global passed, failed
+    if holds:
+        passed += 1
+    else:
+        failed += 1
+        print(f"failed: {what} {detail}", flush=True)
+
+
+def run(words, stdin=b"", env=None, limit=None, seconds=60):
+    """Runs the program, and answers its status, output and message."""
+    before = (lambda: resource.setrlimit(resource.RLIMIT_AS, (limit, limit))) if limit else None
+    done = subprocess.run([PROGRAM] + words, input=stdin, capture_output=True, env=env, timeout=seconds, preexec_fn=before)
+    return done.returncode, done.stdout, done.stderr
+
+
+def refused_growths(folder):
+    """Refuses the first, second, third .. request for memory, until a run makes no further one."""
+    log = os.path.join(folder, "requests")
+    net = os.path.join(folder, "net")
+    with open(net, "wb") as file:
+        file.write(NET)
+    jobs = [
+        (["solve"], NET, (0, SOLVED, b"")),
+        (["cut", "--arcs"], NET, (0, b"s 5\nn 1\na 1 2 3\na 1 3 2\n", b"")),
+        (["connect", "--undirected"], NET, (0, b"k 2\n", b"")),
+        (["check", net], SOLUTION, (0, b"optimal 5\n", b"")),
+        (["solve"], TOO_FEW_ARCS, (3, b"", b"flow: line 5: too few arcs\n")),
+    ]
+    for words, stdin, wanted in jobs:
+        if words[0] not in COMMANDS:
+            continue
+        done_without = 0
+        for nth in range(1, 10000):
+            env = dict(os.environ, LD_PRELOAD=ALLOCATOR, REFUSE_NTH=str(nth), REFUSE_LOG=log)
+            answer = run(words, stdin, env)
+            with open(log) as file:
+                requests = int(file.read())
+            if requests < nth:
+                check(f"{words} with no request refused", answer == wanted, answer)
+                break
+            # At the start one request is made that the program does without.
+            done_without += answer == wanted
+            check(f"{words} with request {nth} refused", answer == (4, b"", OUT_OF_MEMORY) or (answer == wanted and done_without == 1), answer)
+
+
+def small_address_space(folder):
+    """A large problem in little memory ends with its message and nothing on standard output."""
+    nodes, arcs = 200000, 1000000
+    path = os.path.join(folder, "large")
+    with open(path, "w") as file:
+        file.write(f"p max {nodes} {arcs}\nn 1 s\nn {nodes} t\n")
+        for i in range(arcs):
+            file.write(f"a {i % nodes + 1} {i * 7 % nodes + 1} {i % 1000}\n")
+    for words in (["solve", path], ["cut", path]):
+        answer = run(words, limit=24 << 20)
+        check(f"{words[0]} in 24 MiB", answer == (4, b"", OUT_OF_MEMORY), (answer[0], answer[1][:40], answer[2]))
+
+
+def devices(folder):
+    """Full, missing, closed and unreadable devices."""
+    net = os.path.join(folder, "net")
+    shell = lambda line: subprocess.run(["bash", "-c", line, PROGRAM, net, folder], capture_output=True, timeout=60)
+
+    def ends(what, line, status, message, out=b""):
+        done = shell(line)
+        check(what, (done.returncode, done.stdout, done.stderr) == (status, out, message), (done.returncode, done.stdout[:60], done.stderr))
+
+    ends("a full device", '"$0" solve "$1" > /dev/full', 4, WRITE_FAILED)
+    ends("a full device for help", '"$0" --help > /dev/full', 4, WRITE_FAILED)
+    ends("a folder as FILE", '"$0" solve "$2"', 4, READ_FAILED)
+    ends("a missing file", '"$0" solve "$2/missing.max"', 4, f"flow: cannot open {folder}/missing.max\n".encode())
+    ends("a closed standard input", '"$0" solve <&-', 4, READ_FAILED)
+    ends("a closed standard output", '"$0" solve "$1" >&-', 4, WRITE_FAILED)
+    ends("a closed standard error", '"$0" solve "$2" 2>&-; exit $?', 4, b"")
+    ends("a file of the name -", '"$0" solve -', 4, b"flow: cannot open -\n")
+    ends("no command", '"$0"', 2, b"")
+
+    big = os.path.join(folder, "big")
+    with open(big, "w") as file:
+        file.write("p max 2 300000\nn 1 s\nn 2 t\n" + "a 1 2 1\n" * 300000)
+    done = shell(f'"$0" solve {big} | head -c 5; echo "${{PIPESTATUS[0]}}"')
+    check("a reader that goes away", (done.stdout, done.stderr) == (b"s 3004\n", WRITE_FAILED), (done.stdout, done.stderr))
+
+
+def mutated(random_numbers, text):
+    """A text with some of its bytes changed, dropped, doubled or swapped, or with whole lines so."""
+    lines = text.split(b"\n")
+    for _ in range(random_numbers.choice([0, 1, 1, 2, 3, 8])):
+        kind = random_numbers.randrange(9)
+        at = random_numbers.randrange(len(lines))
+        if kind == 0:
+            del lines[at]
+            lines = lines or [b""]
+        elif kind == 1:
+            lines.insert(at, lines[at])
+        elif kind == 2:
+            other = random_numbers.randrange(len(lines))
+            lines[at], lines[other] = lines[other], lines[at]
+        elif kind == 3:
+            lines.insert(at, random_numbers.choice([b"c note", b"", b"   ", b" c", b"x", b"p max 2 0", b"n 1 s", b"n 2 t", b"s 1", b"f 1 2 1", b"a 1 2 18446744073709551616", b"c" + b"y" * 300, b" " * 201]))
+        else:
+            line = bytearray(lines[at])
+            place = random_numbers.randrange(len(line) + 1)
+            if kind == 4:
+                line.insert(place, random_numbers.randrange(256))
+            elif kind == 5 and line:
+                del line[min(place, len(line) - 1)]
+            elif kind == 6 and line:
+                line[min(place, len(line) - 1)] = random_numbers.randrange(256)
+            elif kind == 7:
+                line[place:place] = str(random_numbers.choice([0, 1, 2, 9, 10**6, 2**32, 2**64 - 1, 2**64, 10**30])).encode()
+            elif kind == 8:
+                line = bytearray(line.replace(b" ", random_numbers.choice([b"\t", b"\r", b"  ", b"\x0b"]), 1))
+            lines[at] = bytes(line)
+    text = b"\n".join(lines)
+    if random_numbers.randrange(4) == 0:
+        text = text[: random_numbers.randrange(len(text) + 1)]
+    return text
+
+
+def problem(random_numbers):
+    """A small problem, mostly accepted."""
+    nodes = random_numbers.randrange(2, 9)
+    arcs = random_numbers.randrange(0, 20)
+    order = random_numbers.sample(range(1, nodes + 1), nodes)
+    sources = random_numbers.randrange(1, nodes)
+    sinks = random_numbers.randrange(1, nodes - sources + 1)
+    greatest = random_numbers.choice([1, 3, 100, 2**64 - 1])
+    lines = [f"p max {nodes} {arcs}"]
+    lines += [f"n {v} s" for v in order[:sources]] + [f"n {v} t" for v in order[sources : sources + sinks]]
+    lines += [f"a {random_numbers.randrange(1, nodes + 1)} {random_numbers.randrange(1, nodes + 1)} {random_numbers.randrange(greatest + 1)}" for _ in range(arcs)]
+    return "\n".join(lines).encode() + b"\n"
+
+
+def is_well_ended(answer):
+    """A status of the table, with at most one message line, and nothing put where an input was refused."""
+    status, out, message = answer
+    if status in (0, 1):
+        return message == b"" and out.endswith(b"\n")
+    if status == 3:
+        return out == b"" and message.startswith((b"flow: line ", b"flow: solution line ")) and message.count(b"\n") == 1
+    return False
+
+
+def fuzz(folder, seconds, seed):
+    """Runs every command over mutated files, and holds what the commands say against each other."""
+    random_numbers = random.Random(seed)
+    net, solution = os.path.join(folder, "fuzz.max"), os.path.join(folder, "fuzz.sol")
+    until = time.monotonic() + seconds
+    runs = 0
+    while time.monotonic() < until:
+        text = mutated(random_numbers, problem(random_numbers))
+        with open(net, "wb") as file:
+            file.write(text)
+        solved = run(["solve", net])
+        answers = {"solve": solved}
+        for words in (["solve", "--value", net], ["cut", "--arcs", net], ["cut", "--sink", "--arcs", net], ["connect", net], ["connect", "--undirected", net], ["connect", "--pair", net]):
+            if words[0] in COMMANDS:
+                answers[" ".join(words[:-1])] = run(words)
+        for job, answer in answers.items():
+            check(f"{job} ends well", is_well_ended(answer), (text, answer))
+            check(f"{job} judges the file as solve does", (answer[0], answer[2]) == (solved[0], solved[2]), (text, answer, solved))
+        if solved[0] == 0:
+            value = solved[1].split(b"\n")[0][2:]
+            for job in ("cut --arcs", "cut --sink --arcs"):
+                lines = answers[job][1].split(b"\n")
+                total = sum(int(line.split()[3]) for line in lines if line.startswith(b"a "))
+                check(f"the arcs of {job} add up to the value", lines[0] == b"s " + value and total == int(value), (text, answers[job]))
+            if "check" in COMMANDS:
+                with open(solution, "wb") as file:
+                    file.write(solved[1])
+                verdict = run(["check", net, solution])
+                check("what solve prints is optimal", verdict == (0, b"optimal " + value + b"\n", b""), (text, verdict))
+                with open(solution, "wb") as file:
+                    file.write(mutated(random_numbers, solved[1]))
+                check("a mutated solution ends well", is_well_ended(run(["check", net, solution])), text)
+        runs += 1
+    print(f"{runs} mutated problems, seed {seed}", flush=True)
+
+
+if __name__ == "__main__":
+    PROGRAM = os.path.abspath(sys.argv[1])
+    help_text = run(["--help"])[1]
+    COMMANDS = [name for name in ("solve", "cut", "connect", "check") if name.encode() in help_text]
+    with tempfile.TemporaryDirectory() as folder:
+        ALLOCATOR = os.path.join(folder, "refuse.so")
+        source = os.path.join(folder, "refuse.c")
+        with open(source, "w") as file:
+            file.write(REFUSING_ALLOCATOR)
+        subprocess.run(["cc", "-O1", "-shared", "-fPIC", "-o", ALLOCATOR, source, "-ldl"], check=True)
+        refused_growths(folder)
+        small_address_space(folder)
+        devices(folder)
+        fuzz(folder, float(sys.argv[2]) if len(sys.argv) > 2 else 60.0, int(sys.argv[3]) if len(sys.argv) > 3 else 1990)
+    print(f"hostile: {passed} passed, {failed} failed")
+    sys.exit(1 if failed else 0)

@@ -1,10 +1,10 @@
 #!/usr/bin/env python3
 """Hostile use of the built program: memory that is refused, devices that fail, and mutated files.
 
-Usage: hostile.py PROGRAM [SECONDS [SEED]]
+Usage: hostile.py PROGRAM [PROBLEMS [SEED]]
 
-PROGRAM is the built `flow`. Mutated files are tried for SECONDS (60), from SEED. Each check that fails is told in a line;
-the last line counts them. It needs `cc`, for the allocator that refuses a request.
+PROGRAM is the built `flow`. So many mutated PROBLEMS are tried (1,500, about a minute), from SEED. Each check that fails is
+told in a line; the last line counts them. It needs `cc`, for the allocator that refuses a request.
 """
 
 import os
@@ -13,7 +13,6 @@ import resource
 import subprocess
 import sys
 import tempfile
-import time
 
 NET = b"p max 4 5\nn 1 s\nn 4 t\na 1 2 3\na 1 3 2\na 2 3 1\na 2 4 2\na 3 4 3\n"
 SOLUTION = b"s 5\nf 3 4 3\nf 2 4 2\nf 2 3 1\nf 1 3 2\nf 1 2 3\n"
@@ -227,13 +226,11 @@ def is_well_ended(answer):
     return False
 
 
-def fuzz(folder, seconds, seed):
+def fuzz(folder, problems, seed):
     """Runs every command over mutated files, and holds what the commands say against each other."""
     random_numbers = random.Random(seed)
     net, solution = os.path.join(folder, "fuzz.max"), os.path.join(folder, "fuzz.sol")
-    until = time.monotonic() + seconds
-    runs = 0
-    while time.monotonic() < until:
+    for _ in range(problems):
         text = mutated(random_numbers, problem(random_numbers))
         with open(net, "wb") as file:
             file.write(text)
@@ -259,8 +256,7 @@ def fuzz(folder, seconds, seed):
                 with open(solution, "wb") as file:
                     file.write(mutated(random_numbers, solved[1]))
                 check("a mutated solution ends well", is_well_ended(run(["check", net, solution])), text)
-        runs += 1
-    print(f"{runs} mutated problems, seed {seed}", flush=True)
+    print(f"{problems} mutated problems, seed {seed}", flush=True)
 
 
 if __name__ == "__main__":
@@ -276,6 +272,6 @@ if __name__ == "__main__":
         refused_growths(folder)
         small_address_space(folder)
         devices(folder)
-        fuzz(folder, float(sys.argv[2]) if len(sys.argv) > 2 else 60.0, int(sys.argv[3]) if len(sys.argv) > 3 else 1990)
+        fuzz(folder, int(sys.argv[2]) if len(sys.argv) > 2 else 1500, int(sys.argv[3]) if len(sys.argv) > 3 else 1990)
     print(f"hostile: {passed} passed, {failed} failed")
     sys.exit(1 if failed else 0)

@@ -10,5 +10,21 @@ if [ -n "$stray" ]; then
   exit 1
 fi
 
+folder=$(mktemp -d)
+trap 'rm -rf "$folder"' EXIT
+
 # Every proof from nothing, the edits that must be refused, each test, and each program as two compilers make it.
-exec rt ci
+rt ci 2>&1 | tee "$folder/gate"
+[ "${PIPESTATUS[0]}" -eq 0 ] || exit 1
+gate=$(grep -E '^[0-9]+ passed, 0 failed$' "$folder/gate" | tail -n 1)
+[ -n "$gate" ] || exit 1
+
+# The built program under hostile use.
+[ -x crates/flow/out/flow ] || (cd crates/flow && rt run < stdin > /dev/null) || exit 1
+python3 scripts/hostile.py crates/flow/out/flow | tee "$folder/hostile"
+[ "${PIPESTATUS[0]}" -eq 0 ] || exit 1
+hostile=$(grep -E '^hostile: [0-9]+ passed, 0 failed$' "$folder/hostile" | tail -n 1)
+[ -n "$hostile" ] || exit 1
+
+hostile=${hostile#hostile: }
+echo "$((${gate%% *} + ${hostile%% *})) passed, 0 failed"

@@ -10,7 +10,7 @@ folder=$(cd "$1" && pwd)
 cd "$(dirname "$0")/../crates/flow"
 # The proof takes minutes, since nothing is built that isn't proved; its lines go to a file.
 log=$(mktemp)
-if ! rt run < stdin > "$log" 2>&1; then
+if ! rt run -- solve --value < stdin > "$log" 2>&1; then
   tail -n 20 "$log" >&2
   echo "the program was not built; the whole output is in $log" >&2
   exit 1

@@ -20,7 +20,7 @@ gate=$(grep -E '^[0-9]+ passed, 0 failed$' "$folder/gate" | tail -n 1)
 [ -n "$gate" ] || exit 1
 
 # The built program under hostile use.
-[ -x crates/flow/out/flow ] || (cd crates/flow && rt run < stdin > /dev/null) || exit 1
+[ -x crates/flow/out/flow ] || (cd crates/flow && rt run -- solve --value < stdin > /dev/null) || exit 1
 python3 scripts/hostile.py crates/flow/out/flow | tee "$folder/hostile"
 [ "${PIPESTATUS[0]}" -eq 0 ] || exit 1
 hostile=$(grep -E '^hostile: [0-9]+ passed, 0 failed$' "$folder/hostile" | tail -n 1)

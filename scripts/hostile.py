@@ -1,10 +1,11 @@
 #!/usr/bin/env python3
-"""Hostile use of the built program: memory that is refused, devices that fail, and mutated files.
+"""Hostile use of the built programs: memory that is refused, devices that fail, and mutated files.
 
-Usage: hostile.py PROGRAM [PROBLEMS [SEED]]
+Usage: hostile.py FLOW GROWTHS [PROBLEMS [SEED]]
 
-PROGRAM is the built `flow`. So many mutated PROBLEMS are tried (1,500, about a minute), from SEED. Each check that fails is
-told in a line; the last line counts them. It needs `cc`, for the allocator that refuses a request.
+FLOW is the built `flow`, GROWTHS the built `growths`, which makes single calls of the library. So many mutated PROBLEMS are
+tried (1,500, about a minute), from SEED. Each check that fails is told in a line; the last line counts them. It needs `cc`,
+for the allocator that refuses requests.
 """
 
 import os
@@ -19,12 +20,15 @@ SOLUTION = b"s 5\nf 3 4 3\nf 2 4 2\nf 2 3 1\nf 1 3 2\nf 1 2 3\n"
 SOLVED = b"s 5\nf 1 2 3\nf 1 3 2\nf 2 3 1\nf 2 4 2\nf 3 4 3\n"
 TOO_FEW_ARCS = b"p max 2 2\nn 1 s\nn 2 t\na 1 2 1\n"
 OUT_OF_MEMORY = b"flow: out of memory\n"
+AS_PROMISED = b"out of memory, as promised"
+REFUSED_BEFORE = b"out of memory before"
 READ_FAILED = b"flow: read failed\n"
 WRITE_FAILED = b"flow: write failed\n"
 
 REFUSING_ALLOCATOR = r"""
 /* An allocator put before the C library's (LD_PRELOAD). It counts the requests for memory of a program, refuses the one
- * whose number REFUSE_NTH gives, and at the end writes the count to the file that REFUSE_LOG names. */
+ * whose number REFUSE_NTH gives, or all where that is `all`, and at the end writes the count to the file that REFUSE_LOG
+ * names. */
 #define _GNU_SOURCE
 #include <dlfcn.h>
 #include <errno.h>
@@ -37,12 +41,14 @@ REFUSING_ALLOCATOR = r"""
 static void *(*real_malloc)(size_t);
 static void *(*real_realloc)(void *, size_t);
 static unsigned long requests, refused;
+static int all;
 
 __attribute__((constructor)) static void begin(void) {
     const char *nth = getenv("REFUSE_NTH");
     real_malloc = dlsym(RTLD_NEXT, "malloc");
     real_realloc = dlsym(RTLD_NEXT, "realloc");
     refused = nth ? strtoul(nth, NULL, 10) : 0;
+    all = nth && strcmp(nth, "all") == 0;
     requests = 0;
 }
 
@@ -60,7 +66,7 @@ __attribute__((destructor)) static void end(void) {
 
 static int refuses(void) {
     requests++;
-    if (requests != refused) return 0;
+    if (requests != refused && !all) return 0;
     errno = ENOMEM;
     return 1;
 }
@@ -90,16 +96,23 @@ def check(what, holds, detail=""):
         print(f"failed: {what} {detail}", flush=True)
 
 
-def run(words, stdin=b"", env=None, limit=None, seconds=60):
-    """Runs the program, and answers its status, output and message."""
+def run(words, stdin=b"", env=None, limit=None, seconds=60, program=None):
+    """Runs `flow` or another program, and answers its status, output and message."""
     before = (lambda: resource.setrlimit(resource.RLIMIT_AS, (limit, limit))) if limit else None
-    done = subprocess.run([PROGRAM] + words, input=stdin, capture_output=True, env=env, timeout=seconds, preexec_fn=before)
+    done = subprocess.run([program or PROGRAM] + words, input=stdin, capture_output=True, env=env, timeout=seconds, preexec_fn=before)
     return done.returncode, done.stdout, done.stderr
 
 
-def refused_growths(folder):
-    """Refuses the first, second, third .. request for memory, until a run makes no further one."""
+def run_refused(folder, words, stdin, nth, program=None):
+    """Runs a program whose request with this number is refused, or all are, and answers how many it made and its answer."""
     log = os.path.join(folder, "requests")
+    answer = run(words, stdin, dict(os.environ, LD_PRELOAD=ALLOCATOR, REFUSE_NTH=str(nth), REFUSE_LOG=log), program=program)
+    with open(log) as file:
+        return int(file.read()), answer
+
+
+def refused_growths(folder):
+    """Refuses the first, second, third .. request of a job for memory, until a run makes no further one, and then all."""
     net = os.path.join(folder, "net")
     with open(net, "wb") as file:
         file.write(NET)
@@ -111,20 +124,51 @@ def refused_growths(folder):
         (["solve"], TOO_FEW_ARCS, (3, b"", b"flow: line 5: too few arcs\n")),
     ]
     for words, stdin, wanted in jobs:
-        if words[0] not in COMMANDS:
-            continue
         done_without = 0
         for nth in range(1, 10000):
-            env = dict(os.environ, LD_PRELOAD=ALLOCATOR, REFUSE_NTH=str(nth), REFUSE_LOG=log)
-            answer = run(words, stdin, env)
-            with open(log) as file:
-                requests = int(file.read())
+            requests, answer = run_refused(folder, words, stdin, nth)
             if requests < nth:
                 check(f"{words} with no request refused", answer == wanted, answer)
                 break
             # At the start one request is made that the program does without.
             done_without += answer == wanted
             check(f"{words} with request {nth} refused", answer == (4, b"", OUT_OF_MEMORY) or (answer == wanted and done_without == 1), answer)
+        answer = run_refused(folder, words, stdin, "all")[1]
+        check(f"{words} with every request refused", answer == (4, b"", OUT_OF_MEMORY), answer)
+
+
+def refused_calls(folder):
+    """The same for single calls of the library, and for runs over streams that ask for no memory."""
+    calls = {
+        b"push": b"20 arcs",
+        b"both_ways": b"40 arcs",
+        b"read_problem": b"5 arcs",
+        b"read_solution": b"5 flow lines",
+        b"finish": b"1 arc",
+        b"check": b"optimal 5",
+        b"run_solve": b"answered",
+        b"run_cut": b"answered",
+        b"run_connect": b"answered",
+        b"run_check": b"answered",
+        b"run_faulty": b"line 5: too few arcs",
+    }
+    for name, wanted in calls.items():
+        line = lambda told: (0, name + b": " + told + b"\n", b"")
+        answers = []
+        for nth in range(1, 10000):
+            requests, answer = run_refused(folder, [], name, nth, GROWTHS)
+            if requests < nth:
+                check(f"{name} with no request refused", answer == line(wanted), answer)
+                break
+            answers.append(answer)
+            refused = answer in (line(AS_PROMISED), line(REFUSED_BEFORE))
+            check(f"{name} with request {nth} refused", refused, answer)
+        check(f"{name} is refused a growth of its own", line(AS_PROMISED) in answers, answers)
+        answer = run_refused(folder, [], name, "all", GROWTHS)[1]
+        check(f"{name} with every request refused", answer in (line(AS_PROMISED), line(REFUSED_BEFORE)), answer)
+    # What a problem line declares takes no memory: a reader that is refused every request answers Ok.
+    answer = run_refused(folder, [], b"declare", "all", GROWTHS)[1]
+    check("the greatest numbers declared with every request refused", answer == (0, b"declare: Ok\n", b""), answer)
 
 
 def small_address_space(folder):
@@ -237,8 +281,7 @@ def fuzz(folder, problems, seed):
         solved = run(["solve", net])
         answers = {"solve": solved}
         for words in (["solve", "--value", net], ["cut", "--arcs", net], ["cut", "--sink", "--arcs", net], ["connect", net], ["connect", "--undirected", net], ["connect", "--pair", net]):
-            if words[0] in COMMANDS:
-                answers[" ".join(words[:-1])] = run(words)
+            answers[" ".join(words[:-1])] = run(words)
         for job, answer in answers.items():
             check(f"{job} ends well", is_well_ended(answer), (text, answer))
             check(f"{job} judges the file as solve does", (answer[0], answer[2]) == (solved[0], solved[2]), (text, answer, solved))
@@ -248,21 +291,21 @@ def fuzz(folder, problems, seed):
                 lines = answers[job][1].split(b"\n")
                 total = sum(int(line.split()[3]) for line in lines if line.startswith(b"a "))
                 check(f"the arcs of {job} add up to the value", lines[0] == b"s " + value and total == int(value), (text, answers[job]))
-            if "check" in COMMANDS:
-                with open(solution, "wb") as file:
-                    file.write(solved[1])
-                verdict = run(["check", net, solution])
-                check("what solve prints is optimal", verdict == (0, b"optimal " + value + b"\n", b""), (text, verdict))
-                with open(solution, "wb") as file:
-                    file.write(mutated(random_numbers, solved[1]))
-                check("a mutated solution ends well", is_well_ended(run(["check", net, solution])), text)
+            with open(solution, "wb") as file:
+                file.write(solved[1])
+            verdict = run(["check", net, solution])
+            check("what solve prints is optimal", verdict == (0, b"optimal " + value + b"\n", b""), (text, verdict))
+            with open(solution, "wb") as file:
+                file.write(mutated(random_numbers, solved[1]))
+            check("a mutated solution ends well", is_well_ended(run(["check", net, solution])), text)
     print(f"{problems} mutated problems, seed {seed}", flush=True)
 
 
 if __name__ == "__main__":
     PROGRAM = os.path.abspath(sys.argv[1])
-    help_text = run(["--help"])[1]
-    COMMANDS = [name for name in ("solve", "cut", "connect", "check") if name.encode() in help_text]
+    GROWTHS = os.path.abspath(sys.argv[2])
+    PROBLEMS = int(sys.argv[3]) if len(sys.argv) > 3 else 1500
+    SEED = int(sys.argv[4]) if len(sys.argv) > 4 else 1990
     with tempfile.TemporaryDirectory() as folder:
         ALLOCATOR = os.path.join(folder, "refuse.so")
         source = os.path.join(folder, "refuse.c")
@@ -270,8 +313,9 @@ if __name__ == "__main__":
             file.write(REFUSING_ALLOCATOR)
         subprocess.run(["cc", "-O1", "-shared", "-fPIC", "-o", ALLOCATOR, source, "-ldl"], check=True)
         refused_growths(folder)
+        refused_calls(folder)
         small_address_space(folder)
         devices(folder)
-        fuzz(folder, int(sys.argv[2]) if len(sys.argv) > 2 else 1500, int(sys.argv[3]) if len(sys.argv) > 3 else 1990)
+        fuzz(folder, PROBLEMS, SEED)
     print(f"hostile: {passed} passed, {failed} failed")
     sys.exit(1 if failed else 0)

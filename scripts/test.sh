@@ -19,9 +19,10 @@ rt ci 2>&1 | tee "$folder/gate"
 gate=$(grep -E '^[0-9]+ passed, 0 failed$' "$folder/gate" | tail -n 1)
 [ -n "$gate" ] || exit 1
 
-# The built program under hostile use.
+# The built programs under hostile use.
 [ -x crates/flow/out/flow ] || (cd crates/flow && rt run -- solve --value < stdin > /dev/null) || exit 1
-python3 scripts/hostile.py crates/flow/out/flow | tee "$folder/hostile"
+[ -x crates/growths/out/growths ] || (cd crates/growths && rt run < stdin > /dev/null) || exit 1
+python3 scripts/hostile.py crates/flow/out/flow crates/growths/out/growths | tee "$folder/hostile"
 [ "${PIPESTATUS[0]}" -eq 0 ] || exit 1
 hostile=$(grep -E '^hostile: [0-9]+ passed, 0 failed$' "$folder/hostile" | tail -n 1)
 [ -n "$hostile" ] || exit 1

@@ -1,0 +1,79 @@
+//! The calls by their names, and runs over streams that ask for no memory.
+
+use crate::calls::{
+    BROKEN, REFUSED, both_ways, check_solution, declare, finish, push, read_problem, read_solution,
+};
+use crate::nets::{FOUR_NODES, OPTIMAL, TOO_FEW_ARCS};
+use flow_tools::memory::{Held, Script};
+use flow_tools::{Job, run};
+use std::alloc::Global;
+
+/// Makes the call with this name, and answers what is to be told of it.
+pub fn told(alloc: Global, name: &[u8]) -> &'static [u8] {
+    match name {
+        b"push" => push(alloc),
+        b"both_ways" => both_ways(alloc),
+        b"read_problem" => read_problem(alloc),
+        b"read_solution" => read_solution(alloc),
+        b"finish" => finish(alloc),
+        b"declare" => declare(alloc),
+        b"check" => check_solution(alloc),
+        _ => run_named(alloc, name),
+    }
+}
+
+/// Runs the job with this name, whose problem has four nodes but for `run_faulty`.
+fn run_named(alloc: Global, name: &[u8]) -> &'static [u8] {
+    match name {
+        b"run_solve" => run_job(
+            alloc,
+            Job::Solve { value_only: false },
+            FOUR_NODES,
+            b"s 5\nf 1 2 3\nf 1 3 2\nf 2 3 1\nf 2 4 2\nf 3 4 3\n",
+        ),
+        b"run_cut" => run_job(
+            alloc,
+            Job::Cut {
+                arcs: true,
+                sink: false,
+            },
+            FOUR_NODES,
+            b"s 5\nn 1\na 1 2 3\na 1 3 2\n",
+        ),
+        b"run_connect" => run_job(
+            alloc,
+            Job::Connect {
+                undirected: true,
+                pair: false,
+            },
+            FOUR_NODES,
+            b"k 2\n",
+        ),
+        b"run_check" => run_job(
+            alloc,
+            Job::Check {
+                feasible_only: false,
+            },
+            FOUR_NODES,
+            b"optimal 5\n",
+        ),
+        b"run_faulty" => run_job(alloc, Job::Solve { value_only: false }, TOO_FEW_ARCS, b""),
+        _ => b"no such call",
+    }
+}
+
+/// Runs a job. Where a growth was refused it must put nothing, tell that, and answer 4; else it must put the answer, or
+/// tell the fault where there is none.
+fn run_job(alloc: Global, job: Job, problem: &[u8], answer: &[u8]) -> &'static [u8] {
+    let mut input = Script::new(problem, 4096, false, 0);
+    let mut given = Script::new(OPTIMAL, 4096, false, 0);
+    let mut out: Held<128> = Held::new(128, 128);
+    let mut err: Held<64> = Held::new(64, 64);
+    let status = run(alloc, job, &mut input, &mut given, &mut out, &mut err);
+    match (status, out.bytes(), err.bytes()) {
+        (4, b"", b"flow: out of memory\n") => REFUSED,
+        (0, text, b"") if text == answer && !text.is_empty() => b"answered",
+        (3, b"", b"flow: line 5: too few arcs\n") if answer.is_empty() => b"line 5: too few arcs",
+        _ => BROKEN,
+    }
+}

@@ -27,67 +27,72 @@ impl Source for Memory {
     }
 }
 
+/// Words, what must be put and told, and the status.
+type Row = (&'static [&'static str], &'static [u8], &'static [u8], u8);
+
+/// Words with what they lead to.
+const WORDS: [Row; 16] = [
+    (
+        &["flow", "solve"],
+        b"s 5\nf 1 2 3\nf 1 3 2\nf 2 3 1\nf 2 4 2\nf 3 4 3\n",
+        b"",
+        0,
+    ),
+    (&["flow", "solve", "--value"], b"s 5\n", b"", 0),
+    (&["flow", "solve", "--value", "b.max"], b"s 2\n", b"", 0),
+    (&["flow", "solve", "--value", "-"], b"s 2\n", b"", 0),
+    (&["flow", "cut", "b.max"], b"s 2\nn 1\n", b"", 0),
+    (
+        &["flow", "cut", "--sink", "b.max"],
+        b"s 2\nn 1\nn 2\n",
+        b"",
+        0,
+    ),
+    (
+        &["flow", "cut", "--arcs"],
+        b"s 5\nn 1\na 1 2 3\na 1 3 2\n",
+        b"",
+        0,
+    ),
+    (
+        &["flow", "cut", "--sink", "--arcs"],
+        b"s 5\nn 1\nn 2\nn 3\na 2 4 2\na 3 4 3\n",
+        b"",
+        0,
+    ),
+    (&["flow", "connect"], b"k 0\n", b"", 0),
+    (&["flow", "connect", "--undirected"], b"k 2\n", b"", 0),
+    (&["flow", "connect", "--pair"], b"k 2\n", b"", 0),
+    (
+        &["flow", "check", "missing.max", "missing.sol"],
+        b"",
+        b"flow: cannot open missing.max\n",
+        4,
+    ),
+    (
+        &["flow", "check", "b.max", "missing.sol"],
+        b"",
+        b"flow: cannot open missing.sol\n",
+        4,
+    ),
+    (
+        &["flow", "check", "--feasible", "b.max", "b.sol"],
+        b"feasible 2\n",
+        b"",
+        0,
+    ),
+    (
+        &["flow", "solve", "missing.max"],
+        b"",
+        b"flow: cannot open missing.max\n",
+        4,
+    ),
+    (&["flow"], b"", b"", 2),
+];
+
 #[test]
 fn words_lead_to_jobs_and_files(rt: HostRuntime) -> Result<(), Fail> {
-    let rows: [(&[&str], &[u8], &[u8], u8); 16] = [
-        (
-            &["flow", "solve"],
-            b"s 5\nf 1 2 3\nf 1 3 2\nf 2 3 1\nf 2 4 2\nf 3 4 3\n",
-            b"",
-            0,
-        ),
-        (&["flow", "solve", "--value"], b"s 5\n", b"", 0),
-        (&["flow", "solve", "--value", "b.max"], b"s 2\n", b"", 0),
-        (&["flow", "solve", "--value", "-"], b"s 2\n", b"", 0),
-        (&["flow", "cut", "b.max"], b"s 2\nn 1\n", b"", 0),
-        (
-            &["flow", "cut", "--sink", "b.max"],
-            b"s 2\nn 1\nn 2\n",
-            b"",
-            0,
-        ),
-        (
-            &["flow", "cut", "--arcs"],
-            b"s 5\nn 1\na 1 2 3\na 1 3 2\n",
-            b"",
-            0,
-        ),
-        (
-            &["flow", "cut", "--sink", "--arcs"],
-            b"s 5\nn 1\nn 2\nn 3\na 2 4 2\na 3 4 3\n",
-            b"",
-            0,
-        ),
-        (&["flow", "connect"], b"k 0\n", b"", 0),
-        (&["flow", "connect", "--undirected"], b"k 2\n", b"", 0),
-        (&["flow", "connect", "--pair"], b"k 2\n", b"", 0),
-        (
-            &["flow", "check", "missing.max", "missing.sol"],
-            b"",
-            b"flow: cannot open missing.max\n",
-            4,
-        ),
-        (
-            &["flow", "check", "b.max", "missing.sol"],
-            b"",
-            b"flow: cannot open missing.sol\n",
-            4,
-        ),
-        (
-            &["flow", "check", "--feasible", "b.max", "b.sol"],
-            b"feasible 2\n",
-            b"",
-            0,
-        ),
-        (
-            &["flow", "solve", "missing.max"],
-            b"",
-            b"flow: cannot open missing.max\n",
-            4,
-        ),
-        (&["flow"], b"", b"", 2),
-    ];
-    for (words, text, message, wanted) in rows {
+    for (words, text, message, wanted) in WORDS {
         let mut out: Held<4096> = Held::new(7, 4096);
         let mut err: Held<4096> = Held::new(7, 4096);
         let status = program(rt.alloc(), words, &mut Memory, &mut out, &mut err);
@@ -139,5 +144,144 @@ fn help_is_printed(rt: HostRuntime) -> Result<(), Fail> {
         assert!(rt; full.failed());
         assert_eq!(rt; err.bytes(), b"flow: write failed\n".as_slice());
     }
+    Ok(())
+}
+
+/// Has the given bytes as standard input, and no file.
+#[derive(Drop)]
+struct Given<'a> {
+    text: &'a [u8],
+}
+
+impl<'a> Source for Given<'a> {
+    type In = Script<'a>;
+
+    fn input(&mut self, name: Option<&str>) -> Option<Script<'a>> {
+        match name {
+            None => Some(Script::new(self.text, 4096, false, 0)),
+            Some(_) => None,
+        }
+    }
+}
+
+/// A command, a problem on standard input, what must be put and told, and the status.
+type Malicious = (
+    &'static str,
+    &'static [u8],
+    &'static [u8],
+    &'static [u8],
+    u8,
+);
+
+/// Problems that declare much, number wrongly or hold bytes that aren't text.
+const MALICIOUS: [Malicious; 9] = [
+    (
+        "solve",
+        b"p max 1000000 4000000\n",
+        b"",
+        b"flow: line 2: terminals missing\n",
+        3,
+    ),
+    (
+        "cut",
+        b"p max 1000000 0\nn 1 s\nn 1000000 t\n",
+        b"s 0\nn 1\n",
+        b"",
+        0,
+    ),
+    (
+        "cut",
+        b"p max 0000000000000000000000000000000000000000000000000000000000000000000000000000000000000000000000000000000000000000000000000000000000000000000000000000002 0\nn 1 s\nn 2 t\n",
+        b"s 0\nn 1\n",
+        b"",
+        0,
+    ),
+    (
+        "solve",
+        b"p max 999999999999999999999999999999999999999999999999999999999999999999999999999999999999999999999999999999999999999999999999999999999999999999999999999999 0\n",
+        b"",
+        b"flow: line 1: number of nodes out of range\n",
+        3,
+    ),
+    ("solve", b"\xFF\n", b"", b"flow: line 1: unknown line\n", 3),
+    (
+        "solve",
+        b"p\x0Bmax 2 0\n",
+        b"",
+        b"flow: line 1: unknown line\n",
+        3,
+    ),
+    (
+        "solve",
+        b"p max 2\xC2\xA00\n",
+        b"",
+        b"flow: line 1: wrong number of fields\n",
+        3,
+    ),
+    (
+        "solve",
+        b"\xEF\xBB\xBFp max 4 5\nn 1 s\nn 4 t\na 1 2 3\na 1 3 2\na 2 3 1\na 2 4 2\na 3 4 3\n",
+        b"",
+        b"flow: line 1: unknown line\n",
+        3,
+    ),
+    (
+        "solve",
+        b"                                                                                                                                                                                                         \np max 4 5\nn 1 s\nn 4 t\na 1 2 3\na 1 3 2\na 2 3 1\na 2 4 2\na 3 4 3\n",
+        b"",
+        b"flow: line 1: line too long\n",
+        3,
+    ),
+];
+
+#[test]
+fn malicious_problems(rt: HostRuntime) -> Result<(), Fail> {
+    for (command, text, answer, message, wanted) in MALICIOUS {
+        let mut out: Held<64> = Held::new(7, 64);
+        let mut err: Held<64> = Held::new(7, 64);
+        let words = ["flow", command];
+        let status = program(rt.alloc(), &words, &mut Given { text }, &mut out, &mut err);
+        assert_eq!(rt; out.bytes(), answer);
+        assert_eq!(rt; err.bytes(), message);
+        assert_eq!(rt; status, wanted);
+    }
+    Ok(())
+}
+
+/// A comment of a million bytes 255 counts as one line, and nothing of it is kept. Without an end it is a file without a
+/// problem line.
+#[test]
+fn a_comment_of_a_million_bytes(rt: HostRuntime) -> Result<(), Fail> {
+    let mut text = b"c".to_vec(rt.alloc())?;
+    for _ in 0..1_000_000 {
+        text.push(255)?;
+    }
+    let mut out: Held<64> = Held::new(7, 64);
+    let mut err: Held<64> = Held::new(7, 64);
+    let mut unended = Given {
+        text: text.as_slice(),
+    };
+    let words = ["flow", "solve"];
+    let status = program(rt.alloc(), &words, &mut unended, &mut out, &mut err);
+    assert_eq!(rt; out.bytes(), b"".as_slice());
+    assert_eq!(rt;
+        err.bytes(),
+        b"flow: line 2: problem line missing\n".as_slice()
+    );
+    assert_eq!(rt; status, 3);
+
+    text.push(b'\n')?;
+    text.extend_from_slice(NET_A)?;
+    let mut silent: Held<64> = Held::new(7, 64);
+    let mut before = Given {
+        text: text.as_slice(),
+    };
+    let status = program(rt.alloc(), &words, &mut before, &mut out, &mut silent);
+    assert_eq!(rt;
+        out.bytes(),
+        b"s 5\nf 1 2 3\nf 1 3 2\nf 2 3 1\nf 2 4 2\nf 3 4 3\n".as_slice()
+    );
+    assert_eq!(rt; silent.bytes(), b"".as_slice());
+    assert_eq!(rt; status, 0);
     Ok(())
 }

@@ -1,12 +1,90 @@
+//! Texts that are refused, and the fields and numbers of a line.
 ghost use Rattle.std.specs.Prelude.{◌<◌};
 
 use super::*;
 use flow_net::Problem;
 use std::alloc::Global;
 use std::process::Abort;
+use std::test::Fail;
+
+// Refused problems: the text, the line of the fault and its words.
+const PROBLEM_FAULTS: [(&str, u64, &str); 24] = [
+    ("p max 2 0\nx\n", 2, "unknown line"),
+    ("p max 2 0\npp max 2 0\n", 2, "unknown line"),
+    ("p max 2\n", 1, "wrong number of fields"),
+    ("p max 2 1\nn 1 s\nn 2 t\na 3 x 1\n", 4, "node out of range"),
+    ("p max -2 0\n", 1, "bad number"),
+    ("p max 2 0\np\n", 2, "second problem line"),
+    ("n 1 s\n", 1, "problem line missing"),
+    ("p min x 0\n", 1, "problem is not max"),
+    ("p max 1 x\n", 1, "number of nodes out of range"),
+    ("p max 1000001 0\n", 1, "number of nodes out of range"),
+    ("p max 2 4000001\n", 1, "number of arcs out of range"),
+    (
+        "p max 2 1\nn 1 s\nn 2 t\na 1 2 1\nn\n",
+        5,
+        "node line after an arc line",
+    ),
+    ("p max 2 0\nn 3 x\n", 2, "node out of range"),
+    ("p max 2 0\nn 0 s\n", 2, "node out of range"),
+    ("p max 2 0\nn 1 source\n", 2, "terminal must be s or t"),
+    ("p max 3 0\nn 1 s\nn 1 s\n", 3, "node is already a terminal"),
+    ("p max 3 0\nn 2 t\nn 3 t\n", 4, "terminals missing"),
+    ("p max 2 0\nn 1 s\nn 1 t\n", 3, "node is already a terminal"),
+    ("p max 2 0\nn 1 s\n", 3, "terminals missing"),
+    ("p max 2 0\nn 1 s\nn 2 t\na\n", 4, "too many arcs"),
+    (
+        "p max 2 1\nn 1 s\nn 2 t\na 1 2 18446744073709551616\n",
+        4,
+        "capacity out of range",
+    ),
+    ("p max 2 1\nn 1 s\nn 2 t\n", 4, "too few arcs"),
+    ("\n", 2, "problem line missing"),
+    ("c only\n", 2, "problem line missing"),
+];
+
+// Refused solutions to a problem of two nodes, in the same way.
+const SOLUTION_FAULTS: [(&str, u64, &str); 10] = [
+    ("", 1, "solution line missing"),
+    ("f\n", 1, "solution line missing"),
+    ("a 1 2 1\n", 1, "unknown line"),
+    ("s 1\ns\n", 2, "second solution line"),
+    ("s 1 2\n", 1, "wrong number of fields"),
+    ("s -1\n", 1, "bad number"),
+    ("s 73786976294838206460000001\n", 1, "value out of range"),
+    ("s 1\nf 1 3 1\n", 2, "node out of range"),
+    ("s 1\nf 1 2 18446744073709551616\n", 2, "flow out of range"),
+    ("c note\ns 1\nf 1 2\n", 3, "wrong number of fields"),
+];
+
+const TOO_MANY_FLOW_LINES: ReadFault = ReadFault::Fault {
+    line: 4_000_002,
+    code: FaultCode::TooManyFlowLines,
+};
+
+// The greatest number of 128 bits.
+const GREATEST: u128 = 340_282_366_920_938_463_463_374_607_431_768_211_455;
+
+// Fields, limits, and what `number` answers.
+const NUMBERS: [(&[u8], u128, Number); 10] = [
+    (b"", 5, Number::NotDigits),
+    (b"5", 5, Number::Value(5)),
+    (b"0005", 5, Number::Value(5)),
+    (b"6", 5, Number::Above),
+    (b"6x", 5, Number::NotDigits),
+    (b"+5", 5, Number::NotDigits),
+    (&[b'9'; 150], 18_446_744_073_709_551_615, Number::Above),
+    (
+        b"340282366920938463463374607431768211455",
+        GREATEST,
+        Number::Value(GREATEST),
+    ),
+    (&[b'9'; 39], GREATEST, Number::Above),
+    (&[b'0'; 150], 0, Number::Value(0)),
+];
 
 // Reads a problem whose first piece is so long and whose other pieces are at most so long, and checks that a refusal stays.
-fn read_problem(
+pub(crate) fn read_problem(
     rt: &impl Abort,
     alloc: Global,
     text: &[u8],
@@ -33,7 +111,7 @@ fn read_problem(
 }
 
 // The same of a solution to a problem of two nodes.
-fn read_solution(
+pub(crate) fn read_solution(
     rt: &impl Abort,
     alloc: Global,
     text: &[u8],
@@ -68,136 +146,40 @@ fn told<T: Drop>(rt: &impl Abort, answer: Result<T, ReadFault>) -> Option<(u64, 
     }
 }
 
+// Reads a problem whole, cut in two at each place, and one byte at a time, and checks what each reading is refused with.
+fn check_problem_fault(rt: &impl Abort, alloc: Global, text: &str, line: u64, words: &str) {
+    let bytes = text.as_bytes();
+    for first in 0..bytes.len() + 1 {
+        let answer = read_problem(rt, alloc, bytes, first, 4096);
+        assert_eq!(rt; told(rt, answer), Some((line, words)), "{text}");
+    }
+    let answer = read_problem(rt, alloc, bytes, 0, 1);
+    assert_eq!(rt; told(rt, answer), Some((line, words)), "{text}");
+}
+
+// The same of a solution to a problem of two nodes.
+fn check_solution_fault(rt: &impl Abort, alloc: Global, text: &str, line: u64, words: &str) {
+    let bytes = text.as_bytes();
+    for first in 0..bytes.len() + 1 {
+        let answer = read_solution(rt, alloc, bytes, first, 4096);
+        assert_eq!(rt; told(rt, answer), Some((line, words)), "{text}");
+    }
+    let answer = read_solution(rt, alloc, bytes, 0, 1);
+    assert_eq!(rt; told(rt, answer), Some((line, words)), "{text}");
+}
+
 #[test]
 fn problem_faults(rt: HostRuntime) {
-    for (text, line, words) in [
-        ("p max 2 0\nx\n", 2, "unknown line"),
-        ("p max 2 0\npp max 2 0\n", 2, "unknown line"),
-        ("p max 2\n", 1, "wrong number of fields"),
-        ("p max 2 1\nn 1 s\nn 2 t\na 3 x 1\n", 4, "node out of range"),
-        ("p max -2 0\n", 1, "bad number"),
-        ("p max 2 0\np\n", 2, "second problem line"),
-        ("n 1 s\n", 1, "problem line missing"),
-        ("p min x 0\n", 1, "problem is not max"),
-        ("p max 1 x\n", 1, "number of nodes out of range"),
-        ("p max 1000001 0\n", 1, "number of nodes out of range"),
-        ("p max 2 4000001\n", 1, "number of arcs out of range"),
-        (
-            "p max 2 1\nn 1 s\nn 2 t\na 1 2 1\nn\n",
-            5,
-            "node line after an arc line",
-        ),
-        ("p max 2 0\nn 3 x\n", 2, "node out of range"),
-        ("p max 2 0\nn 0 s\n", 2, "node out of range"),
-        ("p max 2 0\nn 1 source\n", 2, "terminal must be s or t"),
-        ("p max 3 0\nn 1 s\nn 1 s\n", 3, "node is already a terminal"),
-        ("p max 3 0\nn 2 t\nn 3 t\n", 4, "terminals missing"),
-        ("p max 2 0\nn 1 s\nn 1 t\n", 3, "node is already a terminal"),
-        ("p max 2 0\nn 1 s\n", 3, "terminals missing"),
-        ("p max 2 0\nn 1 s\nn 2 t\na\n", 4, "too many arcs"),
-        (
-            "p max 2 1\nn 1 s\nn 2 t\na 1 2 18446744073709551616\n",
-            4,
-            "capacity out of range",
-        ),
-        ("p max 2 1\nn 1 s\nn 2 t\n", 4, "too few arcs"),
-        ("\n", 2, "problem line missing"),
-        ("c only\n", 2, "problem line missing"),
-    ] {
-        let bytes = text.as_bytes();
-        for first in 0..bytes.len() + 1 {
-            let answer = read_problem(&rt, rt.alloc(), bytes, first, 4096);
-            assert_eq!(&rt; told(&rt, answer), Some((line, words)), "{text}");
-        }
-        let answer = read_problem(&rt, rt.alloc(), bytes, 0, 1);
-        assert_eq!(&rt; told(&rt, answer), Some((line, words)), "{text}");
+    for (text, line, words) in PROBLEM_FAULTS {
+        check_problem_fault(&rt, rt.alloc(), text, line, words);
     }
 }
 
 #[test]
 fn solution_faults(rt: HostRuntime) {
-    for (text, line, words) in [
-        ("", 1, "solution line missing"),
-        ("f\n", 1, "solution line missing"),
-        ("a 1 2 1\n", 1, "unknown line"),
-        ("s 1\ns\n", 2, "second solution line"),
-        ("s 1 2\n", 1, "wrong number of fields"),
-        ("s -1\n", 1, "bad number"),
-        ("s 73786976294838206460000001\n", 1, "value out of range"),
-        ("s 1\nf 1 3 1\n", 2, "node out of range"),
-        ("s 1\nf 1 2 18446744073709551616\n", 2, "flow out of range"),
-        ("c note\ns 1\nf 1 2\n", 3, "wrong number of fields"),
-    ] {
-        let bytes = text.as_bytes();
-        for first in 0..bytes.len() + 1 {
-            let answer = read_solution(&rt, rt.alloc(), bytes, first, 4096);
-            assert_eq!(&rt; told(&rt, answer), Some((line, words)), "{text}");
-        }
-        let answer = read_solution(&rt, rt.alloc(), bytes, 0, 1);
-        assert_eq!(&rt; told(&rt, answer), Some((line, words)), "{text}");
+    for (text, line, words) in SOLUTION_FAULTS {
+        check_solution_fault(&rt, rt.alloc(), text, line, words);
     }
-}
-
-#[test]
-fn problems_are_accepted(rt: HostRuntime) {
-    for text in [
-        "p max 2 0\nn 1 s\nn 2 t\n",
-        "p max 0002 00\nn 1 s\nn 2 t\n",
-        "p max 2 0\ncat\n\n   \nn 1 s\ncat\n\n   \nn 2 t\n",
-        "p\tmax\t2\t0\nn\t1\ts\nn\t2\tt\n",
-    ] {
-        let bytes = text.as_bytes();
-        for (first, len) in [(0, 1), (0, 4096), (5, 7), (11, 3)] {
-            let problem = read_problem(&rt, rt.alloc(), bytes, first, len).expect(&rt, text);
-            assert_eq!(&rt;
-                (problem.net().nodes(), problem.net().len()),
-                (2, 0),
-                "{text}"
-            );
-            assert_eq!(&rt; problem.sources(), [1].as_slice(), "{text}");
-            assert_eq!(&rt; problem.sinks(), [2].as_slice(), "{text}");
-        }
-    }
-}
-
-#[test]
-fn solutions_are_accepted(rt: HostRuntime) {
-    for (text, value, flow) in [
-        (
-            "s 73786976294838206460000000\n",
-            73786976294838206460000000,
-            None,
-        ),
-        ("s 4000000000000000001\n", 4000000000000000001, None),
-        ("s 1\nf 1 2 1000000000001\n", 1, Some(1000000000001)),
-    ] {
-        let bytes = text.as_bytes();
-        for (first, len) in [(0, 1), (0, 4096), (5, 7), (11, 3)] {
-            let solution = read_solution(&rt, rt.alloc(), bytes, first, len).expect(&rt, text);
-            assert_eq!(&rt; solution.value, value, "{text}");
-            let lines = solution.lines.as_slice();
-            let found = lines.first().map(|line| (line.src, line.dst, line.flow));
-            assert_eq!(&rt; found, flow.map(|flow| (1, 2, flow)), "{text}");
-        }
-    }
-}
-
-#[test]
-fn too_many_flow_lines(rt: HostRuntime) {
-    let mut reader = SolutionReader::new(rt.alloc(), 2);
-    assert_eq!(&rt; reader.feed(b"s 0\n"), Ok(()));
-    for _ in 0..400_000 {
-        let ten =
-            b"f 1 2 0\nf 1 2 0\nf 1 2 0\nf 1 2 0\nf 1 2 0\nf 1 2 0\nf 1 2 0\nf 1 2 0\nf 1 2 0\nf 1 2 0\n";
-        assert_eq!(&rt; reader.feed(ten), Ok(()));
-    }
-    assert_eq!(&rt; reader.lines().len(), 4_000_000);
-    let fault = ReadFault::Fault {
-        line: 4_000_002,
-        code: FaultCode::TooManyFlowLines,
-    };
-    assert_eq!(&rt; reader.feed(b"f 1 2 0\n"), Err(fault));
-    assert_eq!(&rt; reader.finish().err(), Some(fault));
 }
 
 #[test]
@@ -206,65 +188,96 @@ fn lines_of_two_hundred_bytes(rt: HostRuntime) {
         (b"x".as_slice(), FaultCode::LineTooLong),
         (b"\n".as_slice(), FaultCode::UnknownLine),
     ] {
-        let mut reader = ProblemReader::new(rt.alloc());
-        assert_eq!(&rt; reader.feed(&[b'x'; 200]), Ok(()));
-        assert_eq!(&rt; reader.feed(more), Err(ReadFault::Fault { line: 1, code }));
+        let fault = ReadFault::Fault { line: 1, code };
+        let mut problem = ProblemReader::new(rt.alloc());
+        assert_eq!(&rt; problem.feed(&[b'x'; 200]), Ok(()));
+        assert_eq!(&rt; problem.feed(more), Err(fault));
+        let mut solution = SolutionReader::new(rt.alloc(), 2);
+        assert_eq!(&rt; solution.feed(&[b'x'; 200]), Ok(()));
+        assert_eq!(&rt; solution.feed(more), Err(fault));
     }
 }
 
-#[test]
-fn what_was_read_is_lent(rt: HostRuntime) {
-    let mut problem = ProblemReader::new(rt.alloc());
-    assert_eq!(&rt; problem.feed(b"p max 3 2"), Ok(()));
-    assert!(&rt; problem.net().is_none());
-    assert_eq!(&rt; problem.feed(b"\nn 1 s\nn 3 t\na 1 2 7\na 2 3 9"), Ok(()));
-    let so_far = problem.net().map(|net| (net.nodes(), net.len()));
-    assert_eq!(&rt; so_far, Some((3, 1)));
-    assert_eq!(&rt; problem.feed(b"\n"), Ok(()));
-    let net = problem.net().expect(&rt, "a network");
-    assert_eq!(&rt; net.len(), 2);
-    let last = net.arc(1);
-    assert_eq!(&rt; (last.src, last.dst, last.cap), (2, 3, 9));
+// A solution of one flow line more than there may be: 4 bytes, and 8 for each of 4,000,001 flow lines.
+fn too_long_solution(alloc: Global) -> Result<Vec<u8>, Fail> {
+    let mut text = Vec::with_capacity(alloc, 32_000_012)?;
+    text.extend_from_slice(b"s 0\n")?;
+    for _ in 0..4_000_001 {
+        text.extend_from_slice(b"f 1 2 0\n")?;
+    }
+    Ok(text)
+}
 
-    let mut solution = SolutionReader::new(rt.alloc(), 3);
-    assert_eq!(&rt; solution.feed(b"s 7\nf 1 2 7\nf 2 3"), Ok(()));
-    let lines = solution.lines();
-    assert_eq!(&rt;
-        lines,
-        [FlowLine {
-            src: 1,
-            dst: 2,
-            flow: 7
-        }]
-        .as_slice()
-    );
+// Feeds a solution to a problem of two nodes in pieces of so many bytes: how many were taken and how many flow lines were
+// kept before the first that was refused, and its refusal, which stays.
+fn first_refused(
+    rt: &impl Abort,
+    alloc: Global,
+    text: &[u8],
+    len: usize,
+) -> Option<(usize, usize, ReadFault)>
+    requires { 0 < len }
+{
+    let mut reader = SolutionReader::new(alloc, 2);
+    for (taken, piece) in text.chunks(len).enumerate() {
+        let kept = reader.lines().len();
+        if let Err(fault) = reader.feed(piece) {
+            assert!(rt; reader.lines().is_empty());
+            assert_eq!(rt; reader.feed(b"c"), Err(fault));
+            assert_eq!(rt; reader.finish().err(), Some(fault));
+            return Some((taken, kept, fault));
+        }
+    }
+    None
 }
 
 #[test]
-fn fields_and_numbers(rt: HostRuntime) {
-    let line = b"\ta  12\r 3 \r";
-    let mut found = fields(line);
+fn too_many_flow_lines_at_once(rt: HostRuntime) -> Result<(), Fail> {
+    let text = too_long_solution(rt.alloc())?;
+    let text = text.as_slice();
+    assert_eq!(&rt; text.len(), 32_000_012);
+    let refused = first_refused(&rt, rt.alloc(), text, 32_000_012);
+    assert_eq!(&rt; refused, Some((0, 0, TOO_MANY_FLOW_LINES)));
+    // All but the last line are taken and kept.
+    let (allowed, last) = text.split_at(text.len().saturating_sub(8));
+    let mut reader = SolutionReader::new(rt.alloc(), 2);
+    assert_eq!(&rt; reader.feed(allowed), Ok(()));
+    assert_eq!(&rt; reader.lines().len(), 4_000_000);
+    assert_eq!(&rt; reader.feed(last), Err(TOO_MANY_FLOW_LINES));
+    Ok(())
+}
+
+// Byte 10 of the last line is refused.
+#[test]
+fn too_many_flow_lines_byte_by_byte(rt: HostRuntime) -> Result<(), Fail> {
+    let text = too_long_solution(rt.alloc())?;
+    let refused = first_refused(&rt, rt.alloc(), text.as_slice(), 1);
+    assert_eq!(&rt; refused, Some((32_000_011, 4_000_000, TOO_MANY_FLOW_LINES)));
+    Ok(())
+}
+
+// Pieces of 7 bytes cut lines of 8 bytes at each of their places: of 4,571,430 whole pieces and 2 bytes, these 2 are refused.
+// Two pieces cut at every place of the text would be 32 million readings of it, which is out of reach.
+#[test]
+fn too_many_flow_lines_in_pieces(rt: HostRuntime) -> Result<(), Fail> {
+    let text = too_long_solution(rt.alloc())?;
+    let refused = first_refused(&rt, rt.alloc(), text.as_slice(), 7);
+    assert_eq!(&rt; refused, Some((4_571_430, 4_000_000, TOO_MANY_FLOW_LINES)));
+    Ok(())
+}
+
+#[test]
+fn fields_of_a_line(rt: HostRuntime) {
+    let mut found = fields(b"\ta  12\r 3 \r");
     assert_eq!(&rt; found.next(), Some(b"a".as_slice()));
     assert_eq!(&rt; found.next(), Some(b"12".as_slice()));
     assert_eq!(&rt; found.next(), Some(b"3".as_slice()));
     assert_eq!(&rt; found.next(), None);
-    let most = 340_282_366_920_938_463_463_374_607_431_768_211_455;
-    for (field, limit, answer) in [
-        (b"".as_slice(), 5, Number::NotDigits),
-        (b"5", 5, Number::Value(5)),
-        (b"0005", 5, Number::Value(5)),
-        (b"6", 5, Number::Above),
-        (b"6x", 5, Number::NotDigits),
-        (b"+5", 5, Number::NotDigits),
-        (&[b'9'; 150], u64::MAX as u128, Number::Above),
-        (
-            b"340282366920938463463374607431768211455",
-            most,
-            Number::Value(most),
-        ),
-        (&[b'9'; 39], most, Number::Above),
-        (&[b'0'; 150], 0, Number::Value(0)),
-    ] {
+}
+
+#[test]
+fn numbers_of_fields(rt: HostRuntime) {
+    for (field, limit, answer) in NUMBERS {
         assert_eq!(&rt; number(field, limit), answer);
     }
 }

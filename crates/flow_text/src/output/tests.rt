@@ -95,7 +95,7 @@ fn lines_of_the_greatest_numbers(rt: HostRuntime) {
 }
 
 #[test]
-fn verdicts_of_the_greatest_numbers(rt: HostRuntime) {
+fn flows_of_the_greatest_numbers(rt: HostRuntime) {
     let over = Verdict::Over {
         src: u32::MAX,
         dst: u32::MAX,
@@ -119,6 +119,10 @@ fn verdicts_of_the_greatest_numbers(rt: HostRuntime) {
             "unbalanced 4294967295 340282366920938463463374607431768211455 340282366920938463463374607431768211455\n"
         )
     );
+}
+
+#[test]
+fn values_of_the_greatest_numbers(rt: HostRuntime) {
     let value = Verdict::Value {
         given: 0,
         found: -18446744073709551615,

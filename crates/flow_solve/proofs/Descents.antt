@@ -1,7 +1,8 @@
 -- Pushes along a path on which the ranks fall.
 use Rattle.std.proofs.Common.{◌≡◌, ◌≢◌, ℕ, zero, suc, ◌+◌, ◌-◌, ◌/◌, ◌*◌, ◌≤◌, ◌<◌, List, [], ◌∷◌, ◌++◌, length, take, length-set, refl, ◌∙◌, sym, ap, inl, inr, arith}
 use Rattle.std.specs.Prelude.{slice_index}
-use Rattle.std.specs.List.{AllByRecursion}
+use Rattle.std.specs.List.{All, AllByRecursion}
+use Rattle.std.proofs.lemmas.List.Elements.{recursion_from_All}
 use Rattle.std.proofs.lemmas.Bool.{cases_eq}
 use Rattle.flow_net.specs.Nets.{Net}
 use Rattle.flow_net.specs.Flows.{Fits, HasNoLoops}
@@ -64,15 +65,28 @@ apart_at h [] i a l = absurd (omega arith)
 apart_at h (g ∷ hs) zero a l = a.0
 apart_at h (g ∷ hs) (suc i) a l = apart_at h hs i a.1 (omega arith)
 
--- and on each half-arc of the path less by what was pushed
+-- where no two half-arcs are of one arc, on each of them less remains by what was pushed
+pub rooms_apart : (net : Net) (xs hs : List ℕ) (d i : ℕ) → length xs ≡ length net.arcs → AllByRecursion (λ h. h < 2 * length net.arcs) hs → IsApart hs → i < length hs → residual net (push_all xs hs d) (slice_index hs i) ≡ residual net xs (slice_index hs i) - d
+rooms_apart net xs [] d i e h a l = absurd (omega arith)
+rooms_apart net xs (h ∷ hs) d zero e k a l =
+    rooms_others net (pushed xs h d) hs d h a.0 ∙ residual-pushed net xs h d (omega (arith, k.0))
+rooms_apart net xs (h ∷ hs) d (suc i) e k a l =
+    let j : i < length hs = omega arith in
+    rooms_apart net (pushed xs h d) hs d i (length_pushed net xs h d e) k.1 a.1 j ∙ ap (λ z. z - d) (residual-pushed_other net xs h (slice_index hs i) d (apart_at h hs i a.0 j))
+
+-- the same of a table's flows before and after its pushes
+pub rooms_after : (net : Net) (xs zs ys hs : List ℕ) (d i : ℕ) → Fits net xs → zs ≡ xs → ys ≡ push_all zs hs d → All (λ h. h < 2 * length net.arcs) hs → IsApart hs → i < length hs → residual net ys (slice_index hs i) ≡ residual net xs (slice_index hs i) - d
+rooms_after net xs zs ys hs d i f kept done k a l =
+    ap (λ (us : List ℕ). residual net us (slice_index hs i)) (done ∙ ap (λ (us : List ℕ). push_all us hs d) kept)
+    ∙ rooms_apart net xs hs d i f.count (recursion_from_All (λ h. h < 2 * length net.arcs) hs k) a l
+
+-- so on a path on which the ranks fall
+halves_all : (net : Net) (u w : ℕ) (hs : List ℕ) → IsPath net u hs w → AllByRecursion (λ h. h < 2 * length net.arcs) hs
+halves_all net u w [] p = tt
+halves_all net u w (h ∷ hs) p = (p.0, halves_all net (head_of net h) w hs p.2)
+
 pub rooms_at : (net : Net) (rank : ℕ → ℕ) (xs : List ℕ) (u w : ℕ) (hs : List ℕ) (d i : ℕ) → length xs ≡ length net.arcs → IsPath net u hs w → Descends net rank hs → i < length hs → residual net (push_all xs hs d) (slice_index hs i) ≡ residual net xs (slice_index hs i) - d
-rooms_at net rank xs u w [] d i e p c l = absurd (omega arith)
-rooms_at net rank xs u w (h ∷ hs) d zero e p c l =
-    rooms_others net (pushed xs h d) hs d h (below_apart net rank h (head_of net h) w hs c.0 c.0 p.2 c.1) ∙ residual-pushed net xs h d (omega (arith, p.0))
-rooms_at net rank xs u w (h ∷ hs) d (suc i) e p c l =
-    let a = below_apart net rank h (head_of net h) w hs c.0 c.0 p.2 c.1 in
-    let k : i < length hs = omega arith in
-    rooms_at net rank (pushed xs h d) (head_of net h) w hs d i (length_pushed net xs h d e) p.2 c.1 k ∙ ap (λ z. z - d) (residual-pushed_other net xs h (slice_index hs i) d (apart_at h hs i a k))
+rooms_at net rank xs u w hs d i e p c l = rooms_apart net xs hs d i e (halves_all net u w hs p) (descends_apart net rank u w hs p c) l
 
 -- the first part of a path
 pub path_take : (net : Net) (u w : ℕ) (hs : List ℕ) (i : ℕ) → IsPath net u hs w → i < length hs → IsPath net u (take i hs) (tail_of net (slice_index hs i))

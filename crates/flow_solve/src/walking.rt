@@ -63,24 +63,43 @@ fn push_over(net: &Network, flow: &mut FlowTable, path: &[u32], amount: u64)
     }
 }
 
-/// Pushes along a path as much as remains on each of its half-arcs. Answers the place of the first half-arc that this
-/// fills, and the amount.
-fn augment(net: &Network, flow: &mut FlowTable, path: &[u32]) -> (u32, u64)
+/// What an augmentation has pushed, and where the walk goes on after it.
+#[derive(Clone, Copy)]
+struct Augmentation {
+    /// How much was pushed along the path.
+    amount: u64,
+    /// How many half-arcs of the path the walk keeps: those before the first that was filled.
+    depth: u32,
+    /// The node that the first filled half-arc leaves.
+    node: u32,
+}
+
+/// Pushes along a path as much as remains on each of its half-arcs, and retreats to the first half-arc that this fills: the
+/// walk goes on from the node that it leaves, and keeps the half-arcs before it.
+fn augment(net: &Network, flow: &mut FlowTable, path: &[u32]) -> Augmentation
     requires fits { Fits net.now flow.old.flows }
     requires some { 1 ≤ length path.now }
     requires few { length path.now ≤ net.now.nodes }
     requires halves { All (λ h. h < 2 * length net.now.arcs) path.now }
     requires apart { IsApart path.now }
-    ensures place { result.0 < length path.now }
-    ensures amount { result.1 ≡ residual net.now flow.old.flows (slice_index path.now result.0) }
-    ensures least { (i : ℕ) → i < length path.now → result.1 ≤ residual net.now flow.old.flows (slice_index path.now i) }
-    ensures first { (i : ℕ) → i < result.0 → result.1 < residual net.now flow.old.flows (slice_index path.now i) }
-    ensures flows { flow.new.flows ≡ push_all flow.old.flows path.now result.1 }
+    ensures on_path { result.depth < length path.now }
+    ensures filled { residual net.now flow.new.flows (slice_index path.now result.depth) ≡ 0 }
+    ensures open_before { (i : ℕ) → i < result.depth → 0 < residual net.now flow.new.flows (slice_index path.now i) }
+    ensures tail { result.node ≡ tail_of net.now (slice_index path.now result.depth) }
+    ensures amount { result.amount ≡ residual net.now flow.old.flows (slice_index path.now result.depth) }
+    ensures least { (i : ℕ) → i < length path.now → result.amount ≤ residual net.now flow.old.flows (slice_index path.now i) }
+    ensures first { (i : ℕ) → i < result.depth → result.amount < residual net.now flow.old.flows (slice_index path.now i) }
+    ensures flows { flow.new.flows ≡ push_all flow.old.flows path.now result.amount }
     ensures steps { flow.new.steps ≡ flow.old.steps + 2 * length path.now }
 {
-    let (place, amount) = least_on(net, flow, path);
+    let (depth, amount) = least_on(net, flow, path);
     push_over(net, flow, path, amount);
-    (place, amount)
+    let node = tail(net, path[depth as usize]);
+    Augmentation {
+        amount,
+        depth,
+        node,
+    }
 }
 
 /// Moves a node's place on to its first half-arc that leads to a lower rank and has a residual capacity, or behind all.
@@ -177,10 +196,10 @@ pub(crate) fn walk(
     let mut depth: u32 = 0;
     'turns: loop {
         if phase.dist[node as usize - 1] == 0 {
-            let (place, amount) = augment(packed.net, flow, &path[..depth as usize]);
-            raised += u128::from(amount);
-            depth = place;
-            node = tail(packed.net, path[depth as usize]);
+            let done = augment(packed.net, flow, &path[..depth as usize]);
+            raised += u128::from(done.amount);
+            depth = done.depth;
+            node = done.node;
         } else if let Some(half) = admissible(packed, flow, phase.rank, current, node) {
             path[depth as usize] = half;
             depth += 1;

@@ -1,6 +1,6 @@
 use Rattle.std.proofs.Common.{ℕ, List, ◌+◌, ◌-◌, ◌≤◌, ◌<◌, set, refl, ◌∙◌, sym, ap, subst, arith}
 use Rattle.std.specs.Prelude.{slice_index}
-use Rattle.std.proofs.lemmas.List.{length-take-le}
+use Rattle.std.proofs.lemmas.List.{get_or-take, length-take-le}
 use Rattle.flow_net.specs.NodeSets.{one_of}
 use Rattle.flow_net.specs.Residual.{tail_of}
 use Rattle.flow_solve.specs.Levels.{cell_of, place_of, owed, IsInPhase, IsDead, IsGentle}
@@ -11,39 +11,41 @@ use Rattle.flow_solve.proofs.Walks.{moved_up, on_up, set_next}
 use Rattle.flow_solve.proofs.Turning.{turning_as, turning_augment, turning_gentle, turning_advance, turning_retreat, turning_end, turning_apart, some_path, half_on, looked_phase, dead_here, at_source, sink_here, no_sink_here, stepped, to_go, to_go_fill, to_go_longer, to_go_pass}
 use Rattle.flow_solve.proofs.walking.walk.Goals as goal
 
-pub augment-place-requires-clause-some : goal.augment-place-requires-clause-some
-augment-place-requires-clause-some c =
+pub augment-done-requires-clause-some : goal.augment-done-requires-clause-some
+augment-done-requires-clause-some c =
     let w = c.turns.invariant.turning in
     let sink = sink_here c.args.phase.packed.net.now c.args.phase.t.now c.args.phase.dist.now c.turns.node c.requires.sinks w.node c.if-phase-node-eq0.true in
     omega (arith, some_path _ _ _ _ _ _ _ _ _ _ _ _ _ _ _ c.requires.terminals c.requires.source sink w, length-take-le c.turns.depth c.turns.path (omega (arith, w.short, w.path_size)))
 
-pub augment-place-requires-clause-apart : goal.augment-place-requires-clause-apart
-augment-place-requires-clause-apart c = turning_apart _ _ _ _ _ _ _ _ _ _ _ _ _ _ _ c.turns.invariant.turning
+pub augment-done-requires-clause-apart : goal.augment-done-requires-clause-apart
+augment-done-requires-clause-apart c = turning_apart _ _ _ _ _ _ _ _ _ _ _ _ _ _ _ c.turns.invariant.turning
 
 -- the turn that augments
 pub overflow_add-raised : goal.overflow_add-raised
 overflow_add-raised c =
     let net = c.args.phase.packed.net.now in let s = one_of c.args.phase.s.now in let t = one_of c.args.phase.t.now in
-    let p = (turning_augment _ _ _ _ _ _ _ _ _ _ _ _ _ _ _ c.augment-place.result.1 c.augment-place.result.0 c.nodes.ensures.is_net c.requires.terminals c.requires.source (sink_here c.args.phase.packed.net.now c.args.phase.t.now c.args.phase.dist.now c.turns.node c.requires.sinks c.turns.invariant.turning.node c.if-phase-node-eq0.true) c.turns.invariant.turning (record { place = c.augment-place.ensures.place; amount = c.augment-place.ensures.amount; least = c.augment-place.ensures.least; first = c.augment-place.ensures.first })).phase in
-    let most = value_most net (one_of c.args.phase.s.now) (one_of c.args.phase.t.now) _ (c.turns.raised + c.augment-place.result.1) c.nodes.ensures.is_net (terminals_apart net c.args.phase.s.now c.args.phase.t.now c.requires.terminals) p.feasible p.value in
+    let p = (turning_augment _ _ _ _ _ _ _ _ _ _ _ _ _ _ _ c.augment-done.result.amount c.augment-done.result.depth c.nodes.ensures.is_net c.requires.terminals c.requires.source (sink_here c.args.phase.packed.net.now c.args.phase.t.now c.args.phase.dist.now c.turns.node c.requires.sinks c.turns.invariant.turning.node c.if-phase-node-eq0.true) c.turns.invariant.turning (record { place = c.augment-done.ensures.on_path; amount = c.augment-done.ensures.amount; least = c.augment-done.ensures.least; first = c.augment-done.ensures.first })).phase in
+    let most = value_most net (one_of c.args.phase.s.now) (one_of c.args.phase.t.now) _ (c.turns.raised + c.augment-done.result.amount) c.nodes.ensures.is_net (terminals_apart net c.args.phase.s.now c.args.phase.t.now c.requires.terminals) p.feasible p.value in
     let fit = capacities_fit net c.nodes.ensures.is_net in
     omega (arith, most, fit, c.from-raised.ensures)
 
 pub turns-smaller-then-phase-node-eq0 : goal.turns-smaller-then-phase-node-eq0
 turns-smaller-then-phase-node-eq0 c =
     let net = c.args.phase.packed.net.now in let halves = c.args.phase.packed.halves.now in let rank = c.args.phase.rank.now in
-    let less = to_go_fill _ _ _ _ _ _ _ _ _ _ _ _ _ _ _ c.augment-place.result.1 c.augment-place.result.0 c.turns.invariant.turning (record { place = c.augment-place.ensures.place; amount = c.augment-place.ensures.amount; least = c.augment-place.ensures.least; first = c.augment-place.ensures.first }) in
-    subst (λ (ys : List ℕ). to_go net halves rank c.turns.current ys c.augment-place.result.0 < to_go net halves rank c.turns.current c.turns.flow.flows c.turns.depth) (sym c.augment-place.ensures.flows) less
+    let less = to_go_fill _ _ _ _ _ _ _ _ _ _ _ _ _ _ _ c.augment-done.result.amount c.augment-done.result.depth c.turns.invariant.turning (record { place = c.augment-done.ensures.on_path; amount = c.augment-done.ensures.amount; least = c.augment-done.ensures.least; first = c.augment-done.ensures.first }) in
+    subst (λ (ys : List ℕ). to_go net halves rank c.turns.current ys c.augment-done.result.depth < to_go net halves rank c.turns.current c.turns.flow.flows c.turns.depth) (sym c.augment-done.ensures.flows) less
 
 pub turns-preserved-then-phase-node-eq0 : goal.turns-preserved-then-phase-node-eq0
 turns-preserved-then-phase-node-eq0 c =
     let old = c.turns.invariant in let net = c.args.phase.packed.net.now in
     let long = length-take-le c.turns.depth c.turns.path (omega (arith, old.turning.short, old.turning.path_size)) in
+    let lead = get_or-take c.turns.depth c.turns.path c.augment-done.result.depth 0 (omega (arith, long, c.augment-done.ensures.on_path)) in
+    let tail = c.augment-done.ensures.tail ∙ ap (tail_of net) lead in
     record {
-      turning = turning_as _ _ _ _ _ _ _ _ _ _ c.augment-place.new.flow.flows _ _ c.tail-node.result _ _ (c.turns.raised + c.from-raised.result) _ _ c.augment-place.new.flow.steps refl c.augment-place.ensures.flows c.tail-node.ensures.tail (ap (λ z. c.turns.raised + z) c.from-raised.ensures) (omega (arith, c.augment-place.ensures.steps, long)) (turning_augment _ _ _ _ _ _ _ _ _ _ _ _ _ _ _ c.augment-place.result.1 c.augment-place.result.0 c.nodes.ensures.is_net c.requires.terminals c.requires.source (sink_here c.args.phase.packed.net.now c.args.phase.t.now c.args.phase.dist.now c.turns.node c.requires.sinks c.turns.invariant.turning.node c.if-phase-node-eq0.true) c.turns.invariant.turning (record { place = c.augment-place.ensures.place; amount = c.augment-place.ensures.amount; least = c.augment-place.ensures.least; first = c.augment-place.ensures.first }));
-      gentle = λ level o g. subst (λ (ys : List ℕ). IsGentle net ys level) (sym c.augment-place.ensures.flows) (turning_gentle _ _ _ _ _ _ _ _ _ _ _ _ _ _ _ c.augment-place.result.1 level c.nodes.ensures.is_net old.turning o (old.gentle level o g));
+      turning = turning_as _ _ _ _ _ _ _ _ _ _ c.augment-done.new.flow.flows _ _ c.augment-done.result.node _ _ (c.turns.raised + c.from-raised.result) _ _ c.augment-done.new.flow.steps refl c.augment-done.ensures.flows tail (ap (λ z. c.turns.raised + z) c.from-raised.ensures) (omega (arith, c.augment-done.ensures.steps, long)) (turning_augment _ _ _ _ _ _ _ _ _ _ _ _ _ _ _ c.augment-done.result.amount c.augment-done.result.depth c.nodes.ensures.is_net c.requires.terminals c.requires.source (sink_here c.args.phase.packed.net.now c.args.phase.t.now c.args.phase.dist.now c.turns.node c.requires.sinks c.turns.invariant.turning.node c.if-phase-node-eq0.true) c.turns.invariant.turning (record { place = c.augment-done.ensures.on_path; amount = c.augment-done.ensures.amount; least = c.augment-done.ensures.least; first = c.augment-done.ensures.first }));
+      gentle = λ level o g. subst (λ (ys : List ℕ). IsGentle net ys level) (sym c.augment-done.ensures.flows) (turning_gentle _ _ _ _ _ _ _ _ _ _ _ _ _ _ _ c.augment-done.result.amount level c.nodes.ensures.is_net old.turning o (old.gentle level o g));
       risen = old.risen;
-      never_lowered = omega (arith, old.never_lowered, c.augment-place.ensures.steps);
+      never_lowered = omega (arith, old.never_lowered, c.augment-done.ensures.steps);
     }
 
 -- the turn that goes on
@@ -86,22 +88,22 @@ returns-then-depth-eq0-clause-steps c =
     let paid = turning_end _ _ _ _ _ _ _ c.admissible.new.current _ _ _ _ _ _ _ _ c.admissible.new.flow.steps c.if-depth-eq0.true c.turns.invariant.turning (record { size = c.admissible.ensures.size; places = c.admissible.ensures.places; moved = c.admissible.ensures.moved; blocked = c.admissible.ensures.blocked (one_of c.args.phase.t.now) }) c.in_default.ensures.steps_none in
     subst (λ (ys : List ℕ). c.admissible.new.flow.steps + owed net halves rank c.admissible.new.current ys ≤ c.args.flow.now.steps + owed net halves rank c.args.current.now c.args.flow.now.flows) (sym c.admissible.ensures.flows) paid
 
-pub tail-node-requires-else-depth-eq0 : goal.tail-node-requires-else-depth-eq0
-tail-node-requires-else-depth-eq0 c = half_on _ _ _ _ _ _ _ _ _ _ _ c.turns.depth _ _ _ (c.turns.depth - 1) (omega (arith, c.if-depth-eq0.false)) c.turns.invariant.turning
+pub tail-node-requires : goal.tail-node-requires
+tail-node-requires c = half_on _ _ _ _ _ _ _ _ _ _ _ c.turns.depth _ _ _ (c.turns.depth - 1) (omega (arith, c.if-depth-eq0.false)) c.turns.invariant.turning
 
 pub overflow_add-current : goal.overflow_add-current
 overflow_add-current c =
-    let node = c.tail-node-else-depth-eq0.ensures.node in let net = c.args.phase.packed.net.now in
-    let place = c.admissible.ensures.places c.tail-node-else-depth-eq0.result node in
-    let most = c.requires.packed.most c.tail-node-else-depth-eq0.result (omega (arith, node)) in
-    omega (arith, place, most, cell_at c.admissible.new.current c.tail-node-else-depth-eq0.result node.0, c.nodes.ensures.is_net.arcs_most)
+    let node = c.tail-node.ensures.node in let net = c.args.phase.packed.net.now in
+    let place = c.admissible.ensures.places c.tail-node.result node in
+    let most = c.requires.packed.most c.tail-node.result (omega (arith, node)) in
+    omega (arith, place, most, cell_at c.admissible.new.current c.tail-node.result node.0, c.nodes.ensures.is_net.arcs_most)
 
 -- the turn that goes back
 pub turns-smaller : goal.turns-smaller
 turns-smaller c =
     let net = c.args.phase.packed.net.now in let halves = c.args.phase.packed.halves.now in let rank = c.args.phase.rank.now in
     let less = to_go_pass _ _ _ _ _ _ _ c.admissible.new.current _ _ _ _ c.turns.depth _ _ _ (c.turns.depth - 1) (omega (arith, c.if-depth-eq0.false)) c.nodes.ensures.is_net c.turns.invariant.turning (record { size = c.admissible.ensures.size; places = c.admissible.ensures.places; moved = c.admissible.ensures.moved; blocked = c.admissible.ensures.blocked (one_of c.args.phase.t.now) }) in
-    subst (λ (zs : List ℕ). to_go net halves rank zs c.admissible.new.flow.flows (c.turns.depth - 1) < to_go net halves rank c.turns.current c.turns.flow.flows c.turns.depth) (sym (stepped c.admissible.new.current c.tail-node-else-depth-eq0.result c.tail-node-else-depth-eq0.ensures.node.0 ∙ ap (λ (z : ℕ). set c.admissible.new.current (z - 1) (cell_of c.admissible.new.current z + 1)) c.tail-node-else-depth-eq0.ensures.tail))
+    subst (λ (zs : List ℕ). to_go net halves rank zs c.admissible.new.flow.flows (c.turns.depth - 1) < to_go net halves rank c.turns.current c.turns.flow.flows c.turns.depth) (sym (stepped c.admissible.new.current c.tail-node.result c.tail-node.ensures.node.0 ∙ ap (λ (z : ℕ). set c.admissible.new.current (z - 1) (cell_of c.admissible.new.current z + 1)) c.tail-node.ensures.tail))
     (subst (λ (ys : List ℕ). to_go net halves rank (set c.admissible.new.current (tail_of net (slice_index c.turns.path (c.turns.depth - 1)) - 1) (cell_of c.admissible.new.current (tail_of net (slice_index c.turns.path (c.turns.depth - 1))) + 1)) ys (c.turns.depth - 1) < to_go net halves rank c.turns.current c.turns.flow.flows c.turns.depth) (sym c.admissible.ensures.flows) less)
 
 pub turns-preserved : goal.turns-preserved
@@ -109,12 +111,12 @@ turns-preserved c =
     let old = c.turns.invariant in let net = c.args.phase.packed.net.now in let found = c.admissible.ensures in
     let inner = no_sink_here net c.args.phase.t.now c.args.phase.dist.now c.turns.node c.requires.sinks old.turning.node c.if-phase-node-eq0.false in
     let back = turning_retreat _ _ _ _ _ _ _ c.admissible.new.current _ _ _ _ c.turns.depth _ _ _ c.admissible.new.flow.steps (c.turns.depth - 1) (omega (arith, c.if-depth-eq0.false)) c.nodes.ensures.is_net c.requires.packed inner old.turning (record { size = c.admissible.ensures.size; places = c.admissible.ensures.places; moved = c.admissible.ensures.moved; blocked = c.admissible.ensures.blocked (one_of c.args.phase.t.now) }) c.in_default.ensures.none c.in_default.ensures.steps_none in
-    let node = c.tail-node-else-depth-eq0.ensures.node in
-    let y = c.tail-node-else-depth-eq0.result in
-    let o = set_next c.admissible.new.current c.tail-node-else-depth-eq0.result node.0 (omega (arith, node, found.size)) in
-    let same = stepped c.admissible.new.current c.tail-node-else-depth-eq0.result node.0 in
+    let node = c.tail-node.ensures.node in
+    let y = c.tail-node.result in
+    let o = set_next c.admissible.new.current c.tail-node.result node.0 (omega (arith, node, found.size)) in
+    let same = stepped c.admissible.new.current c.tail-node.result node.0 in
     record {
-      turning = turning_as _ _ _ _ _ _ _ _ _ _ c.admissible.new.flow.flows _ _ c.tail-node-else-depth-eq0.result _ _ c.turns.raised _ _ c.admissible.new.flow.steps (stepped c.admissible.new.current c.tail-node-else-depth-eq0.result c.tail-node-else-depth-eq0.ensures.node.0 ∙ ap (λ (z : ℕ). set c.admissible.new.current (z - 1) (cell_of c.admissible.new.current z + 1)) c.tail-node-else-depth-eq0.ensures.tail) found.flows c.tail-node-else-depth-eq0.ensures.tail refl refl back;
+      turning = turning_as _ _ _ _ _ _ _ _ _ _ c.admissible.new.flow.flows _ _ c.tail-node.result _ _ c.turns.raised _ _ c.admissible.new.flow.steps (stepped c.admissible.new.current c.tail-node.result c.tail-node.ensures.node.0 ∙ ap (λ (z : ℕ). set c.admissible.new.current (z - 1) (cell_of c.admissible.new.current z + 1)) c.tail-node.ensures.tail) found.flows c.tail-node.ensures.tail refl refl back;
       gentle = λ level o g. subst (λ (ys : List ℕ). IsGentle net ys level) (sym found.flows) (old.gentle level o g);
       risen = λ v. omega (
         arith,

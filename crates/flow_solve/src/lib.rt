@@ -10,7 +10,8 @@
 //! a counted step; the ends of arcs it may read freely.
 //!
 //! No call takes memory or refuses: all work is done in the first [`work_len`] cells of a slice that the caller lends. A
-//! cell holds a half-arc, a place or a distance. With `n` nodes and `m` arcs there are, in this order:
+//! cell holds a half-arc, a place, a distance or a rank. With `n` nodes and `m` arcs there are, in this order, for
+//! [`Paths`], [`reach`] and [`reach_back`]:
 //!
 //! | Cells | What they hold |
 //! |---|---|
@@ -20,6 +21,19 @@
 //! | `n + 1` | where each node's half-arcs begin in the next cells |
 //! | `2·m` | the half-arcs, those of a node side by side |
 //! | `2·n + 1` | spare |
+//!
+//! and for [`Levels`]:
+//!
+//! | Cells | What they hold |
+//! |---|---|
+//! | `n` | each node's distance in the last search |
+//! | `n` | the half-arc over which the search came to it; in the phase after the search its rank |
+//! | `n` | the search's queue |
+//! | `n` | each node's current place: that of its half-arc which the walks try next |
+//! | `n` | the half-arcs of the walk's path |
+//! | `n + 1` | where each node's half-arcs begin in the next cells |
+//! | `2·m` | the half-arcs, those of a node side by side |
+//! | `1` | spare |
 #![tactic(auto)]
 
 mod levels;

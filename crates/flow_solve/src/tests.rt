@@ -259,132 +259,172 @@ fn all_sets_agree(rt: HostRuntime) {
     assert!(&rt; tried > 100);
 }
 
-/// Whether the solver answers as told for a network whose first `k` terminals are the sources. The sides have a 1 for each
-/// node inside.
-fn answers(
-    alloc: Global,
-    arcs: &[(u32, u32, u64)],
-    terminals: &[u32],
+/// A network, and what the solvers are to say of it. The first `k` terminals are the sources. The least source side and the
+/// least sink side have a 1 for each node inside, and so as many numbers as there are nodes.
+struct Known {
+    name: &'static str,
+    arcs: &'static [(u32, u32, u64)],
+    terminals: &'static [u32],
     k: usize,
     value: u128,
-    sides: (&[u8], &[u8]),
-) -> bool {
-    let nodes = sides.0.len();
-    if nodes < 2 || 6 < nodes || sides.1.len() != nodes {
+    side: &'static [u8],
+    back: &'static [u8],
+}
+
+const KNOWN: &[Known] = &[
+    Known {
+        name: "two paths joined by an arc",
+        arcs: &[(1, 2, 3), (1, 3, 2), (2, 3, 1), (2, 4, 2), (3, 4, 3)],
+        terminals: &[1, 4],
+        k: 1,
+        value: 5,
+        side: &[1, 0, 0, 0],
+        back: &[0, 0, 0, 1],
+    },
+    Known {
+        name: "two arcs in a row",
+        arcs: &[(1, 2, 2), (2, 3, 2)],
+        terminals: &[1, 3],
+        k: 1,
+        value: 2,
+        side: &[1, 0, 0],
+        back: &[0, 0, 1],
+    },
+    Known {
+        name: "a wider first arc",
+        arcs: &[(1, 2, 5), (2, 3, 2)],
+        terminals: &[1, 3],
+        k: 1,
+        value: 2,
+        side: &[1, 1, 0],
+        back: &[0, 0, 1],
+    },
+    Known {
+        name: "parallel and opposite arcs",
+        arcs: &[(1, 2, 1), (1, 2, 4), (2, 1, 7)],
+        terminals: &[1, 2],
+        k: 1,
+        value: 5,
+        side: &[1, 0],
+        back: &[0, 1],
+    },
+    Known {
+        name: "two sources",
+        arcs: &[(1, 3, 2), (2, 3, 2), (3, 4, 3)],
+        terminals: &[1, 2, 4],
+        k: 2,
+        value: 3,
+        side: &[1, 1, 1, 0],
+        back: &[0, 0, 0, 1],
+    },
+    Known {
+        name: "a self-loop",
+        arcs: &[(1, 1, 9), (1, 2, 1_000_000_000_000)],
+        terminals: &[1, 2],
+        k: 1,
+        value: 1_000_000_000_000,
+        side: &[1, 0],
+        back: &[0, 1],
+    },
+    Known {
+        name: "two pairs apart",
+        arcs: &[(1, 2, 5), (4, 3, 7)],
+        terminals: &[1, 4, 2, 3],
+        k: 2,
+        value: 12,
+        side: &[1, 0, 0, 1],
+        back: &[0, 1, 1, 0],
+    },
+    Known {
+        name: "an arc between sources",
+        arcs: &[(1, 2, 4), (2, 3, 1)],
+        terminals: &[1, 2, 3],
+        k: 2,
+        value: 1,
+        side: &[1, 1, 0],
+        back: &[0, 0, 1],
+    },
+    Known {
+        name: "a node that no source reaches",
+        arcs: &[(1, 2, 1), (2, 3, 1), (4, 3, 1)],
+        terminals: &[1, 3],
+        k: 1,
+        value: 1,
+        side: &[1, 0, 0, 0],
+        back: &[0, 0, 1, 1],
+    },
+    Known {
+        name: "no arcs",
+        arcs: &[],
+        terminals: &[1, 3],
+        k: 1,
+        value: 0,
+        side: &[1, 0, 0],
+        back: &[0, 0, 1],
+    },
+    Known {
+        name: "the largest capacities",
+        arcs: &[(1, 2, u64::MAX), (1, 2, u64::MAX), (1, 2, u64::MAX)],
+        terminals: &[1, 2],
+        k: 1,
+        value: 55_340_232_221_128_654_845,
+        side: &[1, 0],
+        back: &[0, 1],
+    },
+    Known {
+        name: "arcs from the sink",
+        arcs: &[(2, 1, 3), (1, 3, 1), (3, 2, 1), (2, 2, 5)],
+        terminals: &[1, 2],
+        k: 1,
+        value: 1,
+        side: &[1, 0, 0],
+        back: &[0, 1, 0],
+    },
+    Known {
+        name: "two paths and a thin one between",
+        arcs: &[
+            (1, 2, 1_000_000_000_000),
+            (1, 3, 1_000_000_000_000),
+            (2, 3, 1),
+            (2, 4, 1_000_000_000_000),
+            (3, 4, 1_000_000_000_000),
+        ],
+        terminals: &[1, 4],
+        k: 1,
+        value: 2_000_000_000_000,
+        side: &[1, 0, 0, 0],
+        back: &[0, 0, 0, 1],
+    },
+];
+
+/// Whether the solvers answer as told.
+fn answers(alloc: Global, known: &Known) -> bool {
+    let nodes = known.side.len();
+    if nodes < 2 || 6 < nodes || known.back.len() != nodes {
         return false;
     }
-    let net = network(alloc, nodes as u32, arcs);
-    let Some(answer) = solve(alloc, &net, terminals, k) else {
+    let net = network(alloc, nodes as u32, known.arcs);
+    let Some(answer) = solve(alloc, &net, known.terminals, known.k) else {
         return false;
     };
     for place in 0..nodes {
-        if u8::from(answer.side[place]) != sides.0[place]
-            || u8::from(answer.back[place]) != sides.1[place]
+        if u8::from(answer.side[place]) != known.side[place]
+            || u8::from(answer.back[place]) != known.back[place]
         {
             return false;
         }
     }
-    answer.value == value && agrees(alloc, &net, terminals, k)
+    answer.value == known.value && agrees(alloc, &net, known.terminals, known.k)
 }
 
 #[test]
 fn known_answers(rt: HostRuntime) {
-    let a = [(1, 2, 3), (1, 3, 2), (2, 3, 1), (2, 4, 2), (3, 4, 3)];
-    assert!(&rt;
-        answers(
-            rt.alloc(),
-            &a,
-            &[1, 4],
-            1,
-            5,
-            (&[1, 0, 0, 0], &[0, 0, 0, 1])
-        )
-    );
-    let b = [(1, 2, 2), (2, 3, 2)];
-    assert!(&rt; answers(rt.alloc(), &b, &[1, 3], 1, 2, (&[1, 0, 0], &[0, 0, 1])));
-    let wider = [(1, 2, 5), (2, 3, 2)];
-    assert!(&rt; answers(rt.alloc(), &wider, &[1, 3], 1, 2, (&[1, 1, 0], &[0, 0, 1])));
-    let opposite = [(1, 2, 1), (1, 2, 4), (2, 1, 7)];
-    assert!(&rt; answers(rt.alloc(), &opposite, &[1, 2], 1, 5, (&[1, 0], &[0, 1])));
-    let two_sources = [(1, 3, 2), (2, 3, 2), (3, 4, 3)];
-    assert!(&rt;
-        answers(
-            rt.alloc(),
-            &two_sources,
-            &[1, 2, 4],
-            2,
-            3,
-            (&[1, 1, 1, 0], &[0, 0, 0, 1])
-        )
-    );
-    let loops = [(1, 1, 9), (1, 2, 1000000000000)];
-    assert!(&rt;
-        answers(
-            rt.alloc(),
-            &loops,
-            &[1, 2],
-            1,
-            1000000000000,
-            (&[1, 0], &[0, 1])
-        )
-    );
-    let pairs = [(1, 2, 5), (4, 3, 7)];
-    assert!(&rt;
-        answers(
-            rt.alloc(),
-            &pairs,
-            &[1, 4, 2, 3],
-            2,
-            12,
-            (&[1, 0, 0, 1], &[0, 1, 1, 0])
-        )
-    );
-    let between_sources = [(1, 2, 4), (2, 3, 1)];
-    assert!(&rt;
-        answers(
-            rt.alloc(),
-            &between_sources,
-            &[1, 2, 3],
-            2,
-            1,
-            (&[1, 1, 0], &[0, 0, 1])
-        )
-    );
-    let apart = [(1, 2, 1), (2, 3, 1), (4, 3, 1)];
-    assert!(&rt;
-        answers(
-            rt.alloc(),
-            &apart,
-            &[1, 3],
-            1,
-            1,
-            (&[1, 0, 0, 0], &[0, 0, 1, 1])
-        )
-    );
-    assert!(&rt; answers(rt.alloc(), &[], &[1, 3], 1, 0, (&[1, 0, 0], &[0, 0, 1])));
-    let most = u64::MAX;
-    let largest = [(1, 2, most), (1, 2, most), (1, 2, most)];
-    assert!(&rt;
-        answers(
-            rt.alloc(),
-            &largest,
-            &[1, 2],
-            1,
-            55340232221128654845,
-            (&[1, 0], &[0, 1])
-        )
-    );
-    let backwards = [(2, 1, 3), (1, 3, 1), (3, 2, 1), (2, 2, 5)];
-    assert!(&rt;
-        answers(
-            rt.alloc(),
-            &backwards,
-            &[1, 2],
-            1,
-            1,
-            (&[1, 0, 0], &[0, 1, 0])
-        )
-    );
+    for known in KNOWN {
+        assert_eq!(&rt;
+            (known.name, answers(rt.alloc(), known)),
+            (known.name, true)
+        );
+    }
 }
 
 #[test]
@@ -406,14 +446,6 @@ fn a_long_chain(rt: HostRuntime) {
         assert!(&rt; side[0]);
         assert!(&rt; !side[1..].contains(&true));
     }
-}
-
-#[test]
-fn two_paths_and_a_thin_one_between(rt: HostRuntime) {
-    let c = 1000000000000;
-    let net = [(1, 2, c), (1, 3, c), (2, 3, 1), (2, 4, c), (3, 4, c)];
-    let sides: (&[u8], &[u8]) = (&[1, 0, 0, 0], &[0, 0, 0, 1]);
-    assert!(&rt; answers(rt.alloc(), &net, &[1, 4], 1, 2000000000000, sides));
 }
 
 #[test]

@@ -152,6 +152,7 @@ fn follow(
     ensures wanted { result.wanted ≤ result.all }
     ensures flows { flow.new.flows ≡ flow.old.flows }
     ensures never_lowered { flow.old.steps ≤ flow.new.steps }
+    ensures no_look { IsMarked dist.old (head_of net.now half - 1) → flow.new.steps ≡ flow.old.steps }
     ensures steps { flow.new.steps ≤ flow.old.steps + 1 }
 {
     let _ = net.nodes();

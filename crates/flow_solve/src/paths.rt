@@ -24,6 +24,7 @@ use flow_net::{FlowTable, Network};
 fn first_seen(nodes: &[u32], dist: &[u32]) -> Option<u32>
     requires { All (λ v. (1 ≤ v) × (v ≤ length dist.now)) nodes.now }
     ensures some { IfSome result (λ v. IsTrue (one_of nodes.now v) × (1 ≤ v) × (v ≤ length dist.now) × IsMarked dist.now (v - 1)) }
+    ensures first { IfSome result (λ v. (i : ℕ) × (i < length nodes.now) × (slice_index nodes.now i ≡ v) × ((j : ℕ) → j < i → IsFalse (seen dist.now (slice_index nodes.now j)))) }
     ensures none { IfNone result ((v : ℕ) → IsTrue (one_of nodes.now v) → IsFalse (seen dist.now v)) }
 {
     for node in nodes {
@@ -77,6 +78,7 @@ fn least_room(net: &Network, flow: &mut FlowTable, dist: &[u32], via: &[u32], so
     requires node { IsNode net.now source }
     requires marked { IsMarked dist.now (source - 1) }
     ensures room { HasRoom net.now flow.old.flows result (trail_from net.now dist.now via.now source) }
+    ensures most { (d : ℕ) → d < 18446744073709551616 → HasRoom net.now flow.old.flows d (trail_from net.now dist.now via.now source) → d ≤ result }
     ensures positive { 1 ≤ result }
     ensures flows { flow.new.flows ≡ flow.old.flows }
     ensures steps { flow.new.steps ≡ flow.old.steps + slice_index dist.now (source - 1) }
@@ -124,6 +126,7 @@ fn augment(net: &Network, flow: &mut FlowTable, dist: &[u32], via: &[u32], sourc
     requires marked { IsMarked dist.now (source - 1) }
     ensures positive { 1 ≤ result }
     ensures room { HasRoom net.now flow.old.flows result (trail_from net.now dist.now via.now source) }
+    ensures most { (d : ℕ) → d < 18446744073709551616 → HasRoom net.now flow.old.flows d (trail_from net.now dist.now via.now source) → d ≤ result }
     ensures flows { flow.new.flows ≡ push_all flow.old.flows (trail_from net.now dist.now via.now source) result }
     ensures never_lowered { flow.old.steps ≤ flow.new.steps }
     ensures steps { flow.new.steps ≤ flow.old.steps + 2 * net.now.nodes }

@@ -1,4 +1,4 @@
-use Rattle.std.proofs.Common.{◌≡◌, false, get_or, subst, arith}
+use Rattle.std.proofs.Common.{◌≡◌, false, get_or, subst, refl, arith}
 use Rattle.flow_solve.specs.Searches.{seen}
 use Rattle.flow_solve.proofs.Marks.{one_of-at, place_in}
 use Rattle.flow_solve.proofs.Found.{unmarked_unseen}
@@ -8,6 +8,16 @@ pub returns-then-dist-node-lt-WANTED-clause-some : goal.returns-then-dist-node-l
 returns-then-dist-node-lt-WANTED-clause-some c =
     let node = c.requires c.loop-node.node-index 0 c.loop-node-test.true in
     (one_of-at c.args.nodes.now c.loop-node.node-index c.loop-node-test.true, node.0, node.1, c.if-dist-node-lt-WANTED.true)
+
+pub returns-then-dist-node-lt-WANTED-clause-first : goal.returns-then-dist-node-lt-WANTED-clause-first
+returns-then-dist-node-lt-WANTED-clause-first c = (
+  c.loop-node.node-index,
+  c.loop-node-test.true,
+  refl,
+  λ j l.
+      let node = c.requires j 0 (omega (arith, l, c.loop-node-test.true)) in
+      unmarked_unseen c.args.dist.now (get_or c.args.nodes.now j 0) node.0 (c.loop-node.invariant j l),
+)
 
 pub returns-clause-none : goal.returns-clause-none
 returns-clause-none c = λ v i.

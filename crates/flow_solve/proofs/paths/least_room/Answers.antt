@@ -21,6 +21,12 @@ loop-node-preserved c =
       marked = subst (λ v. IsMarked dist (v - 1)) (sym to) n.marked;
       ahead = λ k l r. old.ahead k (omega (arith, l, c.min-least.ensures))
           (subst (HasRoom net xs k) (sym n.parts) (omega (arith, l, c.min-least.ensures, c.look-next.ensures.residual, here), subst (λ v. HasRoom net xs k (trail_from net dist via v)) to r));
+      most = λ k f r.
+          let now = old.most k f r in let parts = subst (HasRoom net xs k) n.parts now.1 in
+          (omega (arith, now.0, parts.0, c.min-least.ensures, c.look-next.ensures.residual, here), subst (λ v. HasRoom net xs k (trail_from net dist via v)) (sym to) parts.1);
       positive = omega (arith, old.positive, n.remains, here, c.look-next.ensures.residual, c.min-least.ensures);
       steps = omega (arith, old.steps, c.look-next.ensures.steps, n.level, level);
     }
+
+pub returns-clause-most : goal.returns-clause-most
+returns-clause-most c = λ d f r. (c.loop-node.invariant.most d f r).0

@@ -10,9 +10,9 @@ use Rattle.flow_net.specs.NodeSets.{one_of, marked}
 use Rattle.flow_net.specs.Residual.{tail_of, head_of, residual}
 use Rattle.flow_net.proofs.Zips.{head_is_node}
 use Rattle.flow_solve.specs.declared.searching.Direction.{Direction}
-use Rattle.flow_solve.specs.Searches.{near_end, far_end, crossed, IsClosedFor, HoldsAll, IsMarked, seen, IsCount, wanted_at, IsDone, IsSearched, IsWhole}
+use Rattle.flow_solve.specs.Searches.{near_end, far_end, crossed, IsClosedFor, HoldsAll, IsMarked, seen, spread, IsCount, wanted_at, IsDone, IsSearched, IsWhole}
 use Rattle.flow_solve.proofs.Marks.{place_in}
-use Rattle.flow_solve.proofs.Queues.{spread_zero, spread_some}
+use Rattle.flow_solve.proofs.Queues.{spread_zero, spread_some, spread_more}
 use Rattle.flow_solve.proofs.Crossings.{near_crossed, crossed_crossed, crossed_within, far_crossed, tail_group}
 
 get_or_last : (xs : List ℕ) (i d : ℕ) → length xs ≤ i → get_or xs i d ≡ d
@@ -115,6 +115,13 @@ pub some_seen : (until dist : List ℕ) (wanted : ℕ) → IsCount until dist wa
 some_seen until dist wanted c l =
     let r = spread_some (wanted_at until) dist (length dist) (omega (arith, c.count)) in
     (r.0, r.1, r.2, wanted_some (one_of until (r.0 + 1)) r.3)
+
+-- where more of them are counted, one of them is newly seen
+pub new_seen : (until dist dist' : List ℕ) (wanted wanted' : ℕ) → IsCount until dist wanted → IsCount until dist' wanted' → length dist' ≡ length dist → wanted < wanted' → (p : ℕ) × (p < length dist) × IsMarked dist' p × (4294967294 ≤ get_or dist p 0) × IsTrue (one_of until (p + 1))
+new_seen until dist dist' wanted wanted' c d e l =
+    let same : spread (wanted_at until) dist' (length dist') ≡ spread (wanted_at until) dist' (length dist) = ap (spread (wanted_at until) dist') e in
+    let r = spread_more (wanted_at until) dist dist' (length dist) (omega (arith, c.count, d.count, same)) in
+    (r.0, r.1, r.2, r.3, wanted_some (one_of until (r.0 + 1)) r.4)
 
 pub none_wanted : (until dist : List ℕ) (wanted : ℕ) → IsCount until dist wanted → ((v : ℕ) → one_of until v ≡ true → seen dist v ≡ false) → wanted ≡ 0
 none_wanted until dist wanted c out = elim (cases_lt 0 wanted) [

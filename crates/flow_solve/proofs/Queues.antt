@@ -86,6 +86,30 @@ spread_some w dist (suc k) l = elim (cases_lt (get_or dist k 0) 4294967294) [
   | inr m ↦ let more = spread_unmarked w dist k m in let r = spread_some w dist k (omega arith) in (r.0, omega (arith, r.1), r.2, r.3)
 ]
 
+-- a marked place with a weight that was unmarked before
+abbrev pub HasGained : (ℕ → ℕ) → List ℕ → List ℕ → ℕ → Type 0
+HasGained w dist dist' k = (p : ℕ) × (p < k) × IsMarked dist' p × (4294967294 ≤ get_or dist p 0) × (0 < w p)
+
+gained_on : (w : ℕ → ℕ) (dist dist' : List ℕ) (k : ℕ) → HasGained w dist dist' k → HasGained w dist dist' (suc k)
+gained_on w dist dist' k r = (r.0, omega (arith, r.1), r.2, r.3, r.4)
+
+-- where the sum has become greater there is one
+pub spread_more : (w : ℕ → ℕ) (dist dist' : List ℕ) (k : ℕ) → spread w dist k < spread w dist' k → HasGained w dist dist' k
+spread_more w dist dist' zero l = absurd (omega arith)
+spread_more w dist dist' (suc k) l = elim (cases_lt (get_or dist' k 0) 4294967294) [
+  | inl m ↦ let now = spread_marked w dist' k m in elim (cases_lt (get_or dist k 0) 4294967294) [
+    | inl kept ↦ let was = spread_marked w dist k kept in gained_on w dist dist' k (spread_more w dist dist' k (omega arith))
+    | inr new ↦ let was = spread_unmarked w dist k new in elim (cases_lt 0 (w k)) [
+      | inl some ↦ (k, omega arith, m, new, some)
+      | inr none ↦ gained_on w dist dist' k (spread_more w dist dist' k (omega arith))
+    ]
+  ]
+  | inr m ↦ let now = spread_unmarked w dist' k m in elim (cases_lt (get_or dist k 0) 4294967294) [
+    | inl kept ↦ let was = spread_marked w dist k kept in gained_on w dist dist' k (spread_more w dist dist' k (omega arith))
+    | inr new ↦ let was = spread_unmarked w dist k new in gained_on w dist dist' k (spread_more w dist dist' k (omega arith))
+  ]
+]
+
 -- the queue's sum by its first cells only
 pub queued_same : (w : ℕ → ℕ) (queue queue' : List ℕ) (k : ℕ) → ((i : ℕ) → i < k → get_or queue' i 0 ≡ get_or queue i 0) → queued w queue' k ≡ queued w queue k
 queued_same w queue queue' zero s = refl

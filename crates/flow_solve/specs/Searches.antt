@@ -93,6 +93,10 @@ pub record IsCount (until dist : List ℕ) (wanted : ℕ) : Type 0 where
   pub cells : (p : ℕ) → p < length dist → 4294967294 ≤ slice_index dist p → slice_index dist p ≡ unseen_cell until p
   pub count : wanted ≡ spread (wanted_at until) dist (length dist)
 
+-- among the farthest nodes that the search has seen is one that it looks out for
+abbrev pub EndsWithWanted : List ℕ → List ℕ → Type 0
+EndsWithWanted until dist = (p : ℕ) × IsTrue (one_of until (p + 1)) × IsMarked dist p × IsNear dist (slice_index dist p)
+
 -- the search came to the place over the half-arc in its cell of `via`, from a node that is nearer by one
 pub record IsCome (net : Net) (flows : List ℕ) (dir : Direction) (dist via : List ℕ) (p : ℕ) : Type 0 where
   pub in_range : slice_index via p < 2 * length net.arcs

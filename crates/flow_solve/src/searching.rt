@@ -13,7 +13,7 @@ ghost use Rattle.flow_net.specs.NodeSets.{one_of};
 ghost use Rattle.flow_net.specs.Flows.{Fits};
 ghost use Rattle.flow_net.specs.Residual.{head_of, residual};
 ghost use Rattle.flow_solve.specs.Packs.{IsPacked, group_of};
-ghost use Rattle.flow_solve.specs.Searches.{twin_of, crossed, IsClosedFor, IsMarked, IsNear, HoldsMarked, HoldsAll, IsQueue, HasGrown, IsCount, IsCome, IsDone, IsSearched, unseen_cell};
+ghost use Rattle.flow_solve.specs.Searches.{twin_of, crossed, IsClosedFor, IsMarked, IsNear, HoldsMarked, HoldsAll, IsQueue, HasGrown, IsCount, IsCome, IsDone, IsSearched, EndsWithWanted, unseen_cell};
 
 use crate::packing::Packed;
 use flow_net::{FlowTable, Network};
@@ -194,6 +194,7 @@ fn follow_all(
     ensures near { IsNear dist.new (slice_index dist.old place + 1) }
     ensures grown { HasGrown dist.old via.old queue.old seen.all dist.new via.new queue.new result.all }
     ensures come { (p : ℕ) → IsMarked dist.new p → IsMarked dist.old p ⊎ IsCome packed.entry.net.now flow.old.flows direction dist.new via.new p }
+    ensures next_level { (p : ℕ) → IsMarked dist.new p → IsMarked dist.old p ⊎ (slice_index dist.new p ≡ slice_index dist.old place + 1) }
     ensures done { (h : ℕ) → h < 2 * length packed.entry.net.now.arcs → group_of packed.entry.net.now h ≡ place → 1 ≤ residual packed.entry.net.now flow.old.flows (crossed direction h) → IsMarked dist.new (head_of packed.entry.net.now h - 1) }
     ensures only { (side : ℕ → Bool) → IsClosedFor direction packed.entry.net.now flow.old.flows side → IsTrue (side (place + 1)) → HoldsMarked packed.entry.net.now.nodes dist.old side → HoldsMarked packed.entry.net.now.nodes dist.new side }
     ensures count { (until : List ℕ) → IsCount until dist.old seen.wanted → IsCount until dist.new result.wanted }
@@ -290,6 +291,7 @@ pub(crate) fn search(
     requires queue_size { length queue.old ≡ packed.net.now.nodes }
     ensures searched { IsSearched packed.entry.net.now flow.old.flows plan.entry.direction plan.entry.starts.now dist.new via.new }
     ensures whole { result.wanted < plan.entry.enough → (p : ℕ) → p < packed.entry.net.now.nodes → IsMarked dist.new p → IsDone packed.entry.net.now flow.old.flows plan.entry.direction dist.new p }
+    ensures soon { 1 ≤ plan.entry.enough → plan.entry.enough ≤ result.wanted → EndsWithWanted plan.entry.until.now dist.new }
     ensures count { IsCount plan.entry.until.now dist.new result.wanted }
     ensures queue { IsQueue dist.new queue.new result.all }
     ensures flows { flow.new.flows ≡ flow.old.flows }

@@ -42,6 +42,13 @@ loop-spot-preserved c =
         ]
         | inr new ↦ inr (come_new net flows dir dist' via' p half c.args.place c.nodes-level.ensures.is_net own.0 c.requires.place own.1 new.0 (subst (λ k. 1 ≤ k) room new.1) still (new.2 ∙ sym (ap (λ d. d + 1) level)) new.3)
       ];
+      next_level = λ p m. elim (now.come p m) [
+        | inl was ↦ elim (old.next_level p was) [
+          | inl first ↦ inl first
+          | inr there ↦ inr ((now.grown.kept p was).0 ∙ there)
+        ]
+        | inr new ↦ inr new.2
+      ];
       only = λ side closed in_side holds.
           let before = old.only side closed in_side holds in
           let leads : 1 ≤ residual net c.loop-spot.flow.flows (crossed dir half) → IsTrue (side (head_of net half)) = λ r.
@@ -57,3 +64,9 @@ returns-clause-done c = λ h l e r.
     let old = c.loop-spot.invariant in let net = c.args.packed.net.now in
     subst (λ g. IsMarked c.loop-spot.dist (head_of net g - 1)) at.3
     (old.done at.0 (omega (arith, at.2, c.loop-spot-test.false)) at.1 (subst (λ g. 1 ≤ residual net c.args.flow.now.flows (crossed c.args.direction g)) (sym at.3) r))
+
+pub returns-clause-next_level : goal.returns-clause-next_level
+returns-clause-next_level c = λ p m. elim (c.loop-spot.invariant.next_level p m) [
+  | inl was ↦ inl was
+  | inr there ↦ inr (there ∙ c.loop-spot.invariant.level)
+]

@@ -21,6 +21,7 @@ invariant-loop-spot l = record {
   count : (until : List ℕ) → IsCount until l.fn.dist l.fn.seen.wanted → IsCount until l.dist l.seen.wanted;
   done : (p : ℕ) → p < l.spot → slice_index l.packed.first.now l.place ≤ p → 1 ≤ residual l.packed.net.now l.fn.flow.flows (crossed l.direction (slice_index l.packed.halves.now p)) → IsMarked l.dist (head_of l.packed.net.now (slice_index l.packed.halves.now p) - 1);
   come : (p : ℕ) → IsMarked l.dist p → IsMarked l.fn.dist p ⊎ IsCome l.packed.net.now l.fn.flow.flows l.direction l.dist l.via p;
+  next_level : (p : ℕ) → IsMarked l.dist p → IsMarked l.fn.dist p ⊎ (slice_index l.dist p ≡ l.level);
   only : (side : ℕ → Bool) → IsClosedFor l.direction l.packed.net.now l.fn.flow.flows side → IsTrue (side (l.place + 1)) → HoldsMarked l.packed.net.now.nodes l.fn.dist side → HoldsMarked l.packed.net.now.nodes l.dist side;
   never_lowered : l.fn.flow.steps ≤ l.flow.steps;
   steps : l.flow.steps ≤ l.fn.flow.steps + (l.spot - slice_index l.packed.first.now l.place);

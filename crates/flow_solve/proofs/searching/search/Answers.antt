@@ -4,6 +4,7 @@ use Rattle.flow_net.specs.Residual.{head_of, residual}
 use Rattle.flow_solve.specs.Searches.{crossed, IsMarked, IsCome, IsDone, queued}
 use Rattle.flow_solve.proofs.Queues.{queue_short, queued_same, grown_marked, come_on}
 use Rattle.flow_solve.proofs.Marks.{count_none}
+use Rattle.flow_solve.proofs.Found.{some_seen, new_seen}
 use Rattle.flow_solve.proofs.Sweeps.{searched, all_done, queued_halves}
 use Rattle.flow_solve.proofs.searching.search.Goals as goal
 
@@ -11,6 +12,7 @@ pub loop-at-init : goal.loop-at-init
 loop-at-init c =
     let starts = c.start_all-seen.ensures in
     let cells : length c.start_all-seen.new.dist ≡ c.args.packed.net.now.nodes = omega (arith, c.requires.cells) in
+    let count = starts.count c.args.plan.until.now (count_none c.args.plan.until.now c.look_out.new.dist (λ p l. c.look_out.ensures.unseen p (omega arith))) in
     record {
       fits = c.requires.fits;
       flows = refl;
@@ -27,7 +29,10 @@ loop-at-init c =
         come = λ p l m. inl (omega (arith, starts.near p m), starts.come p (omega arith) m);
         only = λ side all closed p l m. all (p + 1) (starts.come p (omega arith) m);
       };
-      count = starts.count c.args.plan.until.now (count_none c.args.plan.until.now c.look_out.new.dist (λ p l. c.look_out.ensures.unseen p (omega arith)));
+      soon = λ o e.
+          let one = some_seen c.args.plan.until.now c.start_all-seen.new.dist c.start_all-seen.result.wanted count (omega (arith, o, e)) in
+          (one.0, one.3, one.2, λ p m. omega (arith, starts.near p m));
+      count = count;
       wanted = starts.wanted;
       never_lowered = omega arith;
       steps = omega arith;
@@ -87,6 +92,12 @@ loop-at-preserved c =
             let in_side = before place (omega (arith, swept.order.places c.loop-at.at l, swept.cells)) (swept.order.marks c.loop-at.at l) in
             now.only side (λ h b t r. closed h b t (subst (λ xs. 1 ≤ residual net xs h) old.flows r)) in_side before;
       };
+      soon = λ o e.
+          let one = new_seen c.args.plan.until.now c.loop-at.dist dist' c.loop-at.seen.wanted c.follow_all-seen.result.wanted old.count (now.count c.args.plan.until.now old.count) now.grown.dist_size (omega (arith, e, c.if-seen-plan.true)) in
+          elim (now.next_level one.0 one.2) [
+            | inl was ↦ absurd (omega (arith, was, one.3))
+            | inr there ↦ (one.0, one.4, one.2, λ p m. omega (arith, now.near p m, there))
+          ];
       count = now.count c.args.plan.until.now old.count;
       wanted = now.wanted;
       never_lowered = omega (arith, old.never_lowered, now.never_lowered);

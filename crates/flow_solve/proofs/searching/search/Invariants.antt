@@ -1,7 +1,7 @@
 use Rattle.std.proofs.Common.{◌≡◌, ◌+◌, ◌-◌, ◌≤◌, length}
 use Rattle.std.specs.Prelude.{slice_index}
 use Rattle.flow_net.specs.Flows.{Fits}
-use Rattle.flow_solve.specs.Searches.{IsCount, queued}
+use Rattle.flow_solve.specs.Searches.{IsCount, EndsWithWanted, queued}
 use Rattle.flow_solve.proofs.Sweeps.{IsSwept}
 use Rattle.flow_solve.proofs.searching.search.Given as goal
 
@@ -12,6 +12,7 @@ invariant-loop-at l = record {
   via_size : length l.via ≡ length l.dist;
   queue_size : length l.queue ≡ length l.dist;
   swept : IsSwept l.packed.net.now l.fn.flow.flows l.plan.direction l.plan.starts.now l.dist l.via l.queue l.seen.all l.at;
+  soon : 1 ≤ l.plan.enough → l.plan.enough ≤ l.seen.wanted → EndsWithWanted l.plan.until.now l.dist;
   count : IsCount l.plan.until.now l.dist l.seen.wanted;
   wanted : l.seen.wanted ≤ l.seen.all;
   never_lowered : l.fn.flow.steps ≤ l.flow.steps;

@@ -1,6 +1,7 @@
 ghost use Rattle.std.specs.Prelude.{◌≡◌, ◌≤◌, length, IfOk};
 ghost use Rattle.flow_text.specs.SolutionReading.{IsWithinLimits, written_in};
 
+use super::nets::{ARCS_A, ARCS_B, ARCS_C, ARCS_D, Triple};
 use super::*;
 use flow_net::{Arc, Network, Problem};
 use flow_text::{FlowLine, Solution, Verdict};
@@ -14,14 +15,14 @@ struct Case<'a> {
     nodes: u32,
     sources: u32,
     sink: u32,
-    arcs: &'a [(u32, u32, u64)],
+    arcs: &'a [Triple],
     value: u128,
-    lines: &'a [(u32, u32, u64)],
+    lines: &'a [Triple],
     feasible_only: bool,
     verdict: Verdict,
 }
 
-fn network(rt: &impl Abort, alloc: Global, nodes: u32, arcs: &[(u32, u32, u64)]) -> Network
+fn network(rt: &impl Abort, alloc: Global, nodes: u32, arcs: &[Triple]) -> Network
     ensures nodes { result.nodes ≡ nodes }
     ensures some { 2 ≤ nodes }
     ensures few { length result.arcs ≤ 4000000 }
@@ -84,9 +85,9 @@ fn expect(rt: &impl Abort, alloc: Global, case: &Case) -> Result<(), Fail> {
 fn with_one_source<'a>(
     nodes: u32,
     sink: u32,
-    arcs: &'a [(u32, u32, u64)],
+    arcs: &'a [Triple],
     value: u128,
-    lines: &'a [(u32, u32, u64)],
+    lines: &'a [Triple],
     verdict: Verdict,
 ) -> Case<'a>
     ensures { result.nodes ≡ nodes }
@@ -105,10 +106,9 @@ fn with_one_source<'a>(
 
 #[test]
 fn greatest_or_not(rt: HostRuntime) -> Result<(), Fail> {
-    let arcs = [(1, 2, 3), (1, 3, 2), (2, 3, 1), (2, 4, 2), (3, 4, 3)];
     let lines = [(3, 4, 3), (2, 4, 2), (2, 3, 1), (1, 3, 2), (1, 2, 3)];
-    let greatest = with_one_source(4, 4, &arcs, 5, &lines, Verdict::Optimal(5));
-    let zero = with_one_source(4, 4, &arcs, 0, &[], Verdict::NotMaximal(0));
+    let greatest = with_one_source(4, 4, ARCS_A, 5, &lines, Verdict::Optimal(5));
+    let zero = with_one_source(4, 4, ARCS_A, 0, &[], Verdict::NotMaximal(0));
     let feasible = Case {
         feasible_only: true,
         verdict: Verdict::Feasible(0),
@@ -122,7 +122,6 @@ fn greatest_or_not(rt: HostRuntime) -> Result<(), Fail> {
 
 #[test]
 fn parallel_arcs_share_a_total(rt: HostRuntime) -> Result<(), Fail> {
-    let arcs = [(1, 2, 1), (1, 2, 4), (2, 1, 7)];
     let over = Verdict::Over {
         src: 1,
         dst: 2,
@@ -134,9 +133,9 @@ fn parallel_arcs_share_a_total(rt: HostRuntime) -> Result<(), Fail> {
         found: -3,
     };
     for case in [
-        with_one_source(2, 2, &arcs, 5, &[(1, 2, 5)], Verdict::Optimal(5)),
-        with_one_source(2, 2, &arcs, 6, &[(1, 2, 6)], over),
-        with_one_source(2, 2, &arcs, 0, &[(2, 1, 3)], back),
+        with_one_source(2, 2, ARCS_C, 5, &[(1, 2, 5)], Verdict::Optimal(5)),
+        with_one_source(2, 2, ARCS_C, 6, &[(1, 2, 6)], over),
+        with_one_source(2, 2, ARCS_C, 0, &[(2, 1, 3)], back),
     ] {
         expect(&rt, rt.alloc(), &case)?;
     }
@@ -145,7 +144,6 @@ fn parallel_arcs_share_a_total(rt: HostRuntime) -> Result<(), Fail> {
 
 #[test]
 fn balance_and_value(rt: HostRuntime) -> Result<(), Fail> {
-    let arcs = [(1, 2, 2), (2, 3, 2)];
     let unbalanced = Verdict::Unbalanced {
         node: 2,
         into: 1,
@@ -154,9 +152,9 @@ fn balance_and_value(rt: HostRuntime) -> Result<(), Fail> {
     let value = Verdict::Value { given: 1, found: 2 };
     let zero_line = [(1, 2, 1), (2, 3, 1), (2, 2, 0)];
     for case in [
-        with_one_source(3, 3, &arcs, 1, &[(1, 2, 1)], unbalanced),
-        with_one_source(3, 3, &arcs, 1, &[(1, 2, 2), (2, 3, 2)], value),
-        with_one_source(3, 3, &arcs, 1, &zero_line, Verdict::NotMaximal(1)),
+        with_one_source(3, 3, ARCS_B, 1, &[(1, 2, 1)], unbalanced),
+        with_one_source(3, 3, ARCS_B, 1, &[(1, 2, 2), (2, 3, 2)], value),
+        with_one_source(3, 3, ARCS_B, 1, &zero_line, Verdict::NotMaximal(1)),
     ] {
         expect(&rt, rt.alloc(), &case)?;
     }
@@ -181,11 +179,10 @@ fn least_pair_over(rt: HostRuntime) -> Result<(), Fail> {
 
 #[test]
 fn two_sources(rt: HostRuntime) -> Result<(), Fail> {
-    let arcs = [(1, 3, 2), (2, 3, 2), (3, 4, 3)];
     let lines = [(1, 3, 2), (2, 3, 1), (3, 4, 3)];
     let two = Case {
         sources: 2,
-        ..with_one_source(4, 4, &arcs, 3, &lines, Verdict::Optimal(3))
+        ..with_one_source(4, 4, ARCS_D, 3, &lines, Verdict::Optimal(3))
     };
     expect(&rt, rt.alloc(), &two)
 }

@@ -1,230 +1,159 @@
 //! Runs of `connect` and `check` over memory, and large problems.
-ghost use Rattle.std.specs.Prelude.{◌≤◌};
 
-use super::memory::{Held, Script};
-use super::{Input, Job, run};
+use super::Job;
+use super::memory::Script;
+use super::nets::{NET_A, NET_B, NET_C, NET_D, NO_ARCS};
+use super::runs::{answer, answer_both};
 use flow_net::Arc;
 use flow_text::{arc_line, flow_line};
 use std::alloc::Global;
+use std::process::Abort;
 use std::test::Fail;
 
-const NET_A: &[u8] = b"p max 4 5\nn 1 s\nn 4 t\na 1 2 3\na 1 3 2\na 2 3 1\na 2 4 2\na 3 4 3\n";
+/// A ring of three arcs of capacity 0.
+const RING: &[u8] = b"p max 3 3\nn 1 s\nn 3 t\na 1 2 0\na 2 3 0\na 3 1 0\n";
 
-const NET_B: &[u8] = b"p max 3 2\nn 1 s\nn 3 t\na 1 2 2\na 2 3 2\n";
+const OPPOSITE: &[u8] = b"p max 2 3\nn 1 s\nn 2 t\na 1 2 1\na 1 2 1\na 2 1 1\n";
 
-const NET_C: &[u8] = b"p max 2 3\nn 1 s\nn 2 t\na 1 2 1\na 1 2 4\na 2 1 7\n";
+const ONLY_A_LOOP: &[u8] = b"p max 2 1\nn 1 s\nn 2 t\na 1 1 5\n";
 
-const NET_D: &[u8] = b"p max 4 3\nn 1 s\nn 2 s\nn 4 t\na 1 3 2\na 2 3 2\na 3 4 3\n";
+/// Whether arcs count by their ends, whether the terminals are set apart, a problem, and its connectivity.
+type Connected = (bool, bool, &'static [u8], &'static [u8]);
 
-const NO_ARCS: &[u8] = b"p max 2 0\nn 1 s\nn 2 t\n";
+const CONNECTIVITIES: [Connected; 21] = [
+    (false, false, NO_ARCS, b"k 0\n"),
+    (true, false, NO_ARCS, b"k 0\n"),
+    (false, true, NO_ARCS, b"k 0\n"),
+    (true, true, NO_ARCS, b"k 0\n"),
+    (false, false, RING, b"k 1\n"),
+    (true, false, RING, b"k 2\n"),
+    (false, true, RING, b"k 1\n"),
+    (true, true, RING, b"k 2\n"),
+    (false, false, NET_A, b"k 0\n"),
+    (true, false, NET_A, b"k 2\n"),
+    (false, true, NET_A, b"k 2\n"),
+    (true, true, NET_A, b"k 2\n"),
+    (false, false, OPPOSITE, b"k 1\n"),
+    (true, false, OPPOSITE, b"k 3\n"),
+    (false, true, OPPOSITE, b"k 2\n"),
+    (true, true, OPPOSITE, b"k 3\n"),
+    (false, false, ONLY_A_LOOP, b"k 0\n"),
+    (true, false, ONLY_A_LOOP, b"k 0\n"),
+    (false, true, ONLY_A_LOOP, b"k 0\n"),
+    (true, true, ONLY_A_LOOP, b"k 0\n"),
+    // All that leaves the two sources passes one arc.
+    (false, true, NET_D, b"k 1\n"),
+];
 
-/// What a run left behind.
-#[derive(Drop)]
-struct Ended {
-    out: Held<256>,
-    err: Held<128>,
-    status: u8,
-    solution_pulls: u64,
-}
-
-/// Runs a job over a problem and a solution, into an output that takes so many bytes.
-fn run_over(alloc: Global, job: Job, problem: &[u8], mut solution: Script<'_>, room: usize) -> Ended
-    requires { room ≤ 256 }
-{
-    let mut input = Script::new(problem, 4096, false, 0);
-    let mut out: Held<256> = Held::new(16, room);
-    let mut err: Held<128> = Held::new(16, 128);
-    let status = run(alloc, job, &mut input, &mut solution, &mut out, &mut err);
-    Ended {
-        out,
-        err,
-        status,
-        solution_pulls: solution.pulls,
-    }
+/// Expects an answer to a problem alone, from pieces of 4,096 bytes.
+fn expect(rt: &impl Abort, alloc: Global, job: Job, problem: &[u8], text: &[u8]) {
+    let ended = answer(alloc, job, Script::new(problem, 4096, false, 0));
+    assert_eq!(rt; ended.out.bytes(), text);
+    assert_eq!(rt; ended.err.bytes(), b"".as_slice());
+    assert_eq!(rt; ended.status, 0);
+    assert_eq!(rt; ended.solution_pulls, 0);
 }
 
 #[test]
 fn connectivities(rt: HostRuntime) -> Result<(), Fail> {
-    let ring = b"p max 3 3\nn 1 s\nn 3 t\na 1 2 0\na 2 3 0\na 3 1 0\n".as_slice();
-    let opposite = b"p max 2 3\nn 1 s\nn 2 t\na 1 2 1\na 1 2 1\na 2 1 1\n".as_slice();
-    let only_a_loop = b"p max 2 1\nn 1 s\nn 2 t\na 1 1 5\n".as_slice();
-    // Each problem with its numbers: plain, undirected, with the pair, with both.
-    let rows: [(&[u8], [&[u8]; 4]); 5] = [
-        (NO_ARCS, [b"k 0\n", b"k 0\n", b"k 0\n", b"k 0\n"]),
-        (ring, [b"k 1\n", b"k 2\n", b"k 1\n", b"k 2\n"]),
-        (NET_A, [b"k 0\n", b"k 2\n", b"k 2\n", b"k 2\n"]),
-        (opposite, [b"k 1\n", b"k 3\n", b"k 2\n", b"k 3\n"]),
-        (only_a_loop, [b"k 0\n", b"k 0\n", b"k 0\n", b"k 0\n"]),
-    ];
-    let flags = [(false, false), (true, false), (false, true), (true, true)];
-    for (problem, wanted) in rows {
-        for ((undirected, pair), text) in flags.into_iter().zip(wanted) {
-            let job = Job::Connect { undirected, pair };
-            let ended = run_over(rt.alloc(), job, problem, Script::new(b"", 1, false, 1), 256);
-            assert_eq!(rt; ended.out.bytes(), text);
-            assert_eq!(rt; ended.err.bytes(), b"".as_slice());
-            assert_eq!(rt; ended.status, 0);
-            assert_eq!(rt; ended.solution_pulls, 0);
-        }
+    for (undirected, pair, problem, text) in CONNECTIVITIES {
+        let job = Job::Connect { undirected, pair };
+        expect(&rt, rt.alloc(), job, problem, text);
     }
-    let two_sources = Job::Connect {
-        undirected: false,
-        pair: true,
-    };
-    let ended = run_over(
-        rt.alloc(),
-        two_sources,
-        NET_D,
-        Script::new(b"", 1, false, 1),
-        256,
-    );
-    assert_eq!(rt; ended.out.bytes(), b"k 1\n".as_slice());
     Ok(())
 }
 
-/// Whether only feasibility is asked for, a problem, a solution, and what the run must put and tell, with its status.
-type Row<'a> = (bool, &'a [u8], &'a [u8], &'a [u8], &'a [u8], u8);
+const OPTIMAL_OF_A: &[u8] = b"s 5\nf 3 4 3\nf 2 4 2\nf 2 3 1\nf 1 3 2\nf 1 2 3\n";
+
+const ONE_ARC: &[u8] = b"p max 3 1\nn 1 s\nn 3 t\na 1 2 4\n";
+
+/// An arc of the greatest capacity from the sink to the source.
+const BACK: &[u8] = b"p max 2 1\nn 1 s\nn 2 t\na 2 1 18446744073709551615\n";
+
+/// A problem, a solution, and the verdict on it, with the run's status.
+type Judged = (&'static [u8], &'static [u8], &'static [u8], u8);
+
+const VERDICTS: [Judged; 11] = [
+    (NET_A, OPTIMAL_OF_A, b"optimal 5\n", 0),
+    (NET_A, b"s 0\n", b"not-maximal 0\n", 1),
+    (NET_C, b"s 5\nf 1 2 5\n", b"optimal 5\n", 0),
+    (NET_C, b"s 6\nf 1 2 6\n", b"over 1 2 6 5\n", 1),
+    (NET_B, b"s 1\nf 1 2 1\n", b"unbalanced 2 1 0\n", 1),
+    (NET_B, b"s 1\nf 1 2 2\nf 2 3 2\n", b"value 1 2\n", 1),
+    (NET_C, b"s 0\nf 2 1 3\n", b"value 0 -3\n", 1),
+    (
+        NET_D,
+        b"s 3\nf 1 3 2\nf 2 3 1\nf 3 4 3\n",
+        b"optimal 3\n",
+        0,
+    ),
+    // Both pairs are over, and the least is told.
+    (ONE_ARC, b"s 0\nf 2 3 1\nf 1 3 1\n", b"over 1 3 1 0\n", 1),
+    // A flow line of 0 on a pair without an arc changes nothing.
+    (
+        NET_B,
+        b"s 1\nf 1 2 1\nf 2 3 1\nf 2 2 0\n",
+        b"not-maximal 1\n",
+        1,
+    ),
+    (
+        BACK,
+        b"s 0\nf 2 1 18446744073709551615\n",
+        b"value 0 -18446744073709551615\n",
+        1,
+    ),
+];
+
+/// Checks a solution that comes in pieces of 5 bytes.
+fn expect_check(
+    rt: &impl Abort,
+    alloc: Global,
+    feasible_only: bool,
+    texts: (&[u8], &[u8]),
+    left: (&[u8], &[u8], u8),
+) {
+    let (problem, solution) = texts;
+    let (out, err, status) = left;
+    let ended = answer_both(
+        alloc,
+        Job::Check { feasible_only },
+        Script::new(problem, 4096, false, 0),
+        Script::new(solution, 5, false, 0),
+    );
+    assert_eq!(rt; ended.out.bytes(), out);
+    assert_eq!(rt; ended.err.bytes(), err);
+    assert_eq!(rt; ended.status, status);
+    assert_eq!(rt; ended.solution_pulls > 0, !problem.is_empty());
+}
 
 #[test]
 fn verdicts(rt: HostRuntime) -> Result<(), Fail> {
-    let optimal = b"s 5\nf 3 4 3\nf 2 4 2\nf 2 3 1\nf 1 3 2\nf 1 2 3\n".as_slice();
-    let one_arc = b"p max 3 1\nn 1 s\nn 3 t\na 1 2 4\n".as_slice();
-    let back = b"p max 2 1\nn 1 s\nn 2 t\na 2 1 18446744073709551615\n".as_slice();
-    let rows: [Row<'_>; 15] = [
-        (false, NET_A, optimal, b"optimal 5\n", b"", 0),
-        (false, NET_A, b"s 0\n", b"not-maximal 0\n", b"", 1),
-        (true, NET_A, b"s 0\n", b"feasible 0\n", b"", 0),
-        (false, NET_C, b"s 5\nf 1 2 5\n", b"optimal 5\n", b"", 0),
-        (false, NET_C, b"s 6\nf 1 2 6\n", b"over 1 2 6 5\n", b"", 1),
-        (
-            false,
-            NET_B,
-            b"s 1\nf 1 2 1\n",
-            b"unbalanced 2 1 0\n",
-            b"",
-            1,
-        ),
-        (
-            false,
-            NET_B,
-            b"s 1\nf 1 2 2\nf 2 3 2\n",
-            b"value 1 2\n",
-            b"",
-            1,
-        ),
-        (
-            false,
-            NET_B,
-            b"f 1 2 1\n",
-            b"",
-            b"flow: solution line 1: solution line missing\n",
-            3,
-        ),
-        (false, NET_C, b"s 0\nf 2 1 3\n", b"value 0 -3\n", b"", 1),
-        (
-            false,
-            NET_D,
-            b"s 3\nf 1 3 2\nf 2 3 1\nf 3 4 3\n",
-            b"optimal 3\n",
-            b"",
-            0,
-        ),
-        (
-            false,
-            one_arc,
-            b"s 0\nf 2 3 1\nf 1 3 1\n",
-            b"over 1 3 1 0\n",
-            b"",
-            1,
-        ),
-        (
-            false,
-            NET_B,
-            b"s 1\nf 1 2 1\nf 2 3 1\nf 2 2 0\n",
-            b"not-maximal 1\n",
-            b"",
-            1,
-        ),
-        (
-            false,
-            back,
-            b"s 0\nf 2 1 18446744073709551615\n",
-            b"value 0 -18446744073709551615\n",
-            b"",
-            1,
-        ),
-        (
-            false,
-            NET_A,
-            b"s 5\nx\n",
-            b"",
-            b"flow: solution line 2: unknown line\n",
-            3,
-        ),
-        (
-            false,
-            b"",
-            optimal,
-            b"",
-            b"flow: line 1: problem line missing\n",
-            3,
-        ),
-    ];
-    for (feasible_only, problem, solution, text, message, status) in rows {
-        let job = Job::Check { feasible_only };
-        let ended = run_over(
-            rt.alloc(),
-            job,
-            problem,
-            Script::new(solution, 5, false, 0),
-            256,
-        );
-        assert_eq!(rt; ended.out.bytes(), text);
-        assert_eq!(rt; ended.err.bytes(), message);
-        assert_eq!(rt; ended.status, status);
-        assert_eq!(rt; ended.solution_pulls > 0, !problem.is_empty());
+    for (problem, solution, text, status) in VERDICTS {
+        let left = (text, b"".as_slice(), status);
+        expect_check(&rt, rt.alloc(), false, (problem, solution), left);
     }
+    let feasible = (b"feasible 0\n".as_slice(), b"".as_slice(), 0);
+    expect_check(&rt, rt.alloc(), true, (NET_A, b"s 0\n"), feasible);
     Ok(())
 }
 
+/// A problem, a solution, and the fault that is told. The solution is left alone where the problem is empty.
+const FAULTS: [(&[u8], &[u8], &[u8]); 3] = [
+    (
+        NET_B,
+        b"f 1 2 1\n",
+        b"flow: solution line 1: solution line missing\n",
+    ),
+    (NET_A, b"s 5\nx\n", b"flow: solution line 2: unknown line\n"),
+    (b"", OPTIMAL_OF_A, b"flow: line 1: problem line missing\n"),
+];
+
 #[test]
-fn streams_of_a_check_that_fail(rt: HostRuntime) -> Result<(), Fail> {
-    let job = Job::Check {
-        feasible_only: false,
-    };
-    let first_pull = run_over(
-        rt.alloc(),
-        job,
-        NET_A,
-        Script::new(b"s 0\n", 64, false, 1),
-        256,
-    );
-    assert_eq!(rt; first_pull.out.bytes(), b"".as_slice());
-    assert_eq!(rt; first_pull.err.bytes(), b"flow: read failed\n".as_slice());
-    assert_eq!(rt; first_pull.status, 4);
-    let fault_before = run_over(
-        rt.alloc(),
-        job,
-        NET_A,
-        Script::new(b"s -1\n", 64, false, 2),
-        256,
-    );
-    assert_eq!(rt;
-        fault_before.err.bytes(),
-        b"flow: solution line 1: bad number\n".as_slice()
-    );
-    assert_eq!(rt; fault_before.status, 3);
-    assert_eq!(rt; fault_before.solution_pulls, 1);
-    let first_put = run_over(
-        rt.alloc(),
-        job,
-        NET_A,
-        Script::new(b"s 0\n", 64, false, 0),
-        0,
-    );
-    assert_eq!(rt; first_put.out.bytes(), b"".as_slice());
-    assert_eq!(rt; first_put.err.bytes(), b"flow: write failed\n".as_slice());
-    assert_eq!(rt; first_put.status, 4);
+fn faults_of_solutions(rt: HostRuntime) -> Result<(), Fail> {
+    for (problem, solution, message) in FAULTS {
+        let left = (b"".as_slice(), message, 3);
+        expect_check(&rt, rt.alloc(), false, (problem, solution), left);
+    }
     Ok(())
 }
 
@@ -246,17 +175,15 @@ fn a_ring_of_2000_nodes(rt: HostRuntime) -> Result<(), Fail> {
             undirected,
             pair: false,
         };
-        let ended = run_over(
-            rt.alloc(),
-            job,
-            text.as_slice(),
-            Script::new(b"", 1, false, 1),
-            256,
-        );
-        assert_eq!(rt; ended.out.bytes(), wanted.as_slice());
+        expect(&rt, rt.alloc(), job, text.as_slice(), wanted.as_slice());
     }
     Ok(())
 }
+
+const CUT: Job = Job::Cut {
+    arcs: false,
+    sink: false,
+};
 
 #[test]
 fn a_chain_of_100000_nodes(rt: HostRuntime) -> Result<(), Fail> {
@@ -265,18 +192,14 @@ fn a_chain_of_100000_nodes(rt: HostRuntime) -> Result<(), Fail> {
         let v = 100000 - i;
         add_arc(&mut text, v, v + 1, v as u64)?;
     }
-    let job = Job::Cut {
-        arcs: false,
-        sink: false,
-    };
-    let ended = run_over(
-        rt.alloc(),
-        job,
-        text.as_slice(),
-        Script::new(b"", 1, false, 1),
-        256,
-    );
-    assert_eq!(rt; ended.out.bytes(), b"s 1\nn 1\n".as_slice());
+    expect(&rt, rt.alloc(), CUT, text.as_slice(), b"s 1\nn 1\n");
+    Ok(())
+}
+
+#[test]
+fn a_million_nodes_without_arcs(rt: HostRuntime) -> Result<(), Fail> {
+    let problem = b"p max 1000000 0\nn 1 s\nn 1000000 t\n".as_slice();
+    expect(&rt, rt.alloc(), CUT, problem, b"s 0\nn 1\n");
     Ok(())
 }
 
@@ -288,14 +211,7 @@ fn a_star_of_200002_nodes(rt: HostRuntime) -> Result<(), Fail> {
         add_arc(&mut text, v, 200002, 1)?;
     }
     let job = Job::Solve { value_only: true };
-    let ended = run_over(
-        rt.alloc(),
-        job,
-        text.as_slice(),
-        Script::new(b"", 1, false, 1),
-        256,
-    );
-    assert_eq!(rt; ended.out.bytes(), b"s 200000\n".as_slice());
+    expect(&rt, rt.alloc(), job, text.as_slice(), b"s 200000\n");
     Ok(())
 }
 
@@ -306,11 +222,14 @@ fn a_solution_of_100000_lines_on_one_arc(rt: HostRuntime) -> Result<(), Fail> {
     for _ in 0..100000 {
         text.extend_from_slice(flow_line(1, 2, 1).as_slice())?;
     }
-    let job = Job::Check {
-        feasible_only: false,
-    };
-    let solution = Script::new(text.as_slice(), 4096, false, 0);
-    let ended = run_over(rt.alloc(), job, problem, solution, 256);
+    let ended = answer_both(
+        rt.alloc(),
+        Job::Check {
+            feasible_only: false,
+        },
+        Script::new(problem, 4096, false, 0),
+        Script::new(text.as_slice(), 4096, false, 0),
+    );
     assert_eq!(rt; ended.out.bytes(), b"optimal 100000\n".as_slice());
     assert_eq!(rt; ended.status, 0);
     Ok(())

@@ -43,4 +43,10 @@ mod check_tests;
 #[cfg(test)]
 mod job_tests;
 #[cfg(test)]
+mod nets;
+#[cfg(test)]
+mod runs;
+#[cfg(test)]
+mod stream_tests;
+#[cfg(test)]
 mod tests;

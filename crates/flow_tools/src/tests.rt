@@ -1,8 +1,10 @@
-//! Runs over memory: worked problems with their answers, and streams that fail at each place.
-use super::memory::{Held, Script};
-use super::{Counted, Input, Job, Output, run};
+//! Runs of `solve` and `cut` over memory: worked problems with their answers, and faults.
+use super::Job;
+use super::memory::Script;
+use super::nets::{NET_A, NET_B, NET_C, NET_D, NO_ARCS, SOLVED_A};
+use super::runs::answer;
 use std::alloc::Global;
-use std::io::Write;
+use std::process::Abort;
 use std::test::Fail;
 
 const SOLVE: Job = Job::Solve { value_only: false };
@@ -29,218 +31,247 @@ const CUT_SINK_ARCS: Job = Job::Cut {
     sink: true,
 };
 
-const NET_A: &[u8] = b"p max 4 5\nn 1 s\nn 4 t\na 1 2 3\na 1 3 2\na 2 3 1\na 2 4 2\na 3 4 3\n";
+/// A job, a problem, and what the run must put.
+type Answer = (Job, &'static [u8], &'static [u8]);
 
-const NET_B: &[u8] = b"p max 3 2\nn 1 s\nn 3 t\na 1 2 2\na 2 3 2\n";
+/// A job, a text with a fault, and what the run must tell.
+type Told = (Job, &'static [u8], &'static [u8]);
 
-const NET_D: &[u8] = b"p max 4 3\nn 1 s\nn 2 s\nn 4 t\na 1 3 2\na 2 3 2\na 3 4 3\n";
+const SOLUTIONS: [Answer; 10] = [
+    (SOLVE, NET_A, SOLVED_A),
+    (VALUE, NET_A, b"s 5\n"),
+    (SOLVE, NO_ARCS, b"s 0\n"),
+    (SOLVE, NET_C, b"s 5\nf 1 2 1\nf 1 2 4\nf 2 1 0\n"),
+    (
+        SOLVE,
+        b"p max 2 2\nn 1 s\nn 2 t\na 1 1 9\na 1 2 1000000000000\n",
+        b"s 1000000000000\nf 1 1 0\nf 1 2 1000000000000\n",
+    ),
+    (
+        SOLVE,
+        b"p max 2 2\nn 1 s\nn 2 t\na 1 1 9\na 1 2 1000000000001\n",
+        b"s 1000000000001\nf 1 1 0\nf 1 2 1000000000001\n",
+    ),
+    (
+        SOLVE,
+        b"p max 2 3\nn 2 t\nn 1 s\na 1 2 1000000000000\na 1 2 1000000000000\na 1 2 1000000000000\n",
+        b"s 3000000000000\nf 1 2 1000000000000\nf 1 2 1000000000000\nf 1 2 1000000000000\n",
+    ),
+    (
+        SOLVE,
+        b"p max 4 2\nn 1 s\nn 2 t\nn 3 t\nn 4 s\na 1 2 5\na 4 3 7\n",
+        b"s 12\nf 1 2 5\nf 4 3 7\n",
+    ),
+    (
+        SOLVE,
+        b"p max 2 3\nn 1 s\nn 2 t\na 1 2 18446744073709551615\na 1 2 18446744073709551615\na 1 2 18446744073709551615\n",
+        b"s 55340232221128654845\nf 1 2 18446744073709551615\nf 1 2 18446744073709551615\nf 1 2 18446744073709551615\n",
+    ),
+    (
+        SOLVE,
+        b"p max 4 5\nn 1 s\nn 4 t\na 1 2 1000000000000\na 1 3 1000000000000\na 2 3 1\na 2 4 1000000000000\na 3 4 1000000000000\n",
+        b"s 2000000000000\nf 1 2 1000000000000\nf 1 3 1000000000000\nf 2 3 0\nf 2 4 1000000000000\nf 3 4 1000000000000\n",
+    ),
+];
 
-const SOLVED_A: &[u8] = b"s 5\nf 1 2 3\nf 1 3 2\nf 2 3 1\nf 2 4 2\nf 3 4 3\n";
+const CUTS: [Answer; 15] = [
+    (CUT_ARCS, NET_A, b"s 5\nn 1\na 1 2 3\na 1 3 2\n"),
+    (
+        CUT_SINK_ARCS,
+        NET_A,
+        b"s 5\nn 1\nn 2\nn 3\na 2 4 2\na 3 4 3\n",
+    ),
+    (CUT, NET_B, b"s 2\nn 1\n"),
+    (CUT_SINK, NET_B, b"s 2\nn 1\nn 2\n"),
+    (
+        CUT,
+        b"p max 3 2\nn 1 s\nn 3 t\na 1 2 5\na 2 3 2\n",
+        b"s 2\nn 1\nn 2\n",
+    ),
+    (CUT_ARCS, NET_D, b"s 3\nn 1\nn 2\nn 3\na 3 4 3\n"),
+    (CUT_SINK, NET_D, b"s 3\nn 1\nn 2\nn 3\n"),
+    (CUT, NO_ARCS, b"s 0\nn 1\n"),
+    (CUT, b"p max 3 0\nn 1 s\nn 3 t\n", b"s 0\nn 1\n"),
+    (CUT_SINK, b"p max 3 0\nn 1 s\nn 3 t\n", b"s 0\nn 1\nn 2\n"),
+    (
+        CUT,
+        b"p max 3 2\nn 1 s\nn 2 s\nn 3 t\na 1 2 4\na 2 3 1\n",
+        b"s 1\nn 1\nn 2\n",
+    ),
+    // No flow reaches node 4.
+    (
+        CUT,
+        b"p max 4 3\nn 1 s\nn 3 t\na 1 2 1\na 2 3 1\na 4 3 1\n",
+        b"s 1\nn 1\n",
+    ),
+    (CUT, LINE_OF_200, b"s 0\nn 1\n"),
+    (CUT, ZEROS_BEFORE_2, b"s 0\nn 1\n"),
+    (CUT, b"p max 0002 00\nn 1 s\nn 2 t\n", b"s 0\nn 1\n"),
+];
 
-/// A job, a problem, and what the run must put and tell, with its status.
-type Row<'a> = (Job, &'a [u8], &'a [u8], &'a [u8], u8);
+/// A first line of 200 bytes, the most that one may have: 191 blanks behind 9 bytes.
+const LINE_OF_200: &[u8] =
+    b"p max 2 0                                                                                                                                                                                               \nn 1 s\nn 2 t\n";
 
-/// What a run left behind.
-#[derive(Drop)]
-struct Ended {
-    out: Held<512>,
-    err: Held<128>,
-    status: u8,
-    pulls: u64,
-    read_failed: bool,
-}
+const LINE_OF_201: &[u8] =
+    b"p max 2 0                                                                                                                                                                                                \nn 1 s\nn 2 t\n";
 
-/// Runs a job from a script. The solution is never read: its first pull would fail.
-fn run_from(
-    alloc: Global,
-    job: Job,
-    mut input: Script<'_>,
-    mut out: Held<512>,
-    mut err: Held<128>,
-) -> Ended {
-    let mut unread = Script::new(b"", 1, false, 1);
-    let status = run(alloc, job, &mut input, &mut unread, &mut out, &mut err);
-    Ended {
-        out,
-        err,
-        status,
-        pulls: input.pulls,
-        read_failed: input.failed() || unread.failed(),
+/// 150 zeros before a 2.
+const ZEROS_BEFORE_2: &[u8] =
+    b"p max 0000000000000000000000000000000000000000000000000000000000000000000000000000000000000000000000000000000000000000000000000000000000000000000000000000002 0\nn 1 s\nn 2 t\n";
+
+/// 150 digits 9.
+const NINES: &[u8] =
+    b"p max 999999999999999999999999999999999999999999999999999999999999999999999999999999999999999999999999999999999999999999999999999999999999999999999999999999 0\n";
+
+/// 201 blanks before net A.
+const BLANKS_BEFORE_A: &[u8] =
+    b"                                                                                                                                                                                                         \np max 4 5\nn 1 s\nn 4 t\na 1 2 3\na 1 3 2\na 2 3 1\na 2 4 2\na 3 4 3\n";
+
+const FAULTS: [Told; 14] = [
+    (SOLVE, b"", b"flow: line 1: problem line missing\n"),
+    (
+        SOLVE,
+        b"p max 2 2\nn 1 s\nn 2 t\na 1 1 9\na 1 2 18446744073709551616\n",
+        b"flow: line 5: capacity out of range\n",
+    ),
+    (
+        SOLVE,
+        b"p max 2 2\nn 1 s\nn 2 t\na 1 2 1\n",
+        b"flow: line 5: too few arcs\n",
+    ),
+    (
+        SOLVE,
+        b"p max 2 1\nn 1 s\na 1 2 1\n",
+        b"flow: line 3: terminals missing\n",
+    ),
+    (CUT, LINE_OF_201, b"flow: line 1: line too long\n"),
+    (
+        SOLVE,
+        b" c note\np max 4 5\nn 1 s\nn 4 t\na 1 2 3\na 1 3 2\na 2 3 1\na 2 4 2\na 3 4 3\n",
+        b"flow: line 1: unknown line\n",
+    ),
+    // The declared numbers are the greatest that there are, and take no memory.
+    (
+        SOLVE,
+        b"p max 1000000 4000000\n",
+        b"flow: line 2: terminals missing\n",
+    ),
+    (
+        SOLVE,
+        NINES,
+        b"flow: line 1: number of nodes out of range\n",
+    ),
+    (SOLVE, b"\xFF\n", b"flow: line 1: unknown line\n"),
+    // Byte 11 is no blank.
+    (SOLVE, b"p\x0Bmax 2 0\n", b"flow: line 1: unknown line\n"),
+    // Nor are the two bytes of a blank that doesn't break lines.
+    (
+        SOLVE,
+        b"p max 2\xC2\xA00\n",
+        b"flow: line 1: wrong number of fields\n",
+    ),
+    // A byte order mark belongs to the first field.
+    (
+        SOLVE,
+        b"\xEF\xBB\xBFp max 4 5\nn 1 s\nn 4 t\na 1 2 3\na 1 3 2\na 2 3 1\na 2 4 2\na 3 4 3\n",
+        b"flow: line 1: unknown line\n",
+    ),
+    (SOLVE, BLANKS_BEFORE_A, b"flow: line 1: line too long\n"),
+    (
+        SOLVE,
+        b"p max 1 0\n",
+        b"flow: line 1: number of nodes out of range\n",
+    ),
+];
+
+/// Runs a job on a text that comes in whole pieces, by single bytes, and by lines.
+fn expect(rt: &impl Abort, alloc: Global, job: Job, text: &[u8], out: &[u8], err: &[u8]) {
+    for k in 0..3u8 {
+        let input = match k {
+            0 => Script::new(text, 4096, false, 0),
+            1 => Script::new(text, 1, false, 0),
+            _ => Script::new(text, 4096, true, 0),
+        };
+        let ended = answer(alloc, job, input);
+        assert_eq!(rt; ended.out.bytes(), out);
+        assert_eq!(rt; ended.err.bytes(), err);
+        assert_eq!(rt; ended.status, if err.is_empty() { 0 } else { 3 });
+        assert_eq!(rt; ended.solution_pulls, 0);
     }
 }
 
-/// Runs a job over ample streams that take 7 bytes a put.
-fn answer(alloc: Global, job: Job, input: Script<'_>) -> Ended {
-    run_from(alloc, job, input, Held::new(7, 512), Held::new(7, 128))
+#[test]
+fn problems_are_solved(rt: HostRuntime) -> Result<(), Fail> {
+    for (job, problem, out) in SOLUTIONS {
+        expect(&rt, rt.alloc(), job, problem, out, b"");
+    }
+    Ok(())
 }
 
 #[test]
-fn worked_problems(rt: HostRuntime) -> Result<(), Fail> {
-    let blank_191 =
-        b"p max 2 0                                                                                                                                                                                               \nn 1 s\nn 2 t\n";
-    let blank_192 =
-        b"p max 2 0                                                                                                                                                                                                \nn 1 s\nn 2 t\n";
-    let rows: [Row<'_>; 33] = [
-        (SOLVE, NET_A, SOLVED_A, b"", 0),
-        (VALUE, NET_A, b"s 5\n", b"", 0),
-        (CUT_ARCS, NET_A, b"s 5\nn 1\na 1 2 3\na 1 3 2\n", b"", 0),
-        (CUT, NET_B, b"s 2\nn 1\n", b"", 0),
-        (
-            CUT,
-            b"p max 3 2\nn 1 s\nn 3 t\na 1 2 5\na 2 3 2\n",
-            b"s 2\nn 1\nn 2\n",
-            b"",
-            0,
-        ),
-        (CUT, b"p max 2 0\nn 1 s\nn 2 t\n", b"s 0\nn 1\n", b"", 0),
-        (SOLVE, b"p max 2 0\nn 1 s\nn 2 t\n", b"s 0\n", b"", 0),
-        (
-            SOLVE,
-            b"p max 2 3\nn 1 s\nn 2 t\na 1 2 1\na 1 2 4\na 2 1 7\n",
-            b"s 5\nf 1 2 1\nf 1 2 4\nf 2 1 0\n",
-            b"",
-            0,
-        ),
-        (
-            SOLVE,
-            b"p max 2 2\nn 1 s\nn 2 t\na 1 1 9\na 1 2 1000000000000\n",
-            b"s 1000000000000\nf 1 1 0\nf 1 2 1000000000000\n",
-            b"",
-            0,
-        ),
-        (
-            SOLVE,
-            b"p max 2 2\nn 1 s\nn 2 t\na 1 1 9\na 1 2 18446744073709551616\n",
-            b"",
-            b"flow: line 5: capacity out of range\n",
-            3,
-        ),
-        (
-            SOLVE,
-            b"p max 2 2\nn 1 s\nn 2 t\na 1 1 9\na 1 2 1000000000001\n",
-            b"s 1000000000001\nf 1 1 0\nf 1 2 1000000000001\n",
-            b"",
-            0,
-        ),
-        (SOLVE, b"", b"", b"flow: line 1: problem line missing\n", 3),
-        (
-            SOLVE,
-            b"p max 2 2\nn 1 s\nn 2 t\na 1 2 1\n",
-            b"",
-            b"flow: line 5: too few arcs\n",
-            3,
-        ),
-        (
-            SOLVE,
-            b"p max 2 1\nn 1 s\na 1 2 1\n",
-            b"",
-            b"flow: line 3: terminals missing\n",
-            3,
-        ),
-        (CUT, blank_191, b"s 0\nn 1\n", b"", 0),
-        (CUT, blank_192, b"", b"flow: line 1: line too long\n", 3),
-        (
-            SOLVE,
-            b" c note\np max 4 5\nn 1 s\nn 4 t\na 1 2 3\na 1 3 2\na 2 3 1\na 2 4 2\na 3 4 3\n",
-            b"",
-            b"flow: line 1: unknown line\n",
-            3,
-        ),
-        (
-            SOLVE,
-            b"p max 2 3\nn 2 t\nn 1 s\na 1 2 1000000000000\na 1 2 1000000000000\na 1 2 1000000000000\n",
-            b"s 3000000000000\nf 1 2 1000000000000\nf 1 2 1000000000000\nf 1 2 1000000000000\n",
-            b"",
-            0,
-        ),
-        (CUT_ARCS, NET_D, b"s 3\nn 1\nn 2\nn 3\na 3 4 3\n", b"", 0),
-        (
-            SOLVE,
-            b"p max 4 2\nn 1 s\nn 2 t\nn 3 t\nn 4 s\na 1 2 5\na 4 3 7\n",
-            b"s 12\nf 1 2 5\nf 4 3 7\n",
-            b"",
-            0,
-        ),
-        (
-            CUT,
-            b"p max 3 2\nn 1 s\nn 2 s\nn 3 t\na 1 2 4\na 2 3 1\n",
-            b"s 1\nn 1\nn 2\n",
-            b"",
-            0,
-        ),
-        (
-            CUT_SINK_ARCS,
-            NET_A,
-            b"s 5\nn 1\nn 2\nn 3\na 2 4 2\na 3 4 3\n",
-            b"",
-            0,
-        ),
-        (CUT_SINK, NET_B, b"s 2\nn 1\nn 2\n", b"", 0),
-        (
-            CUT_SINK,
-            b"p max 3 0\nn 1 s\nn 3 t\n",
-            b"s 0\nn 1\nn 2\n",
-            b"",
-            0,
-        ),
-        (CUT, b"p max 3 0\nn 1 s\nn 3 t\n", b"s 0\nn 1\n", b"", 0),
-        (CUT_SINK, NET_D, b"s 3\nn 1\nn 2\nn 3\n", b"", 0),
-        (
-            CUT,
-            b"p max 4 3\nn 1 s\nn 3 t\na 1 2 1\na 2 3 1\na 4 3 1\n",
-            b"s 1\nn 1\n",
-            b"",
-            0,
-        ),
-        (
-            SOLVE,
-            b"p max 2 3\nn 1 s\nn 2 t\na 1 2 18446744073709551615\na 1 2 18446744073709551615\na 1 2 18446744073709551615\n",
-            b"s 55340232221128654845\nf 1 2 18446744073709551615\nf 1 2 18446744073709551615\nf 1 2 18446744073709551615\n",
-            b"",
-            0,
-        ),
-        (
-            SOLVE,
-            b"p max 4 5\nn 1 s\nn 4 t\na 1 2 1000000000000\na 1 3 1000000000000\na 2 3 1\na 2 4 1000000000000\na 3 4 1000000000000\n",
-            b"s 2000000000000\nf 1 2 1000000000000\nf 1 3 1000000000000\nf 2 3 0\nf 2 4 1000000000000\nf 3 4 1000000000000\n",
-            b"",
-            0,
-        ),
-        (
-            SOLVE,
-            b"p max 1000000 4000000\n",
-            b"",
-            b"flow: line 2: terminals missing\n",
-            3,
-        ),
-        (SOLVE, b"\xFF\n", b"", b"flow: line 1: unknown line\n", 3),
-        (
-            SOLVE,
-            b"p max 2\xC2\xA00\n",
-            b"",
-            b"flow: line 1: wrong number of fields\n",
-            3,
-        ),
-        (
-            SOLVE,
-            b"\xEF\xBB\xBFp max 4 5\n",
-            b"",
-            b"flow: line 1: unknown line\n",
-            3,
-        ),
-    ];
-    for (job, problem, out, err, status) in rows {
-        for k in 0..3u8 {
-            let input = match k {
-                0 => Script::new(problem, 4096, false, 0),
-                1 => Script::new(problem, 1, false, 0),
-                _ => Script::new(problem, 4096, true, 0),
-            };
-            let ended = answer(rt.alloc(), job, input);
-            assert_eq!(rt; ended.out.bytes(), out);
-            assert_eq!(rt; ended.err.bytes(), err);
-            assert_eq!(rt; ended.status, status);
+fn problems_are_cut(rt: HostRuntime) -> Result<(), Fail> {
+    for (job, problem, out) in CUTS {
+        expect(&rt, rt.alloc(), job, problem, out, b"");
+    }
+    Ok(())
+}
+
+#[test]
+fn faults_are_told(rt: HostRuntime) -> Result<(), Fail> {
+    for (job, text, message) in FAULTS {
+        expect(&rt, rt.alloc(), job, text, b"", message);
+    }
+    Ok(())
+}
+
+/// What is told of a beginning of net A that has at most so many bytes, and more than the row before. A line that was cut
+/// has too few fields, until its last field has begun. One that is whole counts, with its byte 10 or without, and then the
+/// end comes too early: before a sink, or before the fifth arc.
+const BEGINNINGS_OF_A: [(usize, &[u8]); 16] = [
+    (0, b"flow: line 1: problem line missing\n"),
+    (8, b"flow: line 1: wrong number of fields\n"),
+    (10, b"flow: line 2: terminals missing\n"),
+    (14, b"flow: line 2: wrong number of fields\n"),
+    (16, b"flow: line 3: terminals missing\n"),
+    (20, b"flow: line 3: wrong number of fields\n"),
+    (22, b"flow: line 4: too few arcs\n"),
+    (28, b"flow: line 4: wrong number of fields\n"),
+    (30, b"flow: line 5: too few arcs\n"),
+    (36, b"flow: line 5: wrong number of fields\n"),
+    (38, b"flow: line 6: too few arcs\n"),
+    (44, b"flow: line 6: wrong number of fields\n"),
+    (46, b"flow: line 7: too few arcs\n"),
+    (52, b"flow: line 7: wrong number of fields\n"),
+    (54, b"flow: line 8: too few arcs\n"),
+    (60, b"flow: line 8: wrong number of fields\n"),
+];
+
+/// What is told of the first `len` bytes of net A: nothing where only the last byte 10 is missing, or none.
+fn told_of_beginning(len: usize) -> &'static [u8] {
+    for (most, message) in BEGINNINGS_OF_A {
+        if len <= most {
+            return message;
         }
+    }
+    b""
+}
+
+#[test]
+fn each_beginning_of_a_problem(rt: HostRuntime) -> Result<(), Fail> {
+    assert_eq!(rt; NET_A.len(), 62);
+    for j in 0..61usize {
+        expect(
+            &rt,
+            rt.alloc(),
+            SOLVE,
+            &NET_A[..j],
+            b"",
+            told_of_beginning(j),
+        );
+    }
+    for j in 61..63usize {
+        expect(&rt, rt.alloc(), SOLVE, &NET_A[..j], SOLVED_A, b"");
     }
     Ok(())
 }
@@ -263,126 +294,36 @@ fn carriage_returns_behind_a_long_comment(rt: HostRuntime) -> Result<(), Fail> {
     text.pop();
     let ended = answer(rt.alloc(), SOLVE, Script::new(text.as_slice(), 1, false, 0));
     assert_eq!(rt; ended.out.bytes(), SOLVED_A);
+    assert_eq!(rt; ended.err.bytes(), b"".as_slice());
     assert_eq!(rt; ended.status, 0);
     Ok(())
 }
 
+/// A comment of 1,000,001 bytes, with byte 10 before net A, and without it at the end of the input.
 #[test]
-fn each_pull_fails(rt: HostRuntime) -> Result<(), Fail> {
-    let mut comment = [b'x'; 301];
-    comment[0] = b'c';
-    let late_fault: &[u8] =
-        b"p max 4 5\nn 5 s\nn 4 t\na 1 2 3\na 1 3 2\na 2 3 1\na 2 4 2\na 3 4 3\n";
-    // A text that is delivered line by line, the first and the last pull that fails, and the number of pulls that are
-    // made before a fault is told; 0 where none is.
-    let rows: [(&[u8], u64, u64, u64, &[u8]); 7] = [
-        (NET_A, 1, 9, 0, b"flow: read failed\n"),
-        (late_fault, 1, 2, 0, b"flow: read failed\n"),
-        (late_fault, 3, 9, 2, b"flow: line 2: node out of range\n"),
-        (b"p max 1 0", 2, 2, 0, b"flow: read failed\n"),
-        (
-            b"p max 1 0\n",
-            2,
-            2,
-            1,
-            b"flow: line 1: number of nodes out of range\n",
-        ),
-        (&[b'x'; 201], 2, 2, 1, b"flow: line 1: line too long\n"),
-        (&comment, 2, 2, 0, b"flow: read failed\n"),
-    ];
-    for (text, first, last, pulls, message) in rows {
-        for k in first..last + 1 {
-            let ended = answer(rt.alloc(), SOLVE, Script::new(text, 4096, true, k));
-            assert_eq!(rt; ended.out.bytes(), b"".as_slice());
-            assert_eq!(rt; ended.err.bytes(), message);
-            assert_eq!(rt; ended.status, if pulls == 0 { 4 } else { 3 });
-            assert_eq!(rt; ended.pulls, if pulls == 0 { k } else { pulls });
-            assert_eq!(rt; ended.read_failed, pulls == 0);
-        }
-    }
-    Ok(())
-}
-
-#[test]
-fn nothing_is_pulled_after_the_end(rt: HostRuntime) -> Result<(), Fail> {
-    let ended = answer(rt.alloc(), SOLVE, Script::new(NET_A, 4096, true, 10));
-    assert_eq!(rt; ended.out.bytes(), SOLVED_A);
-    assert_eq!(rt; ended.status, 0);
-    assert_eq!(rt; ended.pulls, 9);
-    Ok(())
-}
-
-#[test]
-fn each_byte_put_fails(rt: HostRuntime) -> Result<(), Fail> {
-    for most in [1usize, 5, 64] {
-        for j in 0..44usize {
-            let input = Script::new(NET_A, 4096, false, 0);
-            let ended = run_from(
-                rt.alloc(),
-                SOLVE,
-                input,
-                Held::new(most, j),
-                Held::new(64, 64),
-            );
-            assert_eq!(rt; ended.out.bytes(), &SOLVED_A[..j]);
-            assert_eq!(rt; ended.err.bytes(), b"flow: write failed\n".as_slice());
-            assert_eq!(rt; ended.status, 4);
-            assert!(rt; ended.out.failed());
-        }
-    }
-    Ok(())
-}
-
-#[test]
-fn a_message_is_cut_short(rt: HostRuntime) -> Result<(), Fail> {
-    let input = Script::new(b"", 1, false, 0);
-    let ended = run_from(rt.alloc(), SOLVE, input, Held::new(1, 64), Held::new(2, 3));
-    assert_eq!(rt; ended.err.bytes(), b"flo".as_slice());
-    assert_eq!(rt; ended.status, 3);
-    Ok(())
-}
-
-/// A writer that takes nothing of anything.
-#[derive(Drop)]
-struct Full;
-
-impl Write for Full {
-    fn write(&mut self, _buf: &[u8]) -> std::io::Result<usize> {
-        Ok(0)
-    }
-
-    fn flush(&mut self) -> std::io::Result<()> {
-        Ok(())
-    }
-}
-
-#[test]
-fn streams_of_std(rt: HostRuntime) -> Result<(), Fail> {
-    let mut input = Counted::new(NET_A);
-    let mut unread = Counted::new(b"".as_slice());
-    let mut out = Counted::new(Vec::<u8>::new(rt.alloc()));
-    let mut err = Counted::new(Vec::<u8>::new(rt.alloc()));
-    let status = run(
+fn a_comment_of_a_million_bytes(rt: HostRuntime) -> Result<(), Fail> {
+    let mut text = b"c".to_vec(rt.alloc())?;
+    let bytes = Vec::from_elem(rt.alloc(), 255u8, 1_000_000)?;
+    text.extend_from_slice(bytes.as_slice())?;
+    let comment = answer(
         rt.alloc(),
         SOLVE,
-        &mut input,
-        &mut unread,
-        &mut out,
-        &mut err,
+        Script::new(text.as_slice(), 4096, false, 0),
     );
-    assert_eq!(rt; status, 0);
-    assert_eq!(rt; out.inner.as_slice(), SOLVED_A);
-    let mut again = Counted::new(NET_A);
-    let mut full = Counted::new(Full);
-    let status = run(
+    assert_eq!(rt; comment.out.bytes(), b"".as_slice());
+    assert_eq!(rt;
+        comment.err.bytes(),
+        b"flow: line 2: problem line missing\n".as_slice()
+    );
+    assert_eq!(rt; comment.status, 3);
+    text.push(b'\n')?;
+    text.extend_from_slice(NET_A)?;
+    let solved = answer(
         rt.alloc(),
         SOLVE,
-        &mut again,
-        &mut unread,
-        &mut full,
-        &mut err,
+        Script::new(text.as_slice(), 4096, false, 0),
     );
-    assert_eq!(rt; status, 4);
-    assert_eq!(rt; err.inner.as_slice(), b"flow: write failed\n".as_slice());
+    assert_eq!(rt; solved.out.bytes(), SOLVED_A);
+    assert_eq!(rt; solved.status, 0);
     Ok(())
 }

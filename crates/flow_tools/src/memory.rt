@@ -1,6 +1,8 @@
 //! Streams over memory that lies ready, for tests: they ask for none, and fail where they are told to.
-ghost use Rattle.std.specs.Prelude.{◌≡◌, ◌≤◌, ◌<◌, ◌+◌, [], Some, length, false};
+ghost use Rattle.std.specs.Prelude.{◌≡◌, ◌≢◌, ◌≤◌, ◌<◌, ◌+◌, ◌-◌, ◌^◌, [], Some, length, false, IfOk, OnOk, OnErr};
+ghost use Rattle.std.specs.Io.KnownBytes.{ReadConsumes, WriteAppends};
 ghost use Rattle.arrayvec.specs.ArrayVec.{array_vec_len};
+ghost use Rattle.flow_tools.specs.Streams.{Flags, Lowers, TakesSome};
 
 use super::streams::{Failed, Input, Output};
 use arrayvec::ArrayVec;
@@ -49,6 +51,7 @@ impl<'a> Script<'a> {
     // How many bytes the next pull delivers.
     fn next_len(&self) -> usize
         ensures fits { result ≤ 4096 }
+        ensures most { result ≤ self.now.most }
         ensures within { result ≤ length self.now.rest.now }
         ensures some { 0 < length self.now.rest.now → 0 < result }
     {
@@ -71,7 +74,19 @@ impl Input for Script<'_> {
 
     ghost bound = { λ s. length s.rest.now };
 
-    fn pull(&mut self, buf: &mut [u8; 4096]) -> Result<usize, Failed> {
+    fn pull(&mut self, buf: &mut [u8; 4096]) -> Result<usize, Failed>
+        ensures fits { IfOk result (λ n. n ≤ 4096) }
+        ensures bytes { ReadConsumes (Some self.old.rest.now) (Some self.new.rest.now) result buf.new }
+        ensures falls { Lowers (length self.old.rest.now) (length self.new.rest.now) result }
+        ensures flag { Flags self.old.failed self.new.failed result }
+        ensures most { IfOk result (λ n. n ≤ self.old.most) }
+        ensures fails_there { OnErr result (self.new.pulls ≡ self.old.fails_at) }
+        ensures fails_only_there { OnOk result (self.new.pulls ≢ self.old.fails_at) }
+        ensures counted { self.old.pulls < 2 ^ 64 - 1 → self.new.pulls ≡ self.old.pulls + 1 }
+        ensures same_most { self.new.most ≡ self.old.most }
+        ensures same_lines { self.new.lines ≡ self.old.lines }
+        ensures same_fails_at { self.new.fails_at ≡ self.old.fails_at }
+    {
         self.pulls = self.pulls.saturating_add(1);
         if self.pulls == self.fails_at {
             self.failed = true;
@@ -135,7 +150,16 @@ impl<const N: usize> Output for Held<N> {
 
     ghost has_failed = { λ s. s.failed };
 
-    fn put(&mut self, bytes: &[u8]) -> Result<usize, Failed> {
+    fn put(&mut self, bytes: &[u8]) -> Result<usize, Failed>
+        ensures fits { IfOk result (λ n. n ≤ length bytes.now) }
+        ensures some { TakesSome bytes.now result }
+        ensures bytes { WriteAppends (Some self.old.bytes.items) (Some self.new.bytes.items) result bytes.now }
+        ensures flag { Flags self.old.failed self.new.failed result }
+        ensures most { IfOk result (λ n. n ≤ self.old.most) }
+        ensures room { IfOk result (λ n. self.new.room + n ≡ self.old.room) }
+        ensures full { OnErr result (self.old.room ≡ 0) }
+        ensures same_most { self.new.most ≡ self.old.most }
+    {
         if bytes.is_empty() {
             return Ok(0);
         }

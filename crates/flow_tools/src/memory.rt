@@ -1,5 +1,5 @@
 //! Streams over memory that lies ready, for tests: they ask for none, and fail where they are told to.
-ghost use Rattle.std.specs.Prelude.{◌≡◌, ◌≢◌, ◌≤◌, ◌<◌, ◌+◌, ◌-◌, ◌^◌, [], Some, length, false, IfOk, OnOk, OnErr};
+ghost use Rattle.std.specs.Prelude.{◌≡◌, ◌≢◌, ◌≤◌, ◌<◌, ◌+◌, ◌-◌, ◌^◌, ℕ, [], Some, length, slice_index, true, false, IfOk, OnOk, OnErr};
 ghost use Rattle.std.specs.Io.KnownBytes.{ReadConsumes, WriteAppends};
 ghost use Rattle.arrayvec.specs.ArrayVec.{array_vec_len};
 ghost use Rattle.flow_tools.specs.Streams.{Flags, Lowers, TakesSome};
@@ -54,6 +54,7 @@ impl<'a> Script<'a> {
         ensures most { result ≤ self.now.most }
         ensures within { result ≤ length self.now.rest.now }
         ensures some { 0 < length self.now.rest.now → 0 < result }
+        ensures lines { self.now.lines ≡ true → (k : ℕ) → k + 1 < result → slice_index self.now.rest.now k ≢ 10 }
     {
         let most = self.most.min(self.rest.len());
         if self.lines {
@@ -80,6 +81,7 @@ impl Input for Script<'_> {
         ensures falls { Lowers (length self.old.rest.now) (length self.new.rest.now) result }
         ensures flag { Flags self.old.failed self.new.failed result }
         ensures most { IfOk result (λ n. n ≤ self.old.most) }
+        ensures lines { IfOk result (λ n. self.old.lines ≡ true → (k : ℕ) → k + 1 < n → slice_index self.old.rest.now k ≢ 10) }
         ensures fails_there { OnErr result (self.new.pulls ≡ self.old.fails_at) }
         ensures fails_only_there { OnOk result (self.new.pulls ≢ self.old.fails_at) }
         ensures counted { self.old.pulls < 2 ^ 64 - 1 → self.new.pulls ≡ self.old.pulls + 1 }

@@ -28,8 +28,8 @@ use std::alloc::Global;
 /// | 4 | memory was refused | `flow: out of memory` |
 ///
 /// Each piece of an input is read before the next is pulled, and nothing is pulled after a fault or the end. `solution` is
-/// read by `Job::Check` alone, once the problem is accepted. All memory is asked for before the first byte is put. A failure of `err` cuts its line short and
-/// changes nothing else.
+/// read by `Job::Check` alone, once the problem is accepted. All memory is asked for before the first byte is put. A failure
+/// of `err` cuts its line short and changes nothing else.
 pub fn run<I: Input, J: Input, O: Output, E: Output>(
     alloc: Global,
     job: Job,

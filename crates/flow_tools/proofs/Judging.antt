@@ -1,11 +1,11 @@
 -- What a flow that carries the lines of a solution says of them.
-use Rattle.std.proofs.Common.{◌≡◌, ◌≢◌, ℕ, zero, suc, ◌+◌, ◌-◌, ◌≤◌, ◌<◌, ◌⊎◌, ◌↔◌, Bool, true, false, cond, eqb, ◌||◌, List, [], ◌∷◌, ◌++◌, length, get_or, refl, ◌∙◌, sym, ap, subst, inl, inr, pos, ◌-ℤ◌, eq-eqb, length-append, arith}
-use Rattle.std.proofs.lemmas.Bool.{cases_eq, cases_Bool, ne_eqb, eqb-true, or_cases}
+use Rattle.std.proofs.Common.{◌≡◌, ℕ, suc, ◌+◌, ◌<◌, Bool, true, eqb, List, [], ◌∷◌, length, get_or, ◌∙◌, sym, ap, subst, inl, inr, pos, ◌-ℤ◌, length-append, arith}
+use Rattle.std.proofs.lemmas.Bool.{cases_eq, eqb-true, or_cases}
 use Rattle.std.proofs.lemmas.Int.{ints}
 use Rattle.std.proofs.lemmas.List.{get_or_append_left, get_or-append-add}
 use Rattle.flow_net.specs.Nets.{Net, Instance, IsNet, IsProblem, AreTerminals}
 use Rattle.flow_net.specs.NodeSets.{one_of, just}
-use Rattle.flow_net.specs.Flows.{flow_over, out_of, into, Fits, IsFeasible, HasValue, IsGreatest, HasGreatestValue}
+use Rattle.flow_net.specs.Flows.{Fits, IsFeasible, HasValue, IsGreatest, HasGreatestValue}
 use Rattle.flow_net.specs.Laws.{AreApart}
 use Rattle.flow_net.proofs.Zips.{zip_from_fits}
 use Rattle.flow_net.proofs.Cuts.{flow_over-le-cap_over}

@@ -1,17 +1,17 @@
 -- What the flow lines add up to at each node, and at the sources.
-use Rattle.std.proofs.Common.{◌≡◌, ◌≢◌, ℕ, zero, suc, ◌+◌, ◌-◌, ◌*◌, ◌^◌, ◌≤◌, ◌<◌, ◌⊎◌, Bool, true, false, cond, eqb, ◌||◌, List, [], ◌∷◌, ◌++◌, length, get_or, set, take, drop, refl, ◌∙◌, sym, ap, subst, inl, inr, add-one, eq-eqb, sum_by, get_or-set_same, get_or-set_other, length-take, length-append, Option, Some, None, MatchOption, arith}
+use Rattle.std.proofs.Common.{◌≡◌, ◌≢◌, ℕ, zero, suc, ◌+◌, ◌-◌, ◌≤◌, ◌<◌, Bool, true, false, cond, eqb, ◌||◌, List, [], ◌∷◌, ◌++◌, length, get_or, set, take, refl, ◌∙◌, sym, ap, subst, inl, inr, add-one, eq-eqb, sum_by, get_or-set_same, get_or-set_other, length-take, length-append, Option, Some, None, MatchOption, arith}
 use Rattle.std.specs.List.{All}
 use Rattle.std.proofs.lemmas.Bool.{cases_eq, ne_eqb, eqb-true, or_left, or_right, or_cases}
 use Rattle.std.proofs.lemmas.List.{get_or_default, get_or_append_left}
-use Rattle.std.proofs.lemmas.List.Elements.{All-get_or, All-take, All-tail, All-head}
+use Rattle.std.proofs.lemmas.List.Elements.{All-take, All-tail, All-head}
 use Rattle.std.proofs.lemmas.List.Sums.{sum_by-cons}
-use Rattle.flow_net.specs.Nets.{Net, Instance, IsNode, IsProblem, AreDistinct, AreTerminals}
+use Rattle.flow_net.specs.Nets.{Instance, IsNode, IsProblem, AreDistinct}
 use Rattle.flow_net.specs.NodeSets.{one_of, just, marked}
 use Rattle.flow_text.specs.SolutionReading.{IsLineWithin}
 use Rattle.flow_text.specs.declared.solutions.FlowLine.{FlowLine}
 use Rattle.flow_tools.specs.SolutionFlows.{line_flow, lines_into, lines_out_of}
 use Rattle.flow_tools.specs.Verdicts.{IsInner, IsBalancedAt, IsBalanced, IsFirstUnbalanced}
-use Rattle.flow_tools.specs.NodeSums.{IsCellOf, at_node, HaveTallied, AreNodeFlows, AreEqualUnless, IsFirstUnequal}
+use Rattle.flow_tools.specs.NodeSums.{IsCellOf, at_node, AreNodeFlows, AreEqualUnless, IsFirstUnequal}
 use Rattle.flow_tools.proofs.LineSums.{line_flow-most, line_flow-cons, line_flow_agree}
 
 -- ---- marks

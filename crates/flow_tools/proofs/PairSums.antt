@@ -1,13 +1,13 @@
 -- What enters and what leaves a node, as sums of what the pairs of nodes carry.
-use Rattle.std.proofs.Common.{◌≡◌, ◌≢◌, ℕ, zero, suc, ◌+◌, ◌≤◌, ◌<◌, ◌⊎◌, ◌↔◌, Bool, true, false, cond, eqb, ◌&&◌, List, [], ◌∷◌, refl, ◌∙◌, sym, ap, inl, inr, eq-eqb, Result, Ok, Err, IfOk, arith}
+use Rattle.std.proofs.Common.{◌≡◌, ℕ, zero, suc, ◌+◌, ◌≤◌, ◌<◌, ◌↔◌, Bool, true, false, cond, eqb, ◌&&◌, List, [], ◌∷◌, refl, ◌∙◌, sym, inl, inr, eq-eqb, Result, Ok, Err, IfOk, arith}
 use Rattle.std.specs.List.{AllByRecursion}
-use Rattle.std.proofs.lemmas.Bool.{cases_eq, cases_Bool, ne_eqb}
+use Rattle.std.proofs.lemmas.Bool.{cases_eq, ne_eqb}
 use Rattle.std.proofs.lemmas.List.Elements.{recursion_from_All}
 use Rattle.flow_net.specs.declared.networks.Arc.{Arc}
 use Rattle.flow_net.specs.declared.networks.OutOfMemory.{OutOfMemory}
-use Rattle.flow_net.specs.Nets.{Net, Instance, IsNet, IsArcWithin}
-use Rattle.flow_net.specs.NodeSets.{one_of, just}
-use Rattle.flow_net.specs.Flows.{flow_over, out_of, into, Fits, IsFeasible}
+use Rattle.flow_net.specs.Nets.{Instance, IsNet, IsArcWithin}
+use Rattle.flow_net.specs.NodeSets.{just}
+use Rattle.flow_net.specs.Flows.{flow_over, out_of, into, Fits}
 use Rattle.flow_net.proofs.Zips.{zip_from_fits}
 use Rattle.flow_net.proofs.Cuts.{flow_over-le-cap_over}
 use Rattle.flow_text.specs.Solution.{Written}
@@ -15,7 +15,7 @@ use Rattle.flow_text.specs.SolutionReading.{IsLineWithin, IsWithinLimits}
 use Rattle.flow_text.specs.declared.solutions.FlowLine.{FlowLine}
 use Rattle.flow_text.specs.declared.verdicts.Verdict.{Verdict}
 use Rattle.flow_text.specs.declared.verdicts.Verdict.TheVariants.{Over, Unbalanced, Value, Feasible, NotMaximal, Optimal}
-use Rattle.flow_tools.specs.SolutionFlows.{line_flow, is_pair, pair_flow, lines_into, lines_out_of, IsFeasibleSolution}
+use Rattle.flow_tools.specs.SolutionFlows.{is_pair, pair_flow, lines_into, lines_out_of, IsFeasibleSolution}
 use Rattle.flow_tools.specs.Verdicts.{IsWithinCapacities, IsBalanced, IsFirstOver, IsVerdict, is_of_feasible}
 use Rattle.flow_tools.specs.ArcShares.{Carries}
 use Rattle.flow_tools.proofs.LineSums.{line_flow-cons}

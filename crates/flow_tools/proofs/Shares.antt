@@ -1,12 +1,12 @@
 -- Sharing the flow lines out over the arcs.
-use Rattle.std.proofs.Common.{◌≡◌, ℕ, zero, suc, ◌+◌, ◌-◌, ◌*◌, ◌≤◌, ◌<◌, ◌⊎◌, Bool, true, false, cond, eqb, ◌&&◌, List, [], ◌∷◌, length, get_or, set, take, drop, replicate, refl, length-drop, eq-eqb, ◌∙◌, sym, ap, subst, inl, inr, add-one, get_or-set_same, get_or-set_other, arith}
-use Rattle.std.specs.List.{All, Contains}
+use Rattle.std.proofs.Common.{◌≡◌, ℕ, ◌+◌, ◌-◌, ◌≤◌, ◌<◌, ◌⊎◌, Bool, true, false, cond, eqb, List, [], ◌∷◌, length, get_or, set, take, drop, replicate, refl, length-drop, eq-eqb, ◌∙◌, sym, ap, subst, inl, inr, get_or-set_same, get_or-set_other, arith}
+use Rattle.std.specs.List.{All}
 use Rattle.std.specs.List.Sorted.{IsNonDecreasingBy, IsPermutation}
 use Rattle.std.proofs.lemmas.Bool.{cases_eq, cases_lt, eqb-true, ne_eqb, and_parts, and_left, and_right, and_from}
 use Rattle.std.proofs.lemmas.List.{get_or_default, get_or-drop}
 use Rattle.std.proofs.lemmas.List.Elements.{All-get_or}
 use Rattle.std.proofs.lemmas.List.Sorted.{All-permutation, Contains-permutation}
-use Rattle.flow_net.specs.Nets.{Net, IsNet, no_arc, arc_at}
+use Rattle.flow_net.specs.Nets.{Net, IsNet, arc_at}
 use Rattle.flow_net.specs.declared.networks.Arc.{Arc}
 use Rattle.flow_net.specs.Flows.{flow_over, Fits}
 use Rattle.flow_net.proofs.Zips.{AllZip-from, zip_from_fits}

@@ -1,6 +1,5 @@
 -- What the flow lines of a solution add up to (solution files of the DIMACS format, 1990).
-use Rattle.std.specs.Prelude.{◌≡◌, ℕ, ◌+◌, ◌<◌, ◌≤◌, ◌⊎◌, ◌==◌, ◌&&◌, Bool, List, sum_by, pos, ◌-ℤ◌, ℤ, if◌then◌else◌}
-use Rattle.flow_net.specs.declared.networks.Arc.{Arc}
+use Rattle.std.specs.Prelude.{◌≡◌, ℕ, ◌==◌, ◌&&◌, Bool, List, sum_by, pos, ◌-ℤ◌, ℤ, if◌then◌else◌}
 use Rattle.flow_net.specs.Nets.{Net, Instance}
 use Rattle.flow_net.specs.NodeSets.{one_of}
 use Rattle.flow_net.specs.Flows.{flow_over, IsFeasible}

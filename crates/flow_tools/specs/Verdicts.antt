@@ -1,5 +1,5 @@
 -- The verdict on a solution of a maximum flow problem.
-use Rattle.std.specs.Prelude.{◌≡◌, ◌≢◌, ℕ, ◌<◌, ◌≤◌, ◌⊎◌, Bool, true, false, List, IsFalse, pos, ℤ}
+use Rattle.std.specs.Prelude.{◌≡◌, ◌≢◌, ℕ, ◌<◌, ◌≤◌, ◌⊎◌, Bool, true, false, List, IsFalse, pos}
 use Rattle.flow_net.specs.Nets.{Net, Instance, IsNode}
 use Rattle.flow_net.specs.NodeSets.{one_of, just}
 use Rattle.flow_net.specs.Flows.{IsGreatest}

@@ -1,9 +1,8 @@
-use Rattle.std.proofs.Common.{List, ℕ, ◌<◌, ◌^◌, subst, sym, arith}
-use Rattle.flow_net.specs.Nets.{Net, IsNet}
+use Rattle.std.proofs.Common.{List, ◌<◌, ◌^◌, subst, sym, arith}
+use Rattle.flow_net.specs.Nets.{IsNet}
 use Rattle.flow_text.specs.SolutionReading.{written_in}
 use Rattle.flow_text.specs.declared.solutions.FlowLine.{FlowLine}
 use Rattle.flow_tools.specs.SolutionFlows.{is_pair, pair_flow}
-use Rattle.flow_tools.specs.Verdicts.{IsFirstOver}
 use Rattle.flow_tools.specs.ArcShares.{IsSharedOut}
 use Rattle.flow_tools.proofs.LineSums.{line_flow-most}
 use Rattle.flow_tools.proofs.PairSums.{over_told, result_told}

@@ -1,6 +1,5 @@
 use Rattle.flow_tools.proofs.NodeSumLemmas.{mark_more}
-use Rattle.std.proofs.Common.{arith, length, subst}
-use Rattle.flow_tools.specs.NodeSums.{IsCellOf}
+use Rattle.std.proofs.Common.{arith}
 use Rattle.flow_tools.proofs.node_flows.mark.Goals as goal
 
 pub loop-node-preserved : goal.loop-node-preserved

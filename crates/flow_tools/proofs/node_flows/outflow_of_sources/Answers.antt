@@ -1,7 +1,5 @@
 use Rattle.std.proofs.Common.{◌≡◌, ◌∙◌, ap, List, ℕ, sum_by, arith}
 use Rattle.std.proofs.lemmas.Int.{ints}
-use Rattle.flow_net.specs.NodeSets.{one_of}
-use Rattle.flow_tools.specs.SolutionFlows.{lines_out_of, lines_into}
 use Rattle.flow_tools.specs.NodeSums.{at_node}
 use Rattle.flow_tools.proofs.NodeSumLemmas.{sources_out, sources_into}
 use Rattle.flow_tools.proofs.node_flows.outflow_of_sources.Goals as goal

@@ -1,6 +1,6 @@
-use Rattle.std.proofs.Common.{◌-◌, ◌+◌, ◌≡◌, List, ℕ, sym, subst, arith}
-use Rattle.flow_tools.specs.ArcShares.{HasMore, line_rank}
-use Rattle.flow_tools.proofs.Shares.{IsPouring, no_place, pair_full, poured_past, poured_here, poured_full}
+use Rattle.std.proofs.Common.{◌-◌, ◌+◌, ℕ, sym, subst, arith}
+use Rattle.flow_tools.specs.ArcShares.{HasMore}
+use Rattle.flow_tools.proofs.Shares.{IsPouring, pair_full, poured_past, poured_here, poured_full}
 use Rattle.flow_net.specs.Residual.{Table}
 use Rattle.flow_tools.proofs.sharing.pour.Goals as goal
 use Rattle.flow_tools.proofs.sharing.pour.Goals.{then-rank_of_place-rank_of_line-2+else-left-eq0, else-rank_of_place-rank_of_line-2}

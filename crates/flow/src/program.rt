@@ -1,12 +1,16 @@
 //! The program over any files and streams.
 
-ghost use Rattle.std.specs.Prelude.{◌≡◌};
+ghost use Rattle.std.specs.Prelude.{◌≡◌, OnOk, OnErr};
+ghost use Rattle.std.specs.Io.KnownBytes.{Appends};
+ghost use Rattle.flow_tools.specs.Streams.{Flags, Stops, over};
+ghost use Rattle.flow_tools.specs.Exits.{IsTold};
+ghost use Rattle.flow.specs.Messages.{cannot_open, given_name};
 
 use crate::commands::commands;
 use crate::requests::{Files, job_of};
 use clap::error::ErrorKind;
 use flow_tools::memory::Script;
-use flow_tools::{Input, Job, Output, put_all, run};
+use flow_tools::{Failed, Input, Job, Output, put_all, run};
 use std::alloc::Global;
 
 /// Where the inputs that a command line names are opened.
@@ -30,7 +34,7 @@ pub fn program<S: Source, O: Output, E: Output>(
 ) -> u8 {
     let command = match commands(alloc) {
         Ok(command) => command,
-        Err(_) => return tell(err, &[b"flow: out of memory\n"]),
+        Err(_) => return tell(err, b"flow: out of memory\n"),
     };
     match command.try_get_matches_from(words) {
         Ok(matches) => match job_of(&matches) {
@@ -67,36 +71,48 @@ fn run_files<S: Source, O: Output, E: Output>(
 }
 
 // Tells that a file can't be opened, its name as it was given.
-fn refuse_file<E: Output>(name: Option<&str>, err: &mut E) -> u8 {
+fn refuse_file<E: Output>(name: Option<&str>, err: &mut E) -> u8
+    ensures status { result ≡ 4 }
+    ensures told { IsTold (over (E.taken err.old) (E.taken err.new) (E.has_failed err.old) (E.has_failed err.new)) (cannot_open (given_name name.entry)) }
+{
     let name = name.unwrap_or("").as_bytes();
-    tell(err, &[b"flow: cannot open ", name, b"\n"])
+    let _ = put_cannot_open(err, name);
+    4
+}
+
+// Puts the line of a file that can't be opened, or a beginning of it.
+fn put_cannot_open<E: Output>(err: &mut E, name: &[u8]) -> Result<(), Failed>
+    ensures ok { OnOk result (Appends (E.taken err.old) (E.taken err.new) (cannot_open name.now)) }
+    ensures err { OnErr result (Stops (E.taken err.old) (E.taken err.new) (cannot_open name.now)) }
+    ensures flag { Flags (E.has_failed err.old) (E.has_failed err.new) result }
+{
+    put_all(err, b"flow: cannot open ")?;
+    put_all(err, name)?;
+    put_all(err, b"\n")
 }
 
 // Prints what the parse of the words ended with in place of a job: help, or why they are refused.
 fn refuse<O: Output, E: Output>(alloc: Global, error: clap::Error, out: &mut O, err: &mut E) -> u8 {
     let text = match error.to_string(alloc) {
         Ok(text) if error.kind() != ErrorKind::OutOfMemory => text,
-        _ => return tell(err, &[b"flow: out of memory\n"]),
+        _ => return tell(err, b"flow: out of memory\n"),
     };
     let bytes = text.as_str().as_bytes();
     if error.use_stderr() {
-        tell(err, &[bytes]);
+        tell(err, bytes);
         return 2;
     }
     match put_all(out, bytes) {
         Ok(()) => 0,
-        Err(_) => tell(err, &[b"flow: write failed\n"]),
+        Err(_) => tell(err, b"flow: write failed\n"),
     }
 }
 
-// Puts a message in parts, as far as they are taken, and answers the status of a device or memory that failed.
-fn tell<E: Output>(err: &mut E, parts: &[&[u8]]) -> u8
-    ensures { result ≡ 4 }
+// Puts a message, as far as it is taken, and answers the status of a device or memory that failed.
+fn tell<E: Output>(err: &mut E, message: &[u8]) -> u8
+    ensures status { result ≡ 4 }
+    ensures told { IsTold (over (E.taken err.old) (E.taken err.new) (E.has_failed err.old) (E.has_failed err.new)) message.now }
 {
-    for part in parts {
-        if put_all(err, part).is_err() {
-            return 4;
-        }
-    }
+    let _ = put_all(err, message);
     4
 }

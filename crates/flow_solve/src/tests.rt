@@ -395,6 +395,91 @@ const KNOWN: &[Known] = &[
         side: &[1, 0, 0, 0],
         back: &[0, 0, 0, 1],
     },
+    Known {
+        name: "two nodes without an arc",
+        arcs: &[],
+        terminals: &[1, 2],
+        k: 1,
+        value: 0,
+        side: &[1, 0],
+        back: &[0, 1],
+    },
+    Known {
+        name: "a self-loop and a capacity above a million millions",
+        arcs: &[(1, 1, 9), (1, 2, 1_000_000_000_001)],
+        terminals: &[1, 2],
+        k: 1,
+        value: 1_000_000_000_001,
+        side: &[1, 0],
+        back: &[0, 1],
+    },
+    Known {
+        name: "a ring of capacities of 0",
+        arcs: &[(1, 2, 0), (2, 3, 0), (3, 1, 0)],
+        terminals: &[1, 3],
+        k: 1,
+        value: 0,
+        side: &[1, 0, 0],
+        back: &[0, 0, 1],
+    },
+    Known {
+        name: "three parallel arcs",
+        arcs: &[
+            (1, 2, 1_000_000_000_000),
+            (1, 2, 1_000_000_000_000),
+            (1, 2, 1_000_000_000_000),
+        ],
+        terminals: &[1, 2],
+        k: 1,
+        value: 3_000_000_000_000,
+        side: &[1, 0],
+        back: &[0, 1],
+    },
+    Known {
+        name: "two arcs and one back",
+        arcs: &[(1, 2, 1), (1, 2, 1), (2, 1, 1)],
+        terminals: &[1, 2],
+        k: 1,
+        value: 2,
+        side: &[1, 0],
+        back: &[0, 1],
+    },
+    Known {
+        name: "a self-loop alone",
+        arcs: &[(1, 1, 5)],
+        terminals: &[1, 2],
+        k: 1,
+        value: 0,
+        side: &[1, 0],
+        back: &[0, 1],
+    },
+    Known {
+        name: "an arc that ends before the sink",
+        arcs: &[(1, 2, 4)],
+        terminals: &[1, 3],
+        k: 1,
+        value: 0,
+        side: &[1, 1, 0],
+        back: &[0, 0, 1],
+    },
+    Known {
+        name: "an arc from the sink alone",
+        arcs: &[(2, 1, u64::MAX)],
+        terminals: &[1, 2],
+        k: 1,
+        value: 0,
+        side: &[1, 0],
+        back: &[0, 1],
+    },
+    Known {
+        name: "one arc",
+        arcs: &[(1, 2, 100_000)],
+        terminals: &[1, 2],
+        k: 1,
+        value: 100_000,
+        side: &[1, 0],
+        back: &[0, 1],
+    },
 ];
 
 /// Whether the solvers answer as told.
@@ -445,6 +530,8 @@ fn a_long_chain(rt: HostRuntime) {
         assert!(&rt; !reach(&net, &s, &t, &mut flow, &mut work, &mut side));
         assert!(&rt; side[0]);
         assert!(&rt; !side[1..].contains(&true));
+        flow.clear();
+        assert_eq!(&rt; Levels::greatest(&net, &s, &t, &mut flow, &mut work), 1);
     }
 }
 

@@ -11,6 +11,13 @@ const STATUSES: &str = "Exit status:
   3  the problem has a fault; standard error tells its line and what is wrong
   4  a file, a stream or memory failed; standard error tells which";
 
+const ALL_STATUSES: &str = "Exit status:
+  0  done
+  1  check says no: standard output tells why
+  2  the command line is refused
+  3  an input has a fault; standard error tells its line and what is wrong
+  4  a file, a stream or memory failed; standard error tells which";
+
 const SOLVE: &str = "Reads a maximum flow problem in the DIMACS format and prints
   s VALUE          the greatest value that a flow has
   f SRC DST FLOW   a flow of that value: a line for each arc, in their order";
@@ -47,7 +54,7 @@ pub fn commands<'a>(alloc: Global) -> Result<Command<'a>, Error> {
     let flow = Command::new(alloc, "flow")
         .version("0.1.0")
         .about("Maximum flows, minimum cuts and edge connectivity of networks in the DIMACS format")
-        .after_help(STATUSES);
+        .after_help(ALL_STATUSES);
     Ok(
         flow.subcommand(solve(alloc)?)?
             .subcommand(cut(alloc)?)?

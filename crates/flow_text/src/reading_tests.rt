@@ -11,7 +11,7 @@ const PROBLEMS: [&str; 4] = [
     "p max 2 0\nn 1 s\nn 2 t\n",
     "p max 0002 00\nn 1 s\nn 2 t\n",
     "p max 2 0\ncat\n\n   \nn 1 s\ncat\n\n   \nn 2 t\n",
-    "p\tmax\t2\t0\nn\t1\ts\nn\t2\tt\n",
+    "p\u{9}max\u{9}2\u{9}0\nn\u{9}1\u{9}s\nn\u{9}2\u{9}t\n",
 ];
 
 // Solutions to a problem of two nodes, with their values, and the flow of their flow line from node 1 to node 2 if they have one.

@@ -1,5 +1,6 @@
 //! The calls below a run: growths of a network, the two readers, and the checker.
-ghost use Rattle.std.specs.Prelude.{IfOk};
+ghost use Rattle.std.specs.Prelude.{◌≡◌, ◌↔◌, IsTrue, IfOk, Some, Err};
+ghost use Rattle.flow_text.specs.declared.faults.ReadFault.TheVariants.{OutOfMemory};
 ghost use Rattle.flow_text.specs.SolutionReading.{IsWithinLimits, written_in};
 
 use crate::nets::{FOUR_NODES, GREATEST_NUMBERS, OPTIMAL};
@@ -90,14 +91,21 @@ pub fn both_ways(alloc: Global) -> &'static [u8] {
     }
 }
 
-/// What a reader's refusal is worth: it must be want of memory, and be told again by a feed of nothing and at the end.
+/// Whether a reader's refusal is what it promises: want of memory, told again by a feed of nothing and at the end.
+fn is_final(first: ReadFault, again: Result<(), ReadFault>, last: Option<ReadFault>) -> bool
+    ensures { IsTrue result ↔ ((first ≡ OutOfMemory) × (again ≡ Err OutOfMemory) × (last ≡ Some OutOfMemory)) }
+{
+    let wanted = ReadFault::OutOfMemory;
+    first == wanted && again == Err(wanted) && last == Some(wanted)
+}
+
+/// What is told of a reader that refused a piece.
 fn refusal(
     first: ReadFault,
     again: Result<(), ReadFault>,
     last: Option<ReadFault>,
 ) -> &'static [u8] {
-    let stays = again == Err(first) && last == Some(first);
-    if stays && first == ReadFault::OutOfMemory {
+    if is_final(first, again, last) {
         REFUSED
     } else {
         BROKEN

@@ -11,7 +11,7 @@ use Rattle.flow_net.specs.Flows.{IsGreatest}
 use Rattle.flow_net.specs.Cuts.{cap_over, leaves, enters, IsCut, capacity, IsMinimumCut, IsLeastCapacity}
 use Rattle.flow_net.specs.Connectivity.{leaving, crossing, IsProper, IsConnectivity, IsUndirectedConnectivity, IsPairConnectivity, IsUndirectedPairConnectivity}
 use Rattle.flow_net.specs.Laws.{AreApart, IsLeastOfPairs}
-use Rattle.flow_net.proofs.Limits.{IsNet-unit}
+use Rattle.flow_net.proofs.KeptLimits.{IsNet-unit}
 use Rattle.flow_net.proofs.MaxFlows.{max_flow_min_cut, greatest_is_least, least_is_greatest}
 
 -- with unit capacities the capacity of a cut is the number of arcs that leave it

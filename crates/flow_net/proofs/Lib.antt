@@ -1,4 +1,4 @@
-pub mod Limits
+pub mod KeptLimits
 pub mod Sums
 pub mod Zips
 pub mod Cuts

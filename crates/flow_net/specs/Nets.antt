@@ -1,7 +1,8 @@
 -- Networks and problems, as contracts see them.
-use Rattle.std.specs.Prelude.{◌≢◌, ℕ, ◌<◌, ◌≤◌, ◌^◌, List, ◌++◌, length, map, slice_index, slice_index_or}
+use Rattle.std.specs.Prelude.{◌≢◌, ℕ, ◌<◌, ◌≤◌, List, ◌++◌, length, map, slice_index, slice_index_or}
 use Rattle.std.specs.List.{All}
 use Rattle.flow_net.specs.declared.networks.Arc.{Arc}
+use Rattle.flow_net.specs.declared.limits.TheConstants.{FEWEST_NODES, MOST_NODES, MOST_ARCS, MOST_ARCS_BOTH_WAYS, GREATEST_CAPACITY}
 
 -- A network: its nodes are the numbers 1 to `nodes`, and its arcs a list, in which parallel arcs, opposite arcs and
 -- self-loops may stand.
@@ -19,13 +20,13 @@ pub record IsArcWithin (n : ℕ) (a : Arc) : Type 0 where
   pub src_most : a.src ≤ n
   pub dst_least : 1 ≤ a.dst
   pub dst_most : a.dst ≤ n
-  pub cap_fits : a.cap < 2 ^ 64
+  pub cap_fits : a.cap ≤ GREATEST_CAPACITY
 
 -- the limits that every network keeps
 pub record IsNet (net : Net) : Type 0 where
-  pub nodes_least : 2 ≤ net.nodes
-  pub nodes_most : net.nodes ≤ 1000000
-  pub arcs_most : length net.arcs ≤ 8000000
+  pub nodes_least : FEWEST_NODES ≤ net.nodes
+  pub nodes_most : net.nodes ≤ MOST_NODES
+  pub arcs_most : length net.arcs ≤ MOST_ARCS_BOTH_WAYS
   pub arcs_within : All (IsArcWithin net.nodes) net.arcs
 
 -- stands for an arc past the last
@@ -70,5 +71,5 @@ pub record AreTerminals (net : Net) (sources sinks : List ℕ) : Type 0 where
 
 -- what every problem keeps
 pub record IsProblem (p : Instance) : Type 0 where
-  pub arcs_most : length p.net.arcs ≤ 4000000
+  pub arcs_most : length p.net.arcs ≤ MOST_ARCS
   pub terminals : AreTerminals p.net p.sources p.sinks

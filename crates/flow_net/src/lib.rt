@@ -10,10 +10,12 @@
 #![tactic(auto)]
 
 pub mod laws;
+mod limits;
 mod networks;
 mod problems;
 mod tables;
 
+pub use limits::{FEWEST_NODES, GREATEST_CAPACITY, MOST_ARCS, MOST_ARCS_BOTH_WAYS, MOST_NODES};
 pub use networks::{Arc, Network, OutOfMemory};
 pub use problems::Problem;
 pub use tables::FlowTable;

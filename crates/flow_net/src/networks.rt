@@ -2,6 +2,7 @@
 ghost use Rattle.std.specs.Prelude.{◌≡◌, ◌+◌, ◌*◌, ◌<◌, ◌≤◌, ◌↔◌, [], ◌∷◌, ◌++◌, length, map, slice_get, IsTrue, OnOk, OnErr};
 ghost use Rattle.flow_net.specs.Nets.{Net, IsNet, IsArcWithin, arc_at, unit, unit_arc, both_ways, reversed};
 
+use super::limits::{FEWEST_NODES, MOST_ARCS, MOST_ARCS_BOTH_WAYS, MOST_NODES};
 use std::alloc::Global;
 use std::marker::Model;
 
@@ -22,7 +23,8 @@ pub struct OutOfMemory;
 
 /// Nodes 1 to `nodes()`, and a list of arcs between them: parallel arcs, opposite arcs and self-loops may be among them.
 ///
-/// A network has 2 to 1,000,000 nodes and at most 8,000,000 arcs. So a sum of capacities is below 2^87.
+/// A network has [`FEWEST_NODES`] to [`MOST_NODES`] nodes and at most [`MOST_ARCS_BOTH_WAYS`] arcs. So a sum of
+/// capacities is below 2^87.
 #[derive(Drop)]
 pub struct Network {
     nodes: u32,
@@ -40,10 +42,10 @@ impl Model for Network {
 }
 
 impl Network {
-    /// A network of 2 to 1,000,000 nodes with no arcs. It takes no memory.
+    /// A network of [`FEWEST_NODES`] to [`MOST_NODES`] nodes with no arcs. It takes no memory.
     pub fn new(alloc: Global, nodes: u32) -> Network
-        requires at_least { 2 ≤ nodes }
-        requires at_most { nodes ≤ 1000000 }
+        requires at_least { FEWEST_NODES ≤ nodes }
+        requires at_most { nodes ≤ MOST_NODES }
         ensures { result ≡ record { nodes = nodes; arcs = [] } }
     {
         Network {
@@ -85,13 +87,14 @@ impl Network {
         self.arcs[i as usize]
     }
 
-    /// Appends an arc whose ends are nodes of the network, where there are fewer than 8,000,000 arcs.
+    /// Appends an arc whose ends are nodes of the network, where there are fewer than
+    /// [`MOST_ARCS_BOTH_WAYS`] arcs.
     ///
     /// # Errors
     ///
     /// `OutOfMemory` where the growth was refused; the network is then unchanged.
     pub fn push(&mut self, arc: Arc) -> Result<(), OutOfMemory>
-        requires room { length self.old.arcs < 8000000 }
+        requires room { length self.old.arcs < MOST_ARCS_BOTH_WAYS }
         requires within { IsArcWithin self.old.nodes arc }
         ensures ok { OnOk result (self.new ≡ record self.old { arcs = self.old.arcs ++ arc ∷ [] }) }
         ensures err { OnErr result (self.new ≡ self.old) }
@@ -111,13 +114,14 @@ impl Network {
         Network { nodes, arcs }
     }
 
-    /// Appends the reverse of each arc, in order, with the same capacity, where there are at most 4,000,000 arcs.
+    /// Appends the reverse of each arc, in order, with the same capacity, where there are at most
+    /// [`MOST_ARCS`] arcs.
     ///
     /// # Errors
     ///
     /// `OutOfMemory` where the growth was refused; the network is then unchanged.
     pub fn both_ways(&mut self) -> Result<(), OutOfMemory>
-        requires room { length self.old.arcs ≤ 4000000 }
+        requires room { length self.old.arcs ≤ MOST_ARCS }
         ensures ok { OnOk result (self.new ≡ both_ways self.old) }
         ensures err { OnErr result (self.new ≡ self.old) }
     {
@@ -137,7 +141,7 @@ fn set_units(arcs: &mut Vec<Arc>)
 
 /// Appends the reverse of each arc, or leaves the arcs: all the memory is asked for before the first is appended.
 fn append_reversed(arcs: &mut Vec<Arc>) -> Result<(), OutOfMemory>
-    requires room { length arcs.old.items ≤ 4000000 }
+    requires room { length arcs.old.items ≤ MOST_ARCS }
     ensures ok { OnOk result (arcs.new.items ≡ arcs.old.items ++ map reversed arcs.old.items) }
     ensures err { OnErr result (arcs.new.items ≡ arcs.old.items) }
 {

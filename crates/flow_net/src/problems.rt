@@ -5,8 +5,8 @@ ghost use Rattle.flow_net.specs.Nets.{IsProblem};
 use super::networks::Network;
 use std::marker::Model;
 
-/// A maximum flow problem of the DIMACS format (1990): a network of at most 4,000,000 arcs with one or more sources and
-/// one or more sinks, all different.
+/// A maximum flow problem of the DIMACS format (1990): a network of at most
+/// [`MOST_ARCS`](super::limits::MOST_ARCS) arcs with one or more sources and one or more sinks, all different.
 #[derive(Drop)]
 pub struct Problem {
     net: Network,

@@ -1,4 +1,4 @@
-use Rattle.flow_net.proofs.Limits.{IsNet-unit}
+use Rattle.flow_net.proofs.KeptLimits.{IsNet-unit}
 use Rattle.flow_net.proofs.networks.Network.unit.Goals as goal
 
 pub invariant_of-result : goal.invariant_of-result

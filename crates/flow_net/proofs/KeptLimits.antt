@@ -1,7 +1,8 @@
 -- The invariant of a network is kept.
-use Rattle.std.proofs.Common.{◌≤◌, ◌++◌, length, map, arith, lit<, length-append}
+use Rattle.std.proofs.Common.{◌≤◌, ◌++◌, length, map, arith, lit≤, length-append}
 use Rattle.std.proofs.lemmas.List.{length-map}
 use Rattle.std.proofs.lemmas.List.Elements.{All-append, All-map, All-weaker}
+use Rattle.flow_net.specs.declared.limits.TheConstants.{MOST_ARCS}
 use Rattle.flow_net.specs.Nets.{Net, IsNet, IsArcWithin, unit_arc, reversed}
 
 -- capacities of 1 keep it
@@ -11,11 +12,11 @@ IsNet-unit net h = let same = length-map net.arcs unit_arc in let most = h.arcs_
   nodes_most = h.nodes_most;
   arcs_most = omega arith;
   arcs_within = All-map (IsArcWithin net.nodes) unit_arc net.arcs (All-weaker (IsArcWithin net.nodes) (λ a. IsArcWithin net.nodes (unit_arc a))
-      (λ a w. record { src_least = w.src_least; src_most = w.src_most; dst_least = w.dst_least; dst_most = w.dst_most; cap_fits = lit< tt }) net.arcs h.arcs_within);
+      (λ a w. record { src_least = w.src_least; src_most = w.src_most; dst_least = w.dst_least; dst_most = w.dst_most; cap_fits = lit≤ tt }) net.arcs h.arcs_within);
 }
 
 -- the reversed arcs keep it, where there is room
-pub IsNet-both_ways : (net : Net) → IsNet net → length net.arcs ≤ 4000000 → IsNet (record net { arcs = net.arcs ++ map reversed net.arcs })
+pub IsNet-both_ways : (net : Net) → IsNet net → length net.arcs ≤ MOST_ARCS → IsNet (record net { arcs = net.arcs ++ map reversed net.arcs })
 IsNet-both_ways net h room = let same = length-map net.arcs reversed in let sum = length-append net.arcs (map reversed net.arcs) in record {
   nodes_least = h.nodes_least;
   nodes_most = h.nodes_most;

@@ -3,6 +3,7 @@ use Rattle.std.proofs.Common.{◌≡◌, ℕ, zero, suc, ◌+◌, ◌*◌, ◌/�
 use Rattle.std.proofs.lemmas.Bool.{cases_eq, ne_eqb, and_left, and_right, and_from}
 use Rattle.std.specs.List.{AllByRecursion, AllZip}
 use Rattle.std.proofs.lemmas.List.Elements.{recursion_from_All}
+use Rattle.flow_net.specs.declared.limits.TheConstants.{GREATEST_CAPACITY}
 use Rattle.flow_net.specs.declared.networks.Arc.{Arc}
 use Rattle.flow_net.specs.Nets.{Net, IsNet, IsArcWithin, no_arc, arc_at}
 use Rattle.flow_net.specs.Flows.{flow_over}
@@ -21,16 +22,16 @@ cap_over_next p (a ∷ arcs) (suc i) l = omega (arith, cap_over_next p arcs i (o
 pub cap_over_more : (p : Arc → Bool) (arcs : List Arc) (i : ℕ) → i < length arcs → cap_over p (take (i + 1) arcs) ≡ cap_over p (take i arcs) + cond (p (get_or arcs i no_arc)) (get_or arcs i no_arc).cap 0
 cap_over_more p arcs i l = rw add-one (cap_over_next p arcs i l)
 
-most_step : (b : Bool) (c m k : ℕ) → c < 2 ^ 64 → m ≤ k * 18446744073709551615 → cond b c 0 + m ≤ suc k * 18446744073709551615
+most_step : (b : Bool) (c m k : ℕ) → c ≤ GREATEST_CAPACITY → m ≤ k * GREATEST_CAPACITY → cond b c 0 + m ≤ suc k * GREATEST_CAPACITY
 most_step true c m k f h = omega arith
 most_step false c m k f h = omega arith
 
-most_of : (n : ℕ) (p : Arc → Bool) (arcs : List Arc) → AllByRecursion (IsArcWithin n) arcs → cap_over p arcs ≤ length arcs * 18446744073709551615
+most_of : (n : ℕ) (p : Arc → Bool) (arcs : List Arc) → AllByRecursion (IsArcWithin n) arcs → cap_over p arcs ≤ length arcs * GREATEST_CAPACITY
 most_of n p [] h = omega arith
 most_of n p (a ∷ arcs) h = most_step (p a) a.cap (cap_over p arcs) (length arcs) h.0.cap_fits (most_of n p arcs h.1)
 
 -- a sum of 64 bit capacities
-pub cap_over-most : (p : Arc → Bool) (net : Net) → IsNet net → cap_over p net.arcs ≤ length net.arcs * 18446744073709551615
+pub cap_over-most : (p : Arc → Bool) (net : Net) → IsNet net → cap_over p net.arcs ≤ length net.arcs * GREATEST_CAPACITY
 cap_over-most p net n = most_of net.nodes p net.arcs (recursion_from_All (IsArcWithin net.nodes) net.arcs n.arcs_within)
 
 -- the sum over the first arcs is at most the whole

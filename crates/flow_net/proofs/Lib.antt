@@ -9,3 +9,4 @@ pub mod AugmentingPaths
 pub mod ZeroFlows
 pub mod MaxFlows
 pub mod Connections
+pub mod Upgrades

@@ -1,6 +1,7 @@
 -- The laws that the rest of the toolkit stands on. Each is the contract of a function of `laws`.
-use Rattle.std.specs.Prelude.{◌≢◌, ℕ, ◌+◌, ◌≤◌, ◌⊎◌, ◌↔◌, Bool, List, IsTrue, IsFalse}
-use Rattle.flow_net.specs.Nets.{Net, IsNet, IsNode, unit, both_ways}
+use Rattle.std.specs.Prelude.{◌≢◌, ℕ, ◌+◌, ◌<◌, ◌≤◌, ◌⊎◌, ◌↔◌, Bool, List, length, slice_set, IsTrue, IsFalse}
+use Rattle.flow_net.specs.declared.networks.Arc.{Arc}
+use Rattle.flow_net.specs.Nets.{Net, IsNet, IsNode, arc_at, unit, both_ways}
 use Rattle.flow_net.specs.NodeSets.{just}
 use Rattle.flow_net.specs.Flows.{out_of, into, IsFeasible, HasValue, IsGreatest}
 use Rattle.flow_net.specs.Cuts.{IsCut, capacity, IsMinimumCut, IsLeastCapacity, IsInLeastSourceSide, IsInLeastSinkSide}
@@ -58,3 +59,17 @@ ConnectivityByPairs = (net : Net) (r k : ℕ) → IsNet net → IsNode net r →
 abbrev pub UndirectedByBothWays : Type 0
 UndirectedByBothWays = (net : Net) (k : ℕ) → (IsConnectivity (both_ways net) k ↔ IsUndirectedConnectivity net k)
     × ((s t : ℕ → Bool) → IsPairConnectivity (both_ways net) s t k ↔ IsUndirectedPairConnectivity net s t k)
+
+-- the arc with so much more capacity, and the network in which the arc at a place has it
+abbrev pub widened : Arc → ℕ → Arc
+widened a d = record { src = a.src; dst = a.dst; cap = a.cap + d }
+
+abbrev pub upgraded : Net → ℕ → ℕ → Net
+upgraded net i d = record { nodes = net.nodes; arcs = slice_set net.arcs i (widened (arc_at net i) d) }
+
+-- more capacity on one arc alone raises the greatest value just where the arc begins in the least source side and ends in
+-- the least sink side
+abbrev pub SingleUpgrade : Type 0
+SingleUpgrade = (net : Net) (s t : ℕ → Bool) (i d k j : ℕ) → IsNet net → IsNet (upgraded net i d) → AreApart s t → i < length net.arcs → 1 ≤ d
+    → IsGreatest net s t k → IsGreatest (upgraded net i d) s t j
+    → (k < j) ↔ (IsInLeastSourceSide net s t (arc_at net i).src × IsInLeastSinkSide net s t (arc_at net i).dst)

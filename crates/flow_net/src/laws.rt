@@ -1,5 +1,5 @@
 //! The laws of maximum flows and minimum cuts. Each is the contract of a function that computes nothing.
-ghost use Rattle.flow_net.specs.Laws.{WeakDuality, ClosedCut, MaxFlowMinCut, LeastSourceSide, LeastSinkSide, AugmentingPath, PairByFlow, ConnectivityByPairs, UndirectedByBothWays};
+ghost use Rattle.flow_net.specs.Laws.{WeakDuality, ClosedCut, MaxFlowMinCut, LeastSourceSide, LeastSinkSide, AugmentingPath, PairByFlow, ConnectivityByPairs, UndirectedByBothWays, SingleUpgrade};
 
 /// No feasible flow's value passes a cut's capacity (Ford and Fulkerson 1956).
 pub fn weak_duality()
@@ -44,4 +44,10 @@ pub fn connectivity_by_pairs()
 /// The undirected connectivity is the directed one of the network both ways, with the terminals and without.
 pub fn undirected_by_both_ways()
     ensures { UndirectedByBothWays }
+{}
+
+/// More capacity on one arc alone raises the greatest value just where the arc begins in the least source side and ends in
+/// the least sink side: these are the arcs that leave both the minimum cut nearest the sources and the one nearest the sinks.
+pub fn single_upgrade()
+    ensures { SingleUpgrade }
 {}

@@ -28,10 +28,10 @@ pub phase_paid : (m cost start steps live falling owed : ℕ) → live ≤ m →
 phase_paid m cost start steps live falling owed a b p = let k = mul-le-mul_left cost a in omega (arith, p, k)
 
 -- the run: as many phases as there may be, and one search more
-pub run_paid : (n m reach phases start steps : ℕ) → n ≡ reach + 1 → phases ≤ reach → steps ≤ start + phases * (3 * reach * m + 3 * m) + 2 * m → steps ≤ start + 4 * n * n * m
-run_paid n m reach phases start steps e l s =
+pub run_paid : (n m reach phases start steps : ℕ) → n ≡ reach + 1 → 1 ≤ reach → phases ≤ reach → steps ≤ start + phases * (3 * reach * m + 3 * m) + 2 * m → steps ≤ start + 3 * n * n * m
+run_paid n m reach phases start steps e o l s =
     let a = mul-le phases (3 * reach * m + 3 * m) reach (3 * reach * m + 3 * m) l (omega arith) in
     rw e (widen reach m start steps (omega (arith, a)))
   where
-    widen : (r m start steps : ℕ) → steps ≤ start + r * (3 * r * m + 3 * m) + 2 * m → steps ≤ start + 4 * (r + 1) * (r + 1) * m
+    widen : (r m start steps : ℕ) → steps ≤ start + r * (3 * r * m + 3 * m) + 2 * m → steps ≤ start + 3 * (r + 1) * (r + 1) * m
     widen r m start steps h = omega arith

@@ -4,15 +4,15 @@ ghost use Rattle.flow_net.specs.Nets.{Net, AreTerminals};
 ghost use Rattle.flow_net.specs.NodeSets.{one_of};
 ghost use Rattle.flow_net.specs.Flows.{IsFeasible, HasValue, IsGreatest, HasNoLoops};
 ghost use Rattle.flow_net.specs.Cuts.{IsLeastCapacity};
+ghost use Rattle.flow_solve.specs.Bounds.{phases_bound};
 
 use crate::method::{Method, work_len};
 use crate::packing::{Packed, pack};
-use crate::phases::{find_levels, run_phase};
-use crate::walking::Phase;
+use crate::phases::run_phases;
 use flow_net::{FlowTable, Network};
 
-/// Raises a flow of value 0 by phases until a search backwards from the sinks sees no source, and answers its value.
-fn run_phases(net: &Network, s: &[u32], t: &[u32], flow: &mut FlowTable, cells: &mut [u32]) -> u128
+/// Packs the half-arcs behind the cells of the phases, and raises a flow of value 0 by phases. Answers its value.
+fn run_packed(net: &Network, s: &[u32], t: &[u32], flow: &mut FlowTable, cells: &mut [u32]) -> u128
     requires feasible { IsFeasible net.now (one_of s.now) (one_of t.now) flow.old.flows }
     requires zero { HasValue net.now (one_of s.now) flow.old.flows 0 }
     requires no_loops { HasNoLoops net.now flow.old.flows }
@@ -24,34 +24,15 @@ fn run_phases(net: &Network, s: &[u32], t: &[u32], flow: &mut FlowTable, cells: 
     ensures least { IsLeastCapacity net.now (one_of s.now) (one_of t.now) result }
     ensures loops { HasNoLoops net.now flow.new.flows }
     ensures never_lowered { flow.old.steps ≤ flow.new.steps }
-    ensures steps { flow.new.steps ≤ flow.old.steps + 4 * net.now.nodes * net.now.nodes * length net.now.arcs }
+    ensures steps { flow.new.steps ≤ flow.old.steps + phases_bound net.now }
 {
     let n = net.nodes() as usize;
     let m = net.len() as usize;
-    let (dist, rest) = cells.split_at_mut(n);
-    let (rank, rest) = rest.split_at_mut(n);
-    let (queue, rest) = rest.split_at_mut(n);
-    let (current, rest) = rest.split_at_mut(n);
-    let (path, rest) = rest.split_at_mut(n);
+    let (cells, rest) = cells.split_at_mut(5 * n);
     let (first, rest) = rest.split_at_mut(n + 1);
     let (halves, _) = rest.split_at_mut(2 * m);
     pack(net, first, halves);
-    let packed = Packed { net, first, halves };
-    let mut value = 0u128;
-    let mut phases = 0u32;
-    'phases: while find_levels(packed, flow, s, t, dist, rank, queue) {
-        let phase = Phase {
-            packed,
-            s,
-            t,
-            dist,
-            rank,
-        };
-        value = run_phase(phase, flow, current, path, value);
-        // Each phase brings the sources farther from the sinks, so there are fewer than `n`.
-        phases += 1;
-    }
-    value
+    run_phases(Packed { net, first, halves }, s, t, flow, cells, 0)
 }
 
 /// Augments along shortest paths, level by level, in phases: a search backwards from the sinks ranks the nodes, the nearest
@@ -70,6 +51,6 @@ impl Method for Levels {
     ) -> u128 {
         let (cells, _rest) = work.split_at_mut(work_len(net.nodes(), net.len()));
         flow.clear();
-        run_phases(net, s, t, flow, cells)
+        run_packed(net, s, t, flow, cells)
     }
 }

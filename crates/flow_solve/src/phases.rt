@@ -3,7 +3,9 @@ ghost use Rattle.std.specs.Prelude.{◌≡◌, ◌⊎◌, ℕ, List, true, false
 ghost use Rattle.std.specs.List.{All};
 ghost use Rattle.flow_net.specs.Nets.{Net, IsNode, AreTerminals};
 ghost use Rattle.flow_net.specs.NodeSets.{one_of};
-ghost use Rattle.flow_net.specs.Flows.{Fits, IsFeasible, HasValue, HasNoLoops};
+ghost use Rattle.flow_net.specs.Flows.{Fits, IsFeasible, HasValue, IsGreatest, HasNoLoops};
+ghost use Rattle.flow_net.specs.Cuts.{IsLeastCapacity};
+ghost use Rattle.flow_solve.specs.Bounds.{phases_bound};
 ghost use Rattle.flow_solve.specs.Packs.{IsPacked};
 ghost use Rattle.flow_solve.specs.Searches.{seen, IsWhole};
 ghost use Rattle.flow_solve.specs.Levels.{cell_of, place_of, owed, IsDead, IsInPhase, AreSinks, IsOrdered, IsGentle, AreLevels, IsFar};
@@ -36,7 +38,7 @@ fn count(nodes: &[u32]) -> u32
 
 /// Searches backwards from the sinks until all sources are seen, and ranks what it has seen, the nearest first. Answers
 /// whether a source was seen.
-pub(crate) fn find_levels(
+fn find_levels(
     packed: Packed<'_>,
     flow: &mut FlowTable,
     s: &[u32],
@@ -109,7 +111,7 @@ fn walk_all(
 }
 
 /// A phase after its search: every node begins at its first half-arc again, and each source walks. Answers the flow's value.
-pub(crate) fn run_phase(
+fn run_phase(
     phase: Phase<'_>,
     flow: &mut FlowTable,
     current: &mut [u32],
@@ -139,4 +141,50 @@ pub(crate) fn run_phase(
     let n = phase.packed.net.nodes() as usize;
     current.copy_from_slice(&phase.packed.first[..n]);
     walk_all(phase, flow, current, path, value)
+}
+
+/// Raises a feasible flow by phases until a search backwards from the sinks sees no source, and answers its value, which
+/// is the greatest. `value` is the flow's value before. It takes at most `3·n²·m` steps, whatever flow it starts from.
+pub(crate) fn run_phases(
+    packed: Packed<'_>,
+    s: &[u32],
+    t: &[u32],
+    flow: &mut FlowTable,
+    cells: &mut [u32],
+    value: u128,
+) -> u128
+    requires packed { IsPacked packed.net.now packed.first.now packed.halves.now }
+    requires terminals { AreTerminals packed.net.now s.now t.now }
+    requires cells { length cells.old ≡ 5 * packed.net.now.nodes }
+    requires feasible { IsFeasible packed.net.now (one_of s.now) (one_of t.now) flow.old.flows }
+    requires value { HasValue packed.net.now (one_of s.now) flow.old.flows value }
+    requires no_loops { HasNoLoops packed.net.now flow.old.flows }
+    ensures feasible { IsFeasible packed.entry.net.now (one_of s.now) (one_of t.now) flow.new.flows }
+    ensures value { HasValue packed.entry.net.now (one_of s.now) flow.new.flows result }
+    ensures greatest { IsGreatest packed.entry.net.now (one_of s.now) (one_of t.now) result }
+    ensures least { IsLeastCapacity packed.entry.net.now (one_of s.now) (one_of t.now) result }
+    ensures loops { HasNoLoops packed.entry.net.now flow.new.flows }
+    ensures never_lowered { flow.old.steps ≤ flow.new.steps }
+    ensures steps { flow.new.steps ≤ flow.old.steps + phases_bound packed.entry.net.now }
+{
+    let n = packed.net.nodes() as usize;
+    let (dist, rest) = cells.split_at_mut(n);
+    let (rank, rest) = rest.split_at_mut(n);
+    let (queue, rest) = rest.split_at_mut(n);
+    let (current, path) = rest.split_at_mut(n);
+    let mut value = value;
+    let mut phases = 0u32;
+    'phases: while find_levels(packed, flow, s, t, dist, rank, queue) {
+        let phase = Phase {
+            packed,
+            s,
+            t,
+            dist,
+            rank,
+        };
+        value = run_phase(phase, flow, current, path, value);
+        // Each phase brings the sources farther from the sinks, so there are fewer than `n`.
+        phases += 1;
+    }
+    value
 }

@@ -5,14 +5,14 @@ use Rattle.flow_solve.proofs.Bounds.{run_paid}
 use Rattle.flow_solve.proofs.Distances.{far_start}
 use Rattle.flow_solve.proofs.Raises.{settled}
 use Rattle.flow_solve.proofs.Routes.{terminals_apart}
-use Rattle.flow_solve.proofs.levels.run_phases.Goals as goal
+use Rattle.flow_solve.proofs.phases.run_phases.Goals as goal
 
 pub phases-init : goal.phases-init
 phases-init c = record {
   feasible = c.requires.feasible;
-  value = c.requires.zero;
+  value = c.requires.value;
   no_loops = c.requires.no_loops;
-  far = far_start c.args.net.now c.args.s.now c.args.t.now c.args.flow.now.flows (terminals_apart c.args.net.now c.args.s.now c.args.t.now c.requires.terminals);
+  far = far_start c.args.packed.net.now c.args.s.now c.args.t.now c.args.flow.now.flows (terminals_apart c.args.packed.net.now c.args.s.now c.args.t.now c.requires.terminals);
   few = omega (arith, c.nodes-n.ensures.is_net.nodes_least);
   dist_size = omega arith;
   rank_size = omega arith;
@@ -25,7 +25,7 @@ phases-init c = record {
 
 pub phases-preserved : goal.phases-preserved
 phases-preserved c =
-    let old = c.phases.invariant in let found = c.find_levels.ensures in let now = c.run_phase-value.ensures in let net = c.args.net.now in
+    let old = c.phases.invariant in let found = c.find_levels.ensures in let now = c.run_phase-value.ensures in let net = c.args.packed.net.now in
     let far : IsFar net c.args.s.now c.args.t.now c.find_levels.new.flow.flows c.phases.phases = subst (λ (ys : List ℕ). IsFar net c.args.s.now c.args.t.now ys c.phases.phases) (sym found.flows) old.far in
     record {
       feasible = now.feasible;
@@ -45,14 +45,14 @@ phases-preserved c =
 pub returns-clause-greatest : goal.returns-clause-greatest
 returns-clause-greatest c =
     let old = c.phases.invariant in let found = c.find_levels.ensures in
-    (settled c.args.net.now c.args.s.now c.args.t.now c.phases.flow.flows (seen c.find_levels.new.dist) c.phases.value c.nodes-n.ensures.is_net old.feasible old.value (found.whole c.phases-test.false) (found.outside c.phases-test.false)).0
+    (settled c.args.packed.net.now c.args.s.now c.args.t.now c.phases.flow.flows (seen c.find_levels.new.dist) c.phases.value c.nodes-n.ensures.is_net old.feasible old.value (found.whole c.phases-test.false) (found.outside c.phases-test.false)).0
 
 pub returns-clause-least : goal.returns-clause-least
 returns-clause-least c =
     let old = c.phases.invariant in let found = c.find_levels.ensures in
-    (settled c.args.net.now c.args.s.now c.args.t.now c.phases.flow.flows (seen c.find_levels.new.dist) c.phases.value c.nodes-n.ensures.is_net old.feasible old.value (found.whole c.phases-test.false) (found.outside c.phases-test.false)).1
+    (settled c.args.packed.net.now c.args.s.now c.args.t.now c.phases.flow.flows (seen c.find_levels.new.dist) c.phases.value c.nodes-n.ensures.is_net old.feasible old.value (found.whole c.phases-test.false) (found.outside c.phases-test.false)).1
 
 pub returns-clause-steps : goal.returns-clause-steps
 returns-clause-steps c =
-    let old = c.phases.invariant in let found = c.find_levels.ensures in let net = c.args.net.now in
-    run_paid net.nodes (length net.arcs) (net.nodes - 1) c.phases.phases c.args.flow.now.steps c.find_levels.new.flow.steps (omega (arith, old.few)) (omega (arith, old.few)) (omega (arith, old.steps, found.steps))
+    let old = c.phases.invariant in let found = c.find_levels.ensures in let net = c.args.packed.net.now in
+    run_paid net.nodes (length net.arcs) (net.nodes - 1) c.phases.phases c.args.flow.now.steps c.find_levels.new.flow.steps (omega (arith, old.few)) (omega (arith, c.nodes-n.ensures.is_net.nodes_least)) (omega (arith, old.few)) (omega (arith, old.steps, found.steps))

@@ -18,14 +18,26 @@ rt ci 2>&1 | tee "$folder/gate"
 [ "${PIPESTATUS[0]}" -eq 0 ] || exit 1
 gate=$(grep -E '^[0-9]+ passed, 0 failed$' "$folder/gate" | tail -n 1)
 [ -n "$gate" ] || exit 1
+passed=${gate%% *}
+
+# add NAME COMMAND..: runs a command whose last line has to be 'NAME: N passed, 0 failed', and adds its count.
+add() {
+  local name=$1 line
+  shift
+  "$@" | tee "$folder/$name"
+  [ "${PIPESTATUS[0]}" -eq 0 ] || exit 1
+  line=$(tail -n 1 "$folder/$name" | grep -E "^$name: [0-9]+ passed, 0 failed$")
+  [ -n "$line" ] || exit 1
+  line=${line#"$name: "}
+  passed=$((passed + ${line%% *}))
+}
 
 # The built programs under hostile use.
 [ -x crates/flow/out/flow ] || (cd crates/flow && rt run -- solve --value < stdin > /dev/null) || exit 1
 [ -x crates/growths/out/growths ] || (cd crates/growths && rt run < stdin > /dev/null) || exit 1
-python3 scripts/hostile.py crates/flow/out/flow crates/growths/out/growths | tee "$folder/hostile"
-[ "${PIPESTATUS[0]}" -eq 0 ] || exit 1
-hostile=$(grep -E '^hostile: [0-9]+ passed, 0 failed$' "$folder/hostile" | tail -n 1)
-[ -n "$hostile" ] || exit 1
+add hostile python3 scripts/hostile.py crates/flow/out/flow crates/growths/out/growths
 
-hostile=${hostile#hostile: }
-echo "$((${gate%% *} + ${hostile%% *})) passed, 0 failed"
+# The manual page and the completions say what the program's help says.
+add pages python3 scripts/pages.py crates/flow/out/flow
+
+echo "$passed passed, 0 failed"

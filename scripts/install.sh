@@ -15,7 +15,7 @@ folder=$(cd "$1" && pwd)
 cd "$(dirname "$0")/.."
 
 # The crates that the program is made of stand in crates.txt, lowest first, and the program's own is the last of them.
-crates=$(sed -n -e 's/^\([a-z_]*\):.*/\1/p' -e '/^flow:/q' crates.txt)
+crates=$(sed -n -e 's/^\([a-z_]*\):.*/\1/p' -e '/^flow$/q' crates.txt)
 count=$(wc -l <<< "$crates")
 cat >&2 <<TEXT
 Proving and building flow, since nothing is built that isn't proved. From nothing this takes about five minutes

@@ -10,3 +10,4 @@ pub mod ZeroFlows
 pub mod MaxFlows
 pub mod Connections
 pub mod Upgrades
+pub mod GrowthLemmas

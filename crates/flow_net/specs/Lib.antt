@@ -6,3 +6,4 @@ pub mod Connectivity
 pub mod Residual
 pub mod Paths
 pub mod Laws
+pub mod Orders

@@ -1,4 +1,5 @@
 //! The laws of maximum flows and minimum cuts. Each is the contract of a function that computes nothing.
+ghost use Rattle.flow_net.specs.Orders.{ConnectivityByGrowth, SameEitherWay};
 ghost use Rattle.flow_net.specs.Laws.{WeakDuality, ClosedCut, MaxFlowMinCut, LeastSourceSide, LeastSinkSide, AugmentingPath, PairByFlow, ConnectivityByPairs, UndirectedByBothWays, SingleUpgrade};
 
 /// No feasible flow's value passes a cut's capacity (Ford and Fulkerson 1956).
@@ -39,6 +40,17 @@ pub fn pair_by_flow()
 /// The connectivity is the least over one node and every other, both ways.
 pub fn connectivity_by_pairs()
     ensures { ConnectivityByPairs }
+{}
+
+/// The connectivity is the least, over every node but the first of an order, of the connectivities of the nodes before it
+/// with it, to it and from it.
+pub fn connectivity_by_growth()
+    ensures { ConnectivityByGrowth }
+{}
+
+/// In a network both ways the connectivity of a pair is the same either way.
+pub fn same_either_way()
+    ensures { SameEitherWay }
 {}
 
 /// The undirected connectivity is the directed one of the network both ways, with the terminals and without.

@@ -1,0 +1,5 @@
+use Rattle.flow_net.proofs.GrowthLemmas.{same_either_way}
+use Rattle.flow_net.proofs.laws.same_either_way.Goals as goal
+
+pub returns : goal.returns
+returns c = same_either_way

@@ -40,4 +40,7 @@ add hostile python3 scripts/hostile.py crates/flow/out/flow crates/growths/out/g
 # The manual page and the completions say what the program's help says.
 add pages python3 scripts/pages.py crates/flow/out/flow
 
+# Each command that the documents show prints what they show.
+add documents python3 scripts/documents.py crates/flow/out/flow
+
 echo "$passed passed, 0 failed"

@@ -5,49 +5,104 @@ ghost use Rattle.std.specs.Prelude.{◌≡◌, Some, codes};
 use clap::{Arg, ArgAction, Command, Error};
 use std::alloc::Global;
 
-const STATUSES: &str = "Exit status:
-  0  done
-  2  the command line is refused
-  3  the problem has a fault; standard error tells its line and what is wrong
-  4  a file, a stream or memory failed; standard error tells which";
+const ALL_STATUSES: &str =
+    "flow COMMAND --help says what a command reads and prints, with an example.
+Guide, a page for each task: docs/GUIDE.md. What a message means: docs/MESSAGES.md.
 
-const ALL_STATUSES: &str = "Exit status:
+Exit status:
   0  done
   1  check says no: standard output tells why
   2  the command line is refused
   3  an input has a fault; standard error tells its line and what is wrong
   4  a file, a stream or memory failed; standard error tells which";
 
-const SOLVE: &str = "Reads a maximum flow problem in the DIMACS format and prints
-  s VALUE          the greatest value that a flow has
-  f SRC DST FLOW   a flow of that value: a line for each arc, in their order";
+const STATUSES: &str =
+    "Where no file is named, standard input is read; - names a file like any other.
+Guide, a page for each task: docs/GUIDE.md. What a message means: docs/MESSAGES.md.
 
-const CUT: &str = "Reads a maximum flow problem in the DIMACS format and prints
-  s VALUE          the least capacity that a cut has
-  n NODE           the nodes on the source side of such a cut, rising
-Of all minimum cuts it is the one nearest the sources: a node is printed only if
-it lies on the source side of every minimum cut.";
+Exit status:
+  0  done
+  2  the command line is refused
+  3  the problem has a fault; standard error tells its line and what is wrong
+  4  a file, a stream or memory failed; standard error tells which";
 
-const CONNECT: &str = "Reads a problem in the DIMACS maximum flow format and prints
-  k VALUE          the edge connectivity of its network: the least number of arc
-                   lines that leave a set of nodes, neither empty nor all
-Parallel arcs count one by one, and self-loops and capacities don't count.";
+const CHECK_STATUSES: &str =
+    "Where no solution is named, standard input is read; - names a file like any other.
+Guide, a page for each task: docs/GUIDE.md. What a message means: docs/MESSAGES.md.
 
-const CHECK: &str = "Reads a problem and a solution in the DIMACS format and prints a verdict, the
-first that applies:
-  over SRC DST FLOW CAP    the flow from SRC to DST passes the capacity
-  unbalanced NODE IN OUT   what enters the node isn't what leaves it
-  value GIVEN FOUND        the value of the s line isn't that of the flow
-  not-maximal VALUE        a flow of greater value exists
-  optimal VALUE            no flow has a greater value";
-
-const CHECK_STATUSES: &str = "Exit status:
+Exit status:
   0  the solution is optimal, or feasible where that is asked for
   1  it isn't; standard output tells why
   2  the command line is refused
   3  the problem or the solution has a fault; standard error tells its line and
      what is wrong
   4  a file, a stream or memory failed; standard error tells which";
+
+const PROBLEM: &str = "The problem, in the DIMACS maximum flow format. Its lines, in this order:
+  p max NODES ARCS   the number of nodes, named from 1 on, and of arcs
+  n ID s | n ID t    a source, a sink: one or more of each, no node twice
+  a SRC DST CAP      an arc: as many of these lines as ARCS says
+A line that begins with c is a comment. Limits: 2 to 1000000 nodes, 4000000
+arcs, whole capacities up to 18446744073709551615, lines of 200 bytes";
+
+const SOLUTION: &str = "The solution. Its lines, in this order:
+  s VALUE            the value that the flow is said to have
+  f SRC DST FLOW     what flows from SRC to DST; lines of one pair add up,
+                     and a pair without a line has 0
+A line that begins with c is a comment. Limits: whole flows up to
+18446744073709551615, 4000000 lines f, lines of 200 bytes";
+
+const SOLVE: &str = "Reads a maximum flow problem and prints
+  s VALUE          the greatest value that a flow has
+  f SRC DST FLOW   a flow of that value: a line for each arc, in their order
+
+Example, with the problem on standard input:
+  $ printf 'p max 3 2\\nn 1 s\\nn 3 t\\na 1 2 5\\na 2 3 2\\n' | flow solve
+  s 2
+  f 1 2 2
+  f 2 3 2";
+
+const CUT: &str = "Reads a maximum flow problem and prints
+  s VALUE          the least capacity that a cut has
+  n NODE           the nodes on the source side of such a cut, rising
+Of all minimum cuts it is the one nearest the sources: a node is printed only if
+it lies on the source side of every minimum cut. With --sink it is the one
+nearest the sinks: a node is printed if it lies on the source side of some
+minimum cut. An arc that --arcs prints both with and without --sink is one that
+limits the value by itself: a greater capacity of it alone gives a greater value.
+
+Example, with the problem on standard input:
+  $ printf 'p max 3 2\\nn 1 s\\nn 3 t\\na 1 2 5\\na 2 3 2\\n' | flow cut --arcs
+  s 2
+  n 1
+  n 2
+  a 2 3 2";
+
+const CONNECT: &str = "Reads a maximum flow problem and prints
+  k VALUE          the edge connectivity of its network: the least number of arc
+                   lines that leave a set of nodes, neither empty nor all
+Parallel arcs count one by one, and self-loops and capacities don't count. With
+--undirected each link is given by one arc line, in either direction; given by
+two, one each way, it counts twice. Sources and sinks must be there, and matter
+with --pair alone.
+
+Example, with the problem on standard input:
+  $ printf 'p max 3 3\\nn 1 s\\nn 3 t\\na 1 2 1\\na 2 3 1\\na 3 1 1\\n' | flow connect
+  k 1";
+
+const CHECK: &str = "Reads a problem and a solution and prints a verdict, the first that applies:
+  over SRC DST FLOW CAP    the flow from SRC to DST passes the capacity
+  unbalanced NODE IN OUT   what enters the node isn't what leaves it
+  value GIVEN FOUND        the value of the s line isn't that of the flow
+  feasible VALUE           with --feasible, in place of the two below
+  not-maximal VALUE        a flow of greater value exists
+  optimal VALUE            no flow has a greater value
+
+Example, with the problem and the solution in files:
+  $ printf 'p max 3 2\\nn 1 s\\nn 3 t\\na 1 2 5\\na 2 3 2\\n' > net.max
+  $ printf 's 1\\nf 1 2 1\\nf 2 3 1\\n' > net.sol
+  $ flow check net.max net.sol
+  not-maximal 1";
 
 /// All commands. Their only error is that memory was refused.
 pub fn commands<'a>(alloc: Global) -> Result<Command<'a>, Error> {
@@ -163,6 +218,7 @@ fn problem<'a>(alloc: Global) -> Arg<'a>
         .value_name("FILE")
         .action(ArgAction::Set)
         .help("The problem; standard input where no file is named")
+        .long_help(PROBLEM)
 }
 
 // The file of a solution.
@@ -174,4 +230,5 @@ fn solution<'a>(alloc: Global) -> Arg<'a>
         .value_name("SOLUTION")
         .action(ArgAction::Set)
         .help("The solution; standard input where no file is named")
+        .long_help(SOLUTION)
 }

@@ -97,14 +97,29 @@ fn refuse<O: Output, E: Output>(alloc: Global, error: clap::Error, out: &mut O, 
         Ok(text) if error.kind() != ErrorKind::OutOfMemory => text,
         _ => return tell(err, b"flow: out of memory\n"),
     };
-    let bytes = text.as_str().as_bytes();
     if error.use_stderr() {
-        tell(err, bytes);
+        let _ = put_refusal(err, text.as_str());
         return 2;
     }
-    match put_all(out, bytes) {
+    match put_all(out, text.as_str().as_bytes()) {
         Ok(()) => 0,
         Err(_) => tell(err, b"flow: write failed\n"),
+    }
+}
+
+// Puts why words are refused, without clap's tip to pass an unknown flag as a value: as a value it would name a file.
+fn put_refusal<E: Output>(err: &mut E, text: &str) -> Result<(), Failed> {
+    let (before, tail) = match text.split_once("\n  tip: to pass '") {
+        Some(parts) => parts,
+        None => return put_all(err, text.as_bytes()),
+    };
+    put_all(err, before.strip_suffix("\n").unwrap_or(before).as_bytes())?;
+    match tail.split_once("\n\nUsage: ") {
+        Some((_, usage)) => {
+            put_all(err, b"\n\nUsage: ")?;
+            put_all(err, usage.as_bytes())
+        }
+        None => put_all(err, b"\n"),
     }
 }
 

@@ -147,6 +147,121 @@ fn help_is_printed(rt: HostRuntime) -> Result<(), Fail> {
     Ok(())
 }
 
+/// A command, and what its whole help says.
+type Help = (&'static str, &'static [&'static str]);
+
+/// What the help of each command must tell.
+const HELP: [Help; 4] = [
+    (
+        "solve",
+        &[
+            "  s VALUE ",
+            "  f SRC DST FLOW ",
+            "  $ printf 'p max 3 2\\nn 1 s\\nn 3 t\\na 1 2 5\\na 2 3 2\\n' | flow solve\n  s 2\n  f 1 2 2\n  f 2 3 2\n",
+        ],
+    ),
+    (
+        "cut",
+        &[
+            "  n NODE ",
+            "With --sink it is the one\nnearest the sinks",
+            " | flow cut --arcs\n  s 2\n  n 1\n  n 2\n  a 2 3 2\n",
+        ],
+    ),
+    (
+        "connect",
+        &[
+            "  k VALUE ",
+            "--undirected each link is given by one arc line",
+            " | flow connect\n  k 1\n",
+        ],
+    ),
+    (
+        "check",
+        &[
+            "  over SRC DST FLOW CAP ",
+            "  unbalanced NODE IN OUT ",
+            "  value GIVEN FOUND ",
+            "  feasible VALUE ",
+            "  not-maximal VALUE ",
+            "  optimal VALUE ",
+            "  $ flow check net.max net.sol\n  not-maximal 1\n",
+            "            s VALUE ",
+            "            f SRC DST FLOW ",
+            "18446744073709551615, 4000000 lines f",
+        ],
+    ),
+];
+
+/// What the help of every command must tell: how a problem is written, its limits, where the inputs and the guide are.
+const HELP_OF_ALL: [&str; 8] = [
+    "            p max NODES ARCS ",
+    "            n ID s | n ID t ",
+    "            a SRC DST CAP ",
+    "Limits: 2 to 1000000 nodes, 4000000\n",
+    "capacities up to 18446744073709551615, lines of 200 bytes",
+    "standard input is read; - names a file like any other.\n",
+    "docs/GUIDE.md",
+    "docs/MESSAGES.md",
+];
+
+#[test]
+fn help_tells_what_is_read_and_printed(rt: HostRuntime) -> Result<(), Fail> {
+    for (command, wanted) in HELP {
+        let mut out: Held<4096> = Held::new(7, 4096);
+        let mut err: Held<4096> = Held::new(7, 4096);
+        let words = ["flow", command, "--help"];
+        let status = program(rt.alloc(), &words, &mut Memory, &mut out, &mut err);
+        assert_eq!(rt; status, 0);
+        let text = std::str::from_utf8(out.bytes()).unwrap_or("");
+        for words in HELP_OF_ALL {
+            assert!(rt; text.contains(words), "{command} {words}");
+        }
+        for words in wanted {
+            assert!(rt; text.contains(*words), "{command} {words}");
+        }
+    }
+    Ok(())
+}
+
+/// Words that are refused, and all that is told of them.
+const REFUSED: [(&[&str], &[u8]); 4] = [
+    (
+        &["flow", "solve", "--dot"],
+        b"error: unexpected argument '--dot' found\n\nUsage: flow solve [OPTIONS] [FILE]\n\nFor more information, try '--help'.\n",
+    ),
+    (
+        &["flow", "cut", "-x"],
+        b"error: unexpected argument '-x' found\n\nUsage: flow cut [OPTIONS] [FILE]\n\nFor more information, try '--help'.\n",
+    ),
+    (
+        &["flow", "cut", "--ar"],
+        b"error: unexpected argument '--ar' found\n\n  tip: a similar argument exists: '--arcs'\n\nUsage: flow cut --arcs [FILE]\n\nFor more information, try '--help'.\n",
+    ),
+    (
+        &["flow", "check"],
+        b"error: the following required arguments were not provided:\n  <PROBLEM>\n\nUsage: flow check <PROBLEM> [SOLUTION]\n\nFor more information, try '--help'.\n",
+    ),
+];
+
+/// No tip says how to pass an unknown flag as a value.
+#[test]
+fn refused_words_and_all_that_is_told(rt: HostRuntime) -> Result<(), Fail> {
+    for (words, message) in REFUSED {
+        let mut out: Held<512> = Held::new(7, 512);
+        let mut err: Held<512> = Held::new(7, 512);
+        let status = program(rt.alloc(), words, &mut Memory, &mut out, &mut err);
+        assert_eq!(rt; status, 2);
+        assert_eq!(rt; out.bytes(), b"".as_slice());
+        assert_eq!(rt; err.bytes(), message);
+        let mut full: Held<512> = Held::new(7, 3);
+        let status = program(rt.alloc(), words, &mut Memory, &mut out, &mut full);
+        assert_eq!(rt; status, 2);
+        assert_eq!(rt; full.bytes(), b"err".as_slice());
+    }
+    Ok(())
+}
+
 /// Has the given bytes as standard input, and no file.
 #[derive(Drop)]
 struct Given<'a> {

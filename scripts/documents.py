@@ -1,0 +1,134 @@
+#!/usr/bin/env python3
+"""Runs the commands that the documents show, and compares what they print with what is shown.
+
+Usage: documents.py FLOW [DOCUMENT ...]
+
+FLOW is the built `flow`; without a DOCUMENT, README.md and all of docs/ are read. In a block fenced as ```console, a
+line `$ COMMAND` is run by bash, with the lines of its here document, and the lines after it are what it prints, on
+standard output and standard error together. The commands of a document run one after the other in a scratch folder of
+its own, with a copy of examples/ and with FLOW on the PATH as `flow`; `$?` is the status of the command before. In a
+block fenced as ```console checkout, they run in the repository itself, where standard output alone is compared, and
+the repository's path is shown as /path/to/flow. Links to files of the repository must lead somewhere. Each check that
+fails is told; the last line counts them.
+"""
+
+import difflib
+import os
+import pathlib
+import re
+import shutil
+import subprocess
+import sys
+import tempfile
+
+REPOSITORY = pathlib.Path(__file__).resolve().parent.parent
+SHOWN_PATH = "/path/to/flow"
+SECONDS = 600
+
+
+def blocks(text):
+    """The console blocks of a document: the line of each, whether it runs in the checkout, and its lines."""
+    found, inside = [], None
+    for number, line in enumerate(text.split("\n"), 1):
+        fence = re.match(r"```(.*)$", line)
+        if not fence:
+            if inside is not None:
+                inside.append(line)
+        elif inside is None and fence.group(1):
+            inside = []
+            if fence.group(1).split()[0] == "console":
+                found.append((number + 1, fence.group(1).split()[1:] == ["checkout"], inside))
+        elif inside is None:
+            inside = []
+        else:
+            inside = None
+    if inside is not None:
+        raise SystemExit("a block without an end")
+    return found
+
+
+def commands(lines, first):
+    """The commands of a block: the line of each, its text, and what it is shown to print."""
+    found, end = [], None
+    for number, line in enumerate(lines, first):
+        if end is not None:
+            found[-1][1].append(line)
+            end = None if line == end else end
+        elif line.startswith("$ "):
+            found.append((number, [line[2:]], []))
+            here = re.search(r"<< ?'?(\w+)'?", line)
+            end = here.group(1) if here else None
+        elif found:
+            found[-1][2].append(line)
+        else:
+            raise SystemExit(f"line {number}: a console block that doesn't begin with a command")
+    return [(number, "\n".join(text), "".join(f"{line}\n" for line in shown)) for number, text, shown in found]
+
+
+def run(command, status, folder, environment, in_checkout):
+    """Runs a command after one that ended with this status; answers its status and what it printed."""
+    errors = subprocess.DEVNULL if in_checkout else subprocess.STDOUT
+    script = f"(exit {status})\n{command}\n"
+    try:
+        done = subprocess.run(
+            ["bash", "-c", script], cwd=folder, env=environment, stdin=subprocess.DEVNULL, stdout=subprocess.PIPE,
+            stderr=errors, timeout=SECONDS, errors="replace")
+    except subprocess.TimeoutExpired:
+        return 1, f"no end after {SECONDS} seconds\n"
+    return done.returncode, done.stdout.replace(str(REPOSITORY), SHOWN_PATH) if in_checkout else done.stdout
+
+
+def check_commands(document, scratch, flow):
+    """Runs the commands of a document; answers how many printed what is shown, and how many did not."""
+    folder, programs = scratch / "work", scratch / "bin"
+    folder.mkdir()
+    programs.mkdir()
+    (programs / "flow").symlink_to(flow)
+    shutil.copytree(REPOSITORY / "examples", folder / "examples")
+    environment = dict(os.environ, PATH=f"{programs}:{os.environ['PATH']}", LC_ALL="C", PYTHONDONTWRITEBYTECODE="1")
+    passed = failed = 0
+    for first, in_checkout, lines in blocks(document.read_text()):
+        status = 0
+        for number, command, shown in commands(lines, first):
+            place = REPOSITORY if in_checkout else folder
+            status, printed = run(command, status, place, environment, in_checkout)
+            if printed == shown:
+                passed += 1
+                continue
+            failed += 1
+            print(f"failed: {document.relative_to(REPOSITORY)} line {number}: {command}")
+            print("".join(difflib.unified_diff(
+                shown.splitlines(True), printed.splitlines(True), "shown", f"printed, status {status}")))
+    return passed, failed
+
+
+def check_links(document):
+    """Looks for the files that a document links to or shows; answers how many are there, and how many are not."""
+    passed = failed = 0
+    for target in re.findall(r"\]\(([^)#\s]+)(?:#[^)\s]*)?\)", document.read_text()):
+        if re.match(r"[a-z]+:", target):
+            continue
+        if (document.parent / target).exists():
+            passed += 1
+        else:
+            failed += 1
+            print(f"failed: {document.relative_to(REPOSITORY)} links to {target}, which isn't there")
+    return passed, failed
+
+
+def main():
+    flow = pathlib.Path(sys.argv[1]).resolve()
+    named = [pathlib.Path(name).resolve() for name in sys.argv[2:]]
+    documents = named or [REPOSITORY / "README.md", *sorted((REPOSITORY / "docs").glob("*.md"))]
+    passed = failed = 0
+    for document in documents:
+        with tempfile.TemporaryDirectory() as scratch:
+            counts = [check_commands(document, pathlib.Path(scratch), flow), check_links(document)]
+        passed += sum(count[0] for count in counts)
+        failed += sum(count[1] for count in counts)
+    print(f"documents: {passed} passed, {failed} failed")
+    return 1 if failed else 0
+
+
+if __name__ == "__main__":
+    sys.exit(main())

@@ -43,4 +43,7 @@ add pages python3 scripts/pages.py crates/flow/out/flow
 # Each command that the documents show prints what they show.
 add documents python3 scripts/documents.py crates/flow/out/flow
 
+# The generator and the runner of the benchmarks, on tiny problems.
+add bench python3 bench/smoke.py crates/flow/out/flow
+
 echo "$passed passed, 0 failed"

@@ -18,15 +18,17 @@ cd "$(dirname "$0")/.."
 crates=$(sed -n -e 's/^\([a-z_]*\):.*/\1/p' -e '/^flow$/q' crates.txt)
 count=$(wc -l <<< "$crates")
 cat >&2 <<TEXT
-Proving and building flow, since nothing is built that isn't proved. From nothing this takes about five minutes
+Proving and building flow, since nothing is built that isn't proved. From nothing this takes five to ten minutes
 on four cores, and two to three gigabytes of memory; what an earlier run has proved is kept, and taken up.
 TEXT
 
 log=$(mktemp)
 start=$SECONDS
+set -m # a group of processes of its own, to be ended as one
 (cd crates/flow && exec rt run -- solve --value < stdin > "$log" 2>&1) &
 proof=$!
-trap 'kill "$proof" 2> /dev/null || true' EXIT
+set +m
+trap 'kill -- "-$proof" 2> /dev/null || true' EXIT
 
 # Says how far the proof is: at each crate's beginning, and each half minute.
 crate=

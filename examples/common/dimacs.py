@@ -1,0 +1,150 @@
+"""Problems with nodes of any name, and `flow` run on them.
+
+Copy this file beside your own script. It needs Python's standard library and the program `flow`.
+
+    problem = Problem()
+    problem.source("quarry")
+    problem.sink("port")
+    problem.arc("quarry", "mill", 3)
+    problem.arc("mill", "port", 2)
+    flow = Flow()
+    print(flow.value(problem))               # 2
+    print(flow.cut(problem).arcs)            # [('mill', 'port', 2)]
+
+A problem is written in the DIMACS maximum flow format (First DIMACS Implementation Challenge, 1990), which knows
+its nodes by the numbers from 1. This module gives each name the next number when it first hears of it, and gives
+names back.
+"""
+
+import os
+import shutil
+import subprocess
+from collections import namedtuple
+
+GREATEST_CAPACITY = 2 ** 64 - 1
+"""The greatest capacity that an arc line may have."""
+
+Cut = namedtuple("Cut", "value source_side arcs")
+"""A minimum cut: its capacity, the set of names on its source side, and the arcs that leave that set as (from,
+to, capacity)."""
+
+
+class FlowFailed(Exception):
+    """The program refused its input or failed; the text is what it said."""
+
+
+class Problem:
+    """A maximum flow problem. Names may be of any kind that a dict takes: words, numbers, pairs."""
+
+    def __init__(self):
+        self.names = []
+        self.sources = []
+        self.sinks = []
+        self.arcs = []
+        self._numbers = {}
+
+    def node(self, name):
+        """The number of a name, from 1."""
+        if name not in self._numbers:
+            self.names.append(name)
+            self._numbers[name] = len(self.names)
+        return self._numbers[name]
+
+    def name(self, number):
+        """The name of a number; the number may be digits in text."""
+        return self.names[int(number) - 1]
+
+    def source(self, name):
+        """Makes a node a source. A source gives as much as its arcs take."""
+        self.sources.append(self.node(name))
+
+    def sink(self, name):
+        """Makes a node a sink. A sink takes as much as its arcs bring."""
+        self.sinks.append(self.node(name))
+
+    def arc(self, src, dst, capacity):
+        """Adds an arc. Parallel arcs add up."""
+        self.arcs.append((self.node(src), self.node(dst), capacity))
+
+    def link(self, one, other, capacity):
+        """Adds an undirected link: an arc of this capacity each way."""
+        self.arc(one, other, capacity)
+        self.arc(other, one, capacity)
+
+    def infinite(self):
+        """A capacity beyond all arcs so far together: call it when they are all there. A minimum cut has no arc of
+        this capacity, unless no cut can avoid one."""
+        return sum(capacity for _, _, capacity in self.arcs) + 1
+
+    def text(self):
+        """The problem in the DIMACS format."""
+        lines = [f"p max {len(self.names)} {len(self.arcs)}"]
+        lines += [f"n {number} s" for number in self.sources]
+        lines += [f"n {number} t" for number in self.sinks]
+        lines += [f"a {src} {dst} {capacity}" for src, dst, capacity in self.arcs]
+        return "\n".join(lines) + "\n"
+
+    def save(self, path):
+        """Writes the problem into a file, on which `flow` can then be run by hand."""
+        with open(path, "w", encoding="ascii", newline="\n") as file:
+            file.write(self.text())
+
+
+class Flow:
+    """The program `flow`, which answers questions on problems."""
+
+    def __init__(self, program=None):
+        self.program = program or find_program()
+
+    def value(self, problem):
+        """The greatest value of a flow from the sources to the sinks."""
+        return int(self._run(problem, "solve", "--value").split()[1])
+
+    def solve(self, problem):
+        """The greatest value, and a flow for each arc in the order in which the arcs were added.
+
+        There may be many flows of the greatest value, and which of them comes is open.
+        """
+        first, *rest = self._run(problem, "solve").splitlines()
+        return int(first.split()[1]), [int(line.split()[3]) for line in rest]
+
+    def cut(self, problem, sink=False):
+        """The minimum cut nearest the sources, or with `sink` the one nearest the sinks. Each problem has one of
+        either."""
+        words = ["cut", "--arcs"] + (["--sink"] if sink else [])
+        value, source_side, arcs = 0, set(), []
+        for line in self._run(problem, *words).splitlines():
+            kind, *fields = line.split()
+            if kind == "s":
+                value = int(fields[0])
+            elif kind == "n":
+                source_side.add(problem.name(fields[0]))
+            else:
+                src, dst, capacity = fields
+                arcs.append((problem.name(src), problem.name(dst), int(capacity)))
+        return Cut(value, source_side, arcs)
+
+    def connectivity(self, problem, undirected=False, pair=False):
+        """The least number of arcs whose loss splits the network; with `pair` the sources from the sinks.
+
+        With `undirected` an arc is a link in both directions, and is to be added once, by `arc`. Capacities play no
+        part.
+        """
+        words = ["connect"] + (["--undirected"] if undirected else []) + (["--pair"] if pair else [])
+        return int(self._run(problem, *words).split()[1])
+
+    def _run(self, problem, *words):
+        done = subprocess.run([self.program, *words], input=problem.text(), capture_output=True, text=True, check=False)
+        if done.returncode != 0:
+            raise FlowFailed(done.stderr.strip() or f"flow ended with status {done.returncode}")
+        return done.stdout
+
+
+def find_program():
+    """The path of `flow`: `bin/flow` of the repository that this file lies in, or else the one on the PATH."""
+    root = os.path.dirname(os.path.dirname(os.path.dirname(os.path.abspath(__file__))))
+    built = os.path.join(root, "bin", "flow")
+    found = built if os.access(built, os.X_OK) else shutil.which("flow")
+    if found is None:
+        raise FlowFailed("the program flow was not found; bash scripts/install.sh bin builds it, --flow names it")
+    return found

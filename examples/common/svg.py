@@ -1,0 +1,61 @@
+"""Drawings in SVG: shapes, lines and text put one over the other. The same calls give the same bytes."""
+
+from xml.sax.saxutils import escape, quoteattr
+
+# Okabe and Ito's colours, which those who confuse red with green can tell apart.
+BLACK, ORANGE, SKY, GREEN = "#222222", "#E69F00", "#56B4E9", "#009E73"
+YELLOW, BLUE, RED, PURPLE = "#F0E442", "#0072B2", "#D55E00", "#CC79A7"
+WHITE, PALE, GREY, DARK = "#FFFFFF", "#EEF0F2", "#B4BAC0", "#5A6168"
+
+FONT = "DejaVu Sans, Verdana, Helvetica, Arial, sans-serif"
+
+
+class Drawing:
+    """A drawing of so many units in width and height, white at first. The origin is the upper left corner."""
+
+    def __init__(self, width, height, title):
+        self.lines = [
+            f'<svg xmlns="http://www.w3.org/2000/svg" viewBox="0 0 {width} {height}" width="{width}" height="{height}"'
+            f' font-family="{FONT}">',
+            f"<title>{escape(title)}</title>",
+        ]
+        self.rect(0, 0, width, height, fill=WHITE)
+
+    def rect(self, x, y, width, height, **style):
+        self._shape("rect", x=x, y=y, width=width, height=height, **style)
+
+    def circle(self, x, y, radius, **style):
+        self._shape("circle", cx=x, cy=y, r=radius, **style)
+
+    def line(self, start, end, colour, width, **style):
+        self._shape("line", x1=start[0], y1=start[1], x2=end[0], y2=end[1], stroke=colour, stroke_width=width,
+                    stroke_linecap="round", **style)
+
+    def polygon(self, points, **style):
+        self._shape("polygon", points=" ".join(f"{_number(x)},{_number(y)}" for x, y in points), **style)
+
+    def text(self, x, y, words, size=13, colour=BLACK, **style):
+        """Text with its baseline at y. `text_anchor` is start (as here), middle or end."""
+        attributes = _attributes(dict(x=x, y=y, font_size=size, fill=colour, **style))
+        self.lines.append(f"<text{attributes}>{escape(words)}</text>")
+
+    def label(self, x, y, words, size=13, colour=BLACK, **style):
+        """Text with a white rim, to be read over lines."""
+        rim = dict(stroke=WHITE, stroke_width=4, stroke_linejoin="round", paint_order="stroke")
+        self.text(x, y, words, size, colour, **rim, **style)
+
+    def save(self, path):
+        with open(path, "w", encoding="utf-8", newline="\n") as file:
+            file.write("\n".join(self.lines + ["</svg>"]) + "\n")
+
+    def _shape(self, name, **attributes):
+        self.lines.append(f"<{name}{_attributes(attributes)}/>")
+
+
+def _attributes(values):
+    return "".join(f" {key.replace('_', '-')}={quoteattr(_number(value))}" for key, value in values.items())
+
+
+def _number(value):
+    """A number with at most one digit after the point; text as it is."""
+    return f"{value:.1f}".removesuffix(".0") if isinstance(value, float) else str(value)

@@ -1,0 +1,323 @@
+#!/usr/bin/env python3
+"""Tries `flow` as a flow function of NetworkX: by NetworkX's own tests, and side by side with its functions.
+
+    python3 examples/networkx/try_networkx.py [PROGRAM]
+
+PROGRAM is `flow`; else it is looked for as flow_networkx.py says. NetworkX's tests are those of the installed
+package, with `flow` in place of the flow functions that they try; a test counts where it calls `flow`. They want a
+few calls of `pytest`; where that isn't installed, those few are stood in for here. The last line is `networkx: N
+passed, M failed`, or `networkx: 0 passed, 0 failed, skipped: NetworkX isn't installed`.
+"""
+
+import contextlib
+import importlib
+import inspect
+import os
+import random
+import sys
+import types
+from decimal import Decimal
+from fractions import Fraction
+
+try:
+    import networkx as nx
+except ImportError:
+    print("networkx: 0 passed, 0 failed, skipped: NetworkX isn't installed")
+    sys.exit(0)
+
+import flow_networkx
+from flow_networkx import flow
+
+THEIR_TESTS = (
+    "networkx.algorithms.flow.tests.test_maxflow",
+    "networkx.algorithms.flow.tests.test_maxflow_large_graph",
+    "networkx.algorithms.flow.tests.test_gomory_hu",
+    "networkx.algorithms.connectivity.tests.test_connectivity",
+    "networkx.algorithms.connectivity.tests.test_cuts",
+    "networkx.algorithms.connectivity.tests.test_disjoint_paths",
+)
+REPLACED = ("boykov_kolmogorov", "dinitz", "edmonds_karp")
+"""NetworkX's functions that tests call by name with parameters that `flow` has too."""
+NOT_OURS = {"TestMaxFlowMinCutInterface.test_minimum_cut_no_cutoff", "test_brandes_erlebach", "test_cutoff"}
+"""Tests that ask of NetworkX 2 what it does with a cutoff for its own functions alone: it hands it to no other."""
+SEED = 1970
+
+
+class Count:
+    """What passed and what failed."""
+
+    def __init__(self):
+        self.passed = 0
+        self.failed = 0
+
+    def try_(self, name, test):
+        """Runs a test, and tells one that fails."""
+        try:
+            test()
+            self.passed += 1
+        except KeyboardInterrupt:
+            raise
+        except BaseException as failure:  # pytest's own failures are no Exceptions
+            self.failed += 1
+            print(f"networkx: {name} failed: {type(failure).__name__}: {failure}")
+
+
+def their_tests(count):
+    """NetworkX's own tests, with `flow` in place of its functions."""
+    if importlib.util.find_spec("pytest") is None:
+        sys.modules["pytest"] = stand_in_for_pytest()
+    calls = []
+
+    def counted(*words, **named):
+        calls.append(words)
+        return flow(*words, **named)
+
+    counted.__name__ = "flow"
+    for name in THEIR_TESTS:
+        module = importlib.import_module(name)
+        module.flow_funcs = [counted]
+        if hasattr(module, "interface_funcs"):
+            module.all_funcs = {counted} | module.interface_funcs
+        for replaced in REPLACED:
+            setattr(module, replaced, counted)
+        for test_name, test in tests_of(module):
+            if nx.__version__.startswith("2.") and test_name in NOT_OURS:
+                continue
+            before = Count()
+            calls.clear()
+            before.try_(f"{name}.{test_name}", test)
+            if calls:
+                count.passed += before.passed
+                count.failed += before.failed
+
+
+def tests_of(module):
+    """The tests of a module, functions and methods, as pytest finds them."""
+    for name, thing in list(vars(module).items()):
+        if name.startswith("test") and inspect.isfunction(thing):
+            yield name, thing
+        elif name.startswith("Test") and inspect.isclass(thing):
+            for method in dir(thing):
+                if method.startswith("test"):
+                    yield f"{name}.{method}", lambda case=thing, method=method: run_method(case, method)
+
+
+def run_method(case, name):
+    instance = case()
+    for prepare in ("setup_class", "setup_method"):
+        if hasattr(instance, prepare):
+            getattr(instance, prepare)()
+    getattr(instance, name)()
+
+
+def stand_in_for_pytest():
+    """The calls of pytest that those tests make."""
+    module = types.ModuleType("pytest")
+    module.raises = raises
+    module.mark = types.SimpleNamespace(slow=lambda test: test)
+    module.approx = lambda value, abs: Near(value, abs)
+    return module
+
+
+class Near:
+    """A number that equals each number near it."""
+
+    def __init__(self, value, distance):
+        self.value = value
+        self.distance = distance
+
+    def __eq__(self, other):
+        return abs(self.value - other) <= self.distance
+
+
+def raises(expected, function=None, *words, **named):
+    """Calls a function, which has to raise; or without a function a context that has to."""
+    if function is None:
+        return raising(expected)
+    with raising(expected):
+        return function(*words, **named)
+
+
+@contextlib.contextmanager
+def raising(expected):
+    try:
+        yield
+    except expected:
+        return
+    raise AssertionError(f"{expected.__name__} was to be raised")
+
+
+def side_by_side(graph, s, t, capacity="capacity"):
+    """All four calls of NetworkX answer the same by `flow` as by NetworkX's own function."""
+    try:
+        value, (_, sink_side) = nx.minimum_cut(graph, s, t, capacity=capacity)
+    except nx.NetworkXUnbounded:
+        for call in (nx.maximum_flow, nx.maximum_flow_value, nx.minimum_cut, nx.minimum_cut_value):
+            raises(nx.NetworkXUnbounded, call, graph, s, t, capacity=capacity, flow_func=flow)
+        return
+    found, flows = nx.maximum_flow(graph, s, t, capacity=capacity, flow_func=flow)
+    assert found == value, (found, value)
+    assert nx.maximum_flow_value(graph, s, t, capacity=capacity, flow_func=flow) == value
+    assert nx.minimum_cut_value(graph, s, t, capacity=capacity, flow_func=flow) == value
+    # NetworkX tells the minimum cut of the least sink side, which the graph alone determines.
+    sides = set(graph) - sink_side, sink_side
+    assert nx.minimum_cut(graph, s, t, capacity=capacity, flow_func=flow) == (value, sides)
+    assert_feasible(graph, s, t, capacity, value, flows)
+
+
+def assert_feasible(graph, s, t, capacity, value, flows):
+    """A dict of flows fits the graph, keeps to its capacities, and has the value."""
+    gain = dict.fromkeys(graph, 0)
+    assert set(flows) == set(graph)
+    for u, row in flows.items():
+        assert set(row) == set(graph[u])
+        for v, amount in row.items():
+            assert 0 <= amount <= max(graph[u][v].get(capacity, float("inf")), 0)
+            gain[u] -= amount
+            gain[v] += amount
+    assert gain.pop(s) == -value and gain.pop(t) == value and not any(gain.values())
+
+
+def random_graph(chance, kind, amounts):
+    """A graph of 2 to 8 nodes with self-loops, opposite edges, and edges without capacity."""
+    graph, nodes = kind(), int(2 + 7 * chance.random())
+    graph.add_nodes_from(range(nodes))
+    for _ in range(int(3 * nodes * chance.random())):
+        u, v = int(nodes * chance.random()), int(nodes * chance.random())
+        graph.add_edge(u, v)
+        if chance.random() < 0.9:
+            graph[u][v]["capacity"] = amounts[int(len(amounts) * chance.random())]
+    return graph
+
+
+def random_graphs(kind, amounts):
+    chance = random.Random(SEED)
+    for _ in range(60):
+        side_by_side(random_graph(chance, kind, amounts), 0, 1)
+
+
+def nodes_of_any_kind():
+    path = ["s", 7, 2.5, (1, "two"), frozenset({3}), int, "with blanks\nand lines", b"t"]
+    graph = nx.DiGraph()
+    for place, (u, v) in enumerate(zip(path, path[1:])):
+        graph.add_edge(u, v, capacity=9 - place)
+    side_by_side(graph, "s", b"t")
+
+
+def attribute_of_another_name():
+    graph = nx.DiGraph()
+    graph.add_edge("s", "t", weight=4, capacity=1)
+    side_by_side(graph, "s", "t", capacity="weight")
+
+
+def infinite_capacities():
+    graph = nx.DiGraph()
+    graph.add_edge("s", "a", capacity=float("inf"))
+    graph.add_edge("a", "t", capacity=2)
+    graph.add_edge("a", "b")
+    graph.add_edge("b", "t", capacity=3)
+    side_by_side(graph, "s", "t")
+    graph.add_edge("b", "t")
+    graph["b"]["t"].pop("capacity")
+    side_by_side(graph, "s", "t")
+
+
+def refused_graphs():
+    for kind in (nx.MultiGraph, nx.MultiDiGraph):
+        graph = kind([(0, 1), (0, 1)])
+        raises(nx.NetworkXError, nx.maximum_flow, graph, 0, 1, flow_func=flow)
+    graph = nx.DiGraph([(0, 1)])
+    raises(nx.NetworkXError, flow, graph, 0, 0)
+    raises(nx.NetworkXError, flow, graph, 0, 2)
+    raises(nx.NetworkXError, flow, graph, 2, 0)
+
+
+def great_capacities():
+    # By hand: two edges of 10^21 in a row and one of 2^64 beside them, each more than a line of a problem takes.
+    graph = nx.DiGraph()
+    nx.add_path(graph, "sat", capacity=10 ** 21)
+    graph.add_edge("s", "t", capacity=2 ** 64)
+    assert nx.maximum_flow_value(graph, "s", "t", flow_func=flow) == 10 ** 21 + 2 ** 64
+    side_by_side(graph, "s", "t")
+    graph["s"]["t"]["capacity"] = 10 ** 30
+    raises(nx.NetworkXError, flow, graph, "s", "t")
+
+
+def kinds_of_answers():
+    # By hand: a third and a sixth are a half; three floats 0.1 are the float nearest to three times what 0.1 stands
+    # for.
+    for amounts, value, kind in (
+        ((1, 2), 3, int),
+        ((Fraction(1, 3), Fraction(1, 6)), Fraction(1, 2), Fraction),
+        ((Decimal("0.1"), Decimal("0.2")), Fraction(3, 10), Fraction),
+        ((0.1, 0.1, 0.1), float(3 * Fraction(0.1)), float),
+        ((0.5, 1), 1.5, float),
+    ):
+        graph = nx.DiGraph()
+        for node, amount in enumerate(amounts):
+            nx.add_path(graph, ("s", node, "t"), capacity=amount)
+        found = nx.maximum_flow_value(graph, "s", "t", flow_func=flow)
+        assert found == value and type(found) is kind, (amounts, found)
+    graph = nx.DiGraph()
+    nx.add_path(graph, "sat", capacity=1e300)
+    nx.add_path(graph, "sbt", capacity=1e-300)
+    raises(nx.NetworkXError, flow, graph, "s", "t")
+
+
+def cut_of_floats_is_exact():
+    # By hand: 0.1 + 0.2 is more than 0.3 where each is what its float stands for, so the cut is the last edge alone.
+    graph = nx.DiGraph()
+    graph.add_edge("s", "a", capacity=0.1)
+    graph.add_edge("s", "b", capacity=0.2)
+    graph.add_edge("a", "c")
+    graph.add_edge("b", "c")
+    graph.add_edge("c", "t", capacity=0.3)
+    assert nx.minimum_cut(graph, "s", "t", flow_func=flow) == (0.3, ({"s", "a", "b", "c"}, {"t"}))
+
+
+def cutoffs():
+    graph = nx.complete_graph(5)
+    nx.set_edge_attributes(graph, 3, "capacity")
+    # By hand: the value is 12, four edges of 3 at node 0.
+    for cutoff, value in ((None, 12), (float("inf"), 12), (20, 12), (7, 7), (6.5, 7), (0, 0), (-1, 0)):
+        assert nx.maximum_flow_value(graph, 0, 4, flow_func=flow, cutoff=cutoff) == value, cutoff
+
+
+def residual_network():
+    graph = nx.DiGraph()
+    graph.add_edge("s", "a", capacity=3)
+    graph.add_edge("a", "s", capacity=1)
+    graph.add_edge("a", "t", capacity=2)
+    R = flow(graph, "s", "t")
+    assert flow(graph, "s", "t", residual=R) is R
+    assert set(R.edges) == {("s", "a"), ("a", "s"), ("a", "t"), ("t", "a")}
+    assert R.graph == {"inf": 18, "flow_value": 2, "algorithm": "flow"}
+    assert all(R[u][v]["flow"] == -R[v][u]["flow"] for u, v in R.edges)
+    assert R["s"]["a"] == {"capacity": 3, "flow": 2} and R["t"]["a"] == {"capacity": 0, "flow": -2}
+
+
+def missing_program():
+    raises((nx.NetworkXError, OSError), flow, nx.DiGraph([(0, 1, {"capacity": 1})]), 0, 1, program="/no/such/program")
+
+
+def main():
+    if len(sys.argv) > 1:
+        os.environ["FLOW"] = os.path.abspath(sys.argv[1])
+    flow_networkx.find_program()
+    count = Count()
+    their_tests(count)
+    print(f"networkx: {count.passed} of NetworkX's own tests passed, {count.failed} failed (NetworkX {nx.__version__})")
+    whole, halves = (0, 1, 2, 3, 5, 8, 10 ** 12, -1), (0.0, 0.25, 0.5, 1.5, 3, -0.5)
+    count.try_("random directed graphs", lambda: random_graphs(nx.DiGraph, whole))
+    count.try_("random undirected graphs", lambda: random_graphs(nx.Graph, whole))
+    count.try_("random graphs of floats", lambda: random_graphs(nx.DiGraph, halves))
+    count.try_("random graphs of fractions", lambda: random_graphs(nx.Graph, (Fraction(1, 3), Fraction(5, 7), 2)))
+    for test in (nodes_of_any_kind, attribute_of_another_name, infinite_capacities, refused_graphs, great_capacities,
+                 kinds_of_answers, cut_of_floats_is_exact, cutoffs, residual_network, missing_program):
+        count.try_(test.__name__.replace("_", " "), test)
+    print(f"networkx: {count.passed} passed, {count.failed} failed")
+    sys.exit(1 if count.failed else 0)
+
+
+if __name__ == "__main__":
+    main()

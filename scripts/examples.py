@@ -320,12 +320,31 @@ def small_redundancy(checks, flow, scratch):
         "of 2 new links 0 help, so that 3 must fail"])
 
 
-def without_program(checks, scratch):
-    """Where the program is missing or refuses, an example says so in a line."""
-    missing = os.path.join(scratch, "none")
-    status, words, complaint = python("examples/roads/roads.py", "--flow", missing, "--out", scratch)
-    checks.equal("roads: without the program", (status, words, complaint.count("\n")), (1, "", 1))
-    checks.equal("roads: without the program, who complains", complaint.startswith("roads.py: "), True)
+def complaints(checks, flow, scratch):
+    """Where the program is missing or refuses, or the data isn't as it has to be, an example says so in a line."""
+    def complaint(name, program=flow, **files):
+        for file, text in files.items():
+            write(scratch, f"{file}.csv", text)
+        status, words, said = python(os.path.join("examples", name, COMMANDS[name]), "--flow", program,
+                                     "--data", scratch if files else os.path.join(EXAMPLES, name), "--out", scratch)
+        checks.equal(f"{name}: a complaint", (status, words, said.count("\n")), (1, "", 1))
+        return said
+
+    said = complaint("roads", program=os.path.join(scratch, "none"))
+    checks.equal("roads: without the program", said.startswith("roads.py: ") and "none" in said, True)
+    places, roads = "place,x,y,name,role\nA,1,1,,source\nB,2,2,,sink\n", "one,other,vehicles,name\nA,B,"
+    checks.equal("roads: a column is missing", complaint("roads", places=places, roads="one,other\nA,B\n"),
+                 "roads.py: roads.csv has no column vehicles\n")
+    checks.equal("roads: the program refuses", complaint("roads", places=places, roads=roads + f"{2 ** 64},\n"),
+                 "roads.py: flow: line 4: capacity out of range\n")
+    people, shifts = "person,most,can\nIda,2,Mon b\n", "shift,places\nMon a,2\n"
+    checks.equal("scheduling: no such shift", complaint("scheduling", people=people, shifts=shifts),
+                 "schedule.py: the data names 'Mon b', which it doesn't describe\n")
+    checks.equal("roads: no such place", complaint("roads", places=places, roads=roads + "1,\nA,C,1,\n"),
+                 "roads.py: the data names 'C', which it doesn't describe\n")
+    checks.equal("redundancy: no such site",
+                 complaint("redundancy", sites="site,x,y\nA,1,1\nB,2,2\n", links="one,other\nA,B\nA,C\n"),
+                 "redundancy.py: the data names 'C', which it doesn't describe\n")
 
 
 def common_module(checks, flow):
@@ -380,7 +399,7 @@ def main():
             if networkx:
                 by_networkx[name](checks, words, scratch)
             small[name](checks, flow, os.path.join(folder, f"small {name}"))
-        without_program(checks, folder)
+        complaints(checks, flow, os.path.join(folder, "complaints"))
     common_module(checks, flow)
     networkx_function(checks, flow)
     print(f"examples: {checks.passed} passed, {checks.failed} failed")

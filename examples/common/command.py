@@ -1,6 +1,7 @@
 """What the commands of the examples share: their three options, and the folders that they read from and write to."""
 
 import argparse
+import csv
 import os
 import sys
 
@@ -27,15 +28,32 @@ class Example:
         """The path of a file of the example's data."""
         return os.path.join(self.data, name)
 
+    def rows(self, name, *columns):
+        """The rows of a CSV file of the data, each a dict from column to text; it has to have these columns."""
+        with open(self.input(name), newline="", encoding="utf-8") as file:
+            reader = csv.DictReader(file)
+            missing = [column for column in columns if column not in (reader.fieldnames or [])]
+            if missing:
+                raise ValueError(f"{name} has no column {missing[0]}")
+            return list(reader)
+
     def output(self, name):
         """The path of a file to be written."""
         os.makedirs(self.out, exist_ok=True)
         return os.path.join(self.out, name)
 
 
+def check_known(names, known):
+    """Raises ValueError where a name isn't a known one."""
+    for name in names:
+        if name not in known:
+            raise ValueError(f"the data names '{name}', which it doesn't describe")
+
+
 def run(main):
-    """Runs an example's `main`; where the program isn't found or refuses, says so in one line."""
+    """Runs an example's `main`; where the data or the program isn't as it has to be, says so in one line."""
+    script = os.path.basename(sys.argv[0])
     try:
         main()
-    except (FlowFailed, OSError) as failure:
-        sys.exit(f"{os.path.basename(sys.argv[0])}: {failure}")
+    except (FlowFailed, OSError, ValueError) as failure:
+        sys.exit(f"{script}: {failure}")

@@ -21,9 +21,6 @@ import shutil
 import subprocess
 from collections import namedtuple
 
-GREATEST_CAPACITY = 2 ** 64 - 1
-"""The greatest capacity that an arc line may have."""
-
 Cut = namedtuple("Cut", "value source_side arcs")
 """A minimum cut: its capacity, the set of names on its source side, and the arcs that leave that set as (from,
 to, capacity)."""

@@ -7,8 +7,8 @@
     value, (one_side, other_side) = nx.minimum_cut(G, s, t, flow_func=flow)
 
 Copy this file beside your own script. It needs NetworkX and the program `flow`, which is looked for where the
-keyword `program` says, then where the environment variable FLOW says, then on the PATH, then in `bin/flow` of the
-repository that this file lies in.
+keyword `program` says, then where the environment variable FLOW says, then in `bin/flow` of the repository that
+this file lies in, then on the PATH.
 
 What a graph means is decided by NetworkX's own `build_residual_network`, so it is as with NetworkX's flow
 functions: nodes of any kind, directed graphs and undirected ones, an edge without capacity is infinite, self-loops
@@ -74,7 +74,7 @@ def flow(G, s, t, capacity="capacity", residual=None, value_only=False, cutoff=N
         units = flows.get((numbers[u], numbers[v]), 0) - flows.get((numbers[v], numbers[u]), 0)
         ends = (u, v) if units >= 0 else (v, u)
         amount = edge_flow(abs(units), arcs.get(ends, 0), scale, kind)
-        R.edges[ends]["flow"], R.edges[ends[::-1]]["flow"] = amount, -amount
+        R.edges[ends]["flow"], R.edges[ends[::-1]]["flow"] = amount, 0 - amount
     R.graph["flow_value"] = in_kind(Fraction(value, scale), kind)
     R.graph["algorithm"] = "flow"
     return R
@@ -157,10 +157,10 @@ class Problem:
 
 
 def find_program():
-    """The path of `flow`: what FLOW says, or the one on the PATH, or `bin/flow` of the repository that this file
-    lies in."""
+    """The path of `flow`: what FLOW says, or `bin/flow` of the repository that this file lies in, or the one on the
+    PATH."""
     root = os.path.dirname(os.path.dirname(os.path.dirname(os.path.abspath(__file__))))
-    found = os.environ.get("FLOW") or shutil.which("flow") or shutil.which(os.path.join(root, "bin", "flow"))
+    found = os.environ.get("FLOW") or shutil.which(os.path.join(root, "bin", "flow")) or shutil.which("flow")
     if found is None:
         raise nx.NetworkXError("the program flow was not found; name it by the keyword program or by the variable FLOW")
     return found

@@ -7,7 +7,6 @@ It reads sites.csv, whose first site is the hub, and links.csv, runs `flow conne
 network. README.md tells the model. All that is drawn is determined by the links alone.
 """
 
-import csv
 import os
 import sys
 from itertools import combinations
@@ -22,11 +21,6 @@ from dimacs import Problem
 STYLES = {1: (svg.BLACK, svg.WHITE), 2: (svg.RED, svg.WHITE), 3: (svg.YELLOW, svg.BLACK), 4: (svg.SKY, svg.BLACK)}
 """The colours of a site and of its number, by how many links must fail; five and more are as MANY."""
 MANY = (svg.BLUE, svg.WHITE)
-
-
-def read(path):
-    with open(path, newline="", encoding="utf-8") as file:
-        return list(csv.DictReader(file))
 
 
 def links_once(sites, links, source, sink):
@@ -126,8 +120,9 @@ def draw_legend(drawing, hub, numbers):
 
 def main():
     example = command.Example(__file__, "Finds the weakest links of a network.")
-    spots = {row["site"]: (int(row["x"]), int(row["y"])) for row in read(example.input("sites.csv"))}
-    links = [(row["one"], row["other"]) for row in read(example.input("links.csv"))]
+    spots = {row["site"]: (int(row["x"]), int(row["y"])) for row in example.rows("sites.csv", "site", "x", "y")}
+    links = [(row["one"], row["other"]) for row in example.rows("links.csv", "one", "other")]
+    command.check_known((site for link in links for site in link), spots)
     sites, flow = list(spots), example.flow
     network = links_once(sites, links, *sites[:2])
     network.save(example.output("network.max"))

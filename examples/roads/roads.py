@@ -8,7 +8,6 @@ README.md tells the model. Both cuts are determined by the roads alone, so the m
 finds them.
 """
 
-import csv
 import os
 import sys
 
@@ -24,11 +23,6 @@ MORE = 500
 GROUND = {"land": "#F6F4EE", "water": "#DCEBF3"}
 STYLES = {"first": (svg.ORANGE, "9 6"), "last": (svg.BLUE, "2 7"), "both": (svg.RED, "none")}
 """For each kind of bottleneck road its colour and its dashes, so that it can be told without colours too."""
-
-
-def read(path):
-    with open(path, newline="", encoding="utf-8") as file:
-        return list(csv.DictReader(file))
 
 
 def problem_of(places, roads, upgraded=None):
@@ -122,8 +116,10 @@ def draw_legend(drawing):
 
 def main():
     example = command.Example(__file__, "Finds the bottleneck of a road network.")
-    places, roads = read(example.input("places.csv")), read(example.input("roads.csv"))
-    areas = read(example.input("areas.csv")) if os.path.exists(example.input("areas.csv")) else []
+    places = example.rows("places.csv", "place", "x", "y", "name", "role")
+    roads = example.rows("roads.csv", "one", "other", "vehicles", "name")
+    command.check_known((road[end] for road in roads for end in ("one", "other")), {place["place"] for place in places})
+    areas = example.rows("areas.csv", "ground", "corners") if os.path.exists(example.input("areas.csv")) else []
     problem = problem_of(places, roads)
     problem.save(example.output("roads.max"))
     near_sources, near_sinks = example.flow.cut(problem), example.flow.cut(problem, sink=True)

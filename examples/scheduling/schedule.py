@@ -11,7 +11,6 @@ where some best roster has it beside all that were kept before. Only values and 
 the same with every version.
 """
 
-import csv
 import os
 import sys
 
@@ -26,11 +25,6 @@ CELL, LEFT, TOP = 50, 120, 118
 SHORT = "#FBE5D6"
 
 
-def read(path):
-    with open(path, newline="", encoding="utf-8") as file:
-        return list(csv.DictReader(file))
-
-
 class Week:
     """The people and shifts: who can work when, how often at most, and how many places a shift has."""
 
@@ -38,6 +32,7 @@ class Week:
         self.most = {row["person"]: int(row["most"]) for row in people}
         self.can = {row["person"]: row["can"].split(";") for row in people}
         self.places = {row["shift"]: int(row["places"]) for row in shifts}
+        command.check_known((shift for can in self.can.values() for shift in can if shift), self.places)
         self.days = list(dict.fromkeys(day_of(shift) for shift in self.places))
 
     def pairs(self):
@@ -164,7 +159,7 @@ def draw_legend(drawing, y):
 
 def main():
     example = command.Example(__file__, "Gives the shifts of a week to people.")
-    week = Week(read(example.input("people.csv")), read(example.input("shifts.csv")))
+    week = Week(example.rows("people.csv", "person", "most", "can"), example.rows("shifts.csv", "shift", "places"))
     problem = problem_of(week)
     problem.save(example.output("roster.max"))
     near_sources, near_sinks = example.flow.cut(problem), example.flow.cut(problem, sink=True)

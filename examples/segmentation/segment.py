@@ -8,7 +8,6 @@ cut` on both. README.md tells the model. It asks for a minimum cut, so the resul
 finds it.
 """
 
-import csv
 import os
 import sys
 
@@ -22,29 +21,29 @@ from dimacs import Problem
 STEP = 900
 """The squared difference of colours at which an outline between two pixels costs half of what it costs in flat
 ground."""
-EDGE = 7000
-"""What the outline costs in flat ground, for each side of a pixel."""
 BRUSH = 1
 """The radius of a stroke."""
-NEIGHBOURS = {4: [(1, 0, 1.0), (0, 1, 1.0)], 8: [(1, 0, 0.5), (0, 1, 0.5), (1, 1, 0.35), (-1, 1, 0.35)]}
-"""Half of a pixel's neighbours (right, down and the diagonals below), and the part of EDGE that a link to each
-costs."""
+NEIGHBOURS = {4: [(1, 0, 7000), (0, 1, 7000)], 8: [(1, 0, 3500), (0, 1, 3500), (1, 1, 2450), (-1, 1, 2450)]}
+"""Half of a pixel's neighbours (right, down and the diagonals below), and what an outline across the link to each
+costs in flat ground."""
 OBJECT, BACKGROUND = "object", "background"
 BLUE, ORANGE, WHITE = (0, 114, 178), (230, 159, 0), (255, 255, 255)
 
 
-def read_strokes(path):
+def marked_by(strokes, picture):
     """The pixels of the strokes: a dict from what they mark to the set of pixels."""
     marked = {OBJECT: set(), BACKGROUND: set()}
-    with open(path, newline="", encoding="utf-8") as file:
-        for row in csv.DictReader(file):
-            ends = [int(row[key]) for key in ("x", "y", "to_x", "to_y")]
-            marked[row["what"]].update(stroke(*ends))
+    command.check_known((row["what"] for row in strokes), marked)
+    for row in strokes:
+        ends = [int(row[key]) for key in ("x", "y", "to_x", "to_y")]
+        marked[row["what"]] |= {(x, y) for x, y in stroke(*ends) if 0 <= x < picture.width and 0 <= y < picture.height}
+    if not all(marked.values()):
+        raise ValueError("strokes of both object and background are needed")
     return marked
 
 
 def stroke(x, y, to_x, to_y):
-    """The pixels of a thick line."""
+    """The points of a thick line."""
     steps = max(abs(to_x - x), abs(to_y - y), 1)
     points = [(x + (to_x - x) * step // steps, y + (to_y - y) * step // steps) for step in range(steps + 1)]
     around = range(-BRUSH, BRUSH + 1)
@@ -77,19 +76,19 @@ def problem_of(picture, marked, costs, links):
         problem.source(pixel)
     for pixel in sorted(marked[BACKGROUND]):
         problem.sink(pixel)
-    for pixel, cost in costs.items():
+    for pixel, unlike in costs.items():
         # Being background is cut off from the object, and costs what the colour is unlike the background; and so
         # the other.
-        more = cost[BACKGROUND] - cost[OBJECT]
+        more = unlike[BACKGROUND] - unlike[OBJECT]
         if more > 0:
             problem.arc(OBJECT, pixel, more)
         elif more < 0:
             problem.arc(pixel, BACKGROUND, -more)
     for x, y in costs:
-        for dx, dy, part in links:
+        for dx, dy, cost in links:
             if (x + dx, y + dy) in costs:
                 unlike = difference(picture.pixels[y][x], picture.pixels[y + dy][x + dx])
-                problem.link((x, y), (x + dx, y + dy), int(EDGE * part) * STEP // (STEP + unlike))
+                problem.link((x, y), (x + dx, y + dy), cost * STEP // (STEP + unlike))
     return problem
 
 
@@ -141,8 +140,8 @@ def side_by_side(images, factor, gap):
 
 def main():
     example = command.Example(__file__, "Cuts a pear out of a picture.")
-    picture, marked = read_picture(example.input("picture.png")), read_strokes(example.input("strokes.csv"))
-    truth = read_truth(example.input("truth.png"))
+    picture, truth = read_picture(example.input("picture.png")), read_truth(example.input("truth.png"))
+    marked = marked_by(example.rows("strokes.csv", "what", "x", "y", "to_x", "to_y"), picture)
     costs = colour_costs(picture, marked)
     by_colour = {pixel for pixel, cost in costs.items() if cost[OBJECT] < cost[BACKGROUND]}
     print(f"by colour alone: {told(by_colour, costs, truth)}")

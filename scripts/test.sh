@@ -45,6 +45,7 @@ add documents python3 scripts/documents.py crates/flow/out/flow
 
 # The generator and the runner of the benchmarks, on tiny problems.
 add bench python3 bench/smoke.py crates/flow/out/flow
+
 # The examples say and draw what is committed, and their numbers are those found in other ways.
 add examples python3 scripts/examples.py crates/flow/out/flow
 

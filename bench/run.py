@@ -13,6 +13,7 @@ import re
 import resource
 import shlex
 import shutil
+import signal
 import subprocess
 import sys
 import tempfile
@@ -132,7 +133,7 @@ def limits(seconds):
 
 
 def measured(solver, problem, seconds):
-    """The processor time, user and system, of one run, and its value, nothing where it was stopped or failed."""
+    """The processor time, user and system, of one run, and its value, or in words why it has none."""
     with tempfile.TemporaryFile('w+') as out:
         started = subprocess.Popen([*solver.words, str(problem)], stdout=out, stderr=subprocess.STDOUT,
                                    stdin=subprocess.DEVNULL, preexec_fn=lambda: limits(seconds))
@@ -140,6 +141,8 @@ def measured(solver, problem, seconds):
         started.returncode = os.waitstatus_to_exitcode(status)
         out.seek(0)
         value = solver.value(out.read()) if started.returncode == 0 else None
+    if value is None:
+        value = 'time' if -started.returncode in (signal.SIGXCPU, signal.SIGKILL) else 'failed'
     return used.ru_utime + used.ru_stime, value
 
 
@@ -175,8 +178,8 @@ def measure(problem, solvers, repeat, seconds):
             if solver.name in problem.stopped or (least and turn > 0 and least > seconds / 4):
                 continue
             took, value = measured(solver, problem.path, seconds)
-            if value is None:
-                problem.stopped[solver.name] = 'time' if took >= seconds else 'failed'
+            if isinstance(value, str):
+                problem.stopped[solver.name] = value
                 continue
             problem.values[solver.name] = value
             problem.times[solver.name] = min(took, least or took)

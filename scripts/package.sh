@@ -40,9 +40,9 @@ put 644 completions/flow.bash usr/share/bash-completion/completions/flow
 put 644 completions/_flow usr/share/zsh/vendor-completions/_flow
 put 644 completions/flow.fish usr/share/fish/vendor_completions.d/flow.fish
 put 644 CHANGELOG.md usr/share/doc/flow/NEWS.md
-put 644 examples/four_nodes.max usr/share/doc/flow/examples/four_nodes.max
-for page in README.md docs/GUIDE.md docs/DEFINITIONS.md; do
-  [ ! -f "$page" ] || put 644 "$page" "usr/share/doc/flow/$(basename "$page")"
+# The pages lie as in the repository, so that their links hold.
+for page in README.md docs/GUIDE.md docs/MESSAGES.md docs/DEFINITIONS.md examples/*.max; do
+  put 644 "$page" "usr/share/doc/flow/$page"
 done
 
 {

@@ -39,11 +39,10 @@ while kill -0 "$proof" 2> /dev/null; do
   if [ "$now" != "$crate" ] || [ $((SECONDS - said)) -ge 30 ]; then
     crate=$now
     said=$SECONDS
-    place=$(grep -n -x "$crate" <<< "$crates" | cut -d : -f 1)
-    far=$(sed -n 's/^so far: \([0-9]* of [0-9]* functions\) checked.*/, \1/p' "$log" | tail -n 1)
-    tail -n 1 "$log" | grep -q '^so far' || far=
-    printf '%2d:%02d  %s (crate %s of %s)%s\n' $(((SECONDS - start) / 60)) $(((SECONDS - start) % 60)) \
-      "${crate:-flow_net}" "${place:-1}" "$count" "$far" >&2
+    far=$(tail -n 1 "$log" | sed -n 's/^so far: \([0-9]* of [0-9]* functions\) checked.*/, \1/p')
+    where=starting
+    [ -z "$crate" ] || where="$crate (crate $(grep -n -x "$crate" <<< "$crates" | cut -d : -f 1) of $count)$far"
+    printf '%2d:%02d  %s\n' $(((SECONDS - start) / 60)) $(((SECONDS - start) % 60)) "$where" >&2
   fi
 done
 trap - EXIT

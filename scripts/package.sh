@@ -40,8 +40,8 @@ put 644 completions/flow.bash usr/share/bash-completion/completions/flow
 put 644 completions/_flow usr/share/zsh/vendor-completions/_flow
 put 644 completions/flow.fish usr/share/fish/vendor_completions.d/flow.fish
 put 644 CHANGELOG.md usr/share/doc/flow/NEWS.md
-# The pages lie as in the repository, so that their links hold.
-for page in README.md docs/GUIDE.md docs/MESSAGES.md docs/DEFINITIONS.md examples/*.max; do
+# The pages and examples lie as in the repository, so that their links hold.
+find README.md docs examples -type f -not -path '*/out/*' -not -name '*.pyc' | while IFS= read -r page; do
   put 644 "$page" "usr/share/doc/flow/$page"
 done
 

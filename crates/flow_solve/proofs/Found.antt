@@ -9,6 +9,7 @@ use Rattle.flow_net.specs.Nets.{Net, IsNet, IsNode}
 use Rattle.flow_net.specs.NodeSets.{one_of, marked}
 use Rattle.flow_net.specs.Residual.{tail_of, head_of, residual}
 use Rattle.flow_net.proofs.Zips.{head_is_node}
+use Rattle.flow_solve.specs.declared.searching.TheConstants.{FAR, WANTED}
 use Rattle.flow_solve.specs.declared.searching.Direction.{Direction}
 use Rattle.flow_solve.specs.Searches.{near_end, far_end, crossed, IsClosedFor, HoldsAll, IsMarked, seen, spread, IsCount, wanted_at, IsDone, IsSearched, IsWhole}
 use Rattle.flow_solve.proofs.Marks.{place_in}
@@ -24,31 +25,31 @@ get_or_last (x ∷ xs) (suc i) d l = get_or_last xs i d (omega arith)
 pub seen_marked : (dist : List ℕ) (v : ℕ) → 1 ≤ v → v ≤ length dist → IsMarked dist (v - 1) → seen dist v ≡ true
 seen_marked dist zero o l m = absurd (omega arith)
 seen_marked dist (suc p) o l m =
-    let back : suc p - 1 ≡ p = omega arith in let at : get_or dist p 0 < 4294967294 = subst (IsMarked dist) back m in
-    let same = get_or_default_zero dist p 4294967295 (omega arith) in lt-ltb (get_or dist p 4294967295) 4294967294 (omega arith)
+    let back : suc p - 1 ≡ p = omega arith in let at : get_or dist p 0 < WANTED = subst (IsMarked dist) back m in
+    let same = get_or_default_zero dist p FAR (omega arith) in lt-ltb (get_or dist p FAR) WANTED (omega arith)
 
 pub marked_seen : (dist : List ℕ) (v : ℕ) → seen dist v ≡ true → (1 ≤ v) × (v ≤ length dist) × IsMarked dist (v - 1)
 marked_seen dist zero e = cc
 marked_seen dist (suc p) e =
-    let l = ltb-true (get_or dist p 4294967295) 4294967294 e in
+    let l = ltb-true (get_or dist p FAR) WANTED e in
     elim (cases_lt p (length dist)) [
-      | inl inside ↦ let back : suc p - 1 ≡ p = omega arith in let same = get_or_default_zero dist p 4294967295 inside in
+      | inl inside ↦ let back : suc p - 1 ≡ p = omega arith in let same = get_or_default_zero dist p FAR inside in
           (omega arith, omega arith, subst (IsMarked dist) (sym back) (omega arith))
-      | inr out ↦ let none = get_or_last dist p 4294967295 out in absurd (omega arith)
+      | inr out ↦ let none = get_or_last dist p FAR out in absurd (omega arith)
     ]
 
-pub unmarked_unseen : (dist : List ℕ) (v : ℕ) → 1 ≤ v → 4294967294 ≤ get_or dist (v - 1) 0 → seen dist v ≡ false
+pub unmarked_unseen : (dist : List ℕ) (v : ℕ) → 1 ≤ v → WANTED ≤ get_or dist (v - 1) 0 → seen dist v ≡ false
 unmarked_unseen dist v o l = elim (cases_Bool (seen dist v)) [
   | inl inside ↦ let at = marked_seen dist v inside in absurd (omega (arith, at.2))
   | inr out ↦ out
 ]
 
 -- cells that mark the places with a distance mark what is seen
-pub cells_seen : (dist : List ℕ) (side : List Bool) → length side ≡ length dist → ((i : ℕ) → i < length dist → get_or side i false ≡ ltb (get_or dist i 0) 4294967294) → (v : ℕ) → marked side v ≡ seen dist v
+pub cells_seen : (dist : List ℕ) (side : List Bool) → length side ≡ length dist → ((i : ℕ) → i < length dist → get_or side i false ≡ ltb (get_or dist i 0) WANTED) → (v : ℕ) → marked side v ≡ seen dist v
 cells_seen dist side size e zero = refl
 cells_seen dist side size e (suc p) = elim (cases_lt p (length dist)) [
-  | inl inside ↦ e p inside ∙ ap (λ d. ltb d 4294967294) (sym (get_or_default_zero dist p 4294967295 inside))
-  | inr out ↦ past side p (omega arith) ∙ sym (ap (λ d. ltb d 4294967294) (get_or_last dist p 4294967295 out))
+  | inl inside ↦ e p inside ∙ ap (λ d. ltb d WANTED) (sym (get_or_default_zero dist p FAR inside))
+  | inr out ↦ past side p (omega arith) ∙ sym (ap (λ d. ltb d WANTED) (get_or_last dist p FAR out))
 ]
   where
     past : (xs : List Bool) (i : ℕ) → length xs ≤ i → get_or xs i false ≡ false
@@ -117,7 +118,7 @@ some_seen until dist wanted c l =
     (r.0, r.1, r.2, wanted_some (one_of until (r.0 + 1)) r.3)
 
 -- where more of them are counted, one of them is newly seen
-pub new_seen : (until dist dist' : List ℕ) (wanted wanted' : ℕ) → IsCount until dist wanted → IsCount until dist' wanted' → length dist' ≡ length dist → wanted < wanted' → (p : ℕ) × (p < length dist) × IsMarked dist' p × (4294967294 ≤ get_or dist p 0) × IsTrue (one_of until (p + 1))
+pub new_seen : (until dist dist' : List ℕ) (wanted wanted' : ℕ) → IsCount until dist wanted → IsCount until dist' wanted' → length dist' ≡ length dist → wanted < wanted' → (p : ℕ) × (p < length dist) × IsMarked dist' p × (WANTED ≤ get_or dist p 0) × IsTrue (one_of until (p + 1))
 new_seen until dist dist' wanted wanted' c d e l =
     let same : spread (wanted_at until) dist' (length dist') ≡ spread (wanted_at until) dist' (length dist) = ap (spread (wanted_at until) dist') e in
     let r = spread_more (wanted_at until) dist dist' (length dist) (omega (arith, c.count, d.count, same)) in

@@ -7,6 +7,7 @@ use Rattle.flow_net.specs.Nets.{Net, IsNet, IsNode}
 use Rattle.flow_net.specs.NodeSets.{one_of}
 use Rattle.flow_net.specs.Residual.{tail_of, head_of, residual}
 use Rattle.flow_net.proofs.Zips.{tail_is_node}
+use Rattle.flow_solve.specs.declared.searching.TheConstants.{FAR, WANTED}
 use Rattle.flow_solve.specs.declared.searching.Direction.TheVariants.{Backwards}
 use Rattle.flow_solve.specs.Packs.{group_of}
 use Rattle.flow_solve.specs.Searches.{twin_of, seen, IsMarked, IsDone, IsSearched, IsCount, IsQueue, wanted_at}
@@ -72,7 +73,7 @@ wanted_few s dist wanted c = omega (arith, c.count, spread_most (wanted_at s) di
 
 -- where as many were seen as there are, all were
 all_seen : (s dist : List ℕ) (wanted v : ℕ) → IsCount s dist wanted → length s ≤ wanted → one_of s v ≡ true → 1 ≤ v → v ≤ length dist → seen dist v ≡ true
-all_seen s dist wanted v c l i a b = elim (cases_lt (get_or dist (v - 1) 0) 4294967294) [
+all_seen s dist wanted v c l i a b = elim (cases_lt (get_or dist (v - 1) 0) WANTED) [
   | inl m ↦ seen_marked dist v a b m
   | inr m ↦
       let node : v - 1 + 1 ≡ v = omega arith in
@@ -164,7 +165,7 @@ pub record HasRanks (net : Net) (dist queue rank : List ℕ) (tail : ℕ) : Type
   pub order : IsQueue dist queue tail
   pub dist_size : length dist ≡ net.nodes
   pub ranked : (i : ℕ) → i < tail → slice_index rank (slice_index queue i) < tail
-  pub ranks : (p : ℕ) → p < net.nodes → (slice_index rank p ≡ 4294967295) ⊎ IsRank queue rank tail p
+  pub ranks : (p : ℕ) → p < net.nodes → (slice_index rank p ≡ FAR) ⊎ IsRank queue rank tail p
 
 marked_rank : (net : Net) (dist queue rank : List ℕ) (tail p : ℕ) → IsNet net → HasRanks net dist queue rank tail → p < net.nodes → IsMarked dist p → IsRank queue rank tail p
 marked_rank net dist queue rank tail p n r l m =
@@ -176,14 +177,14 @@ marked_rank net dist queue rank tail p n r l m =
       | inr k ↦ k
     ]
 
-unmarked_rank : (net : Net) (dist queue rank : List ℕ) (tail p : ℕ) → HasRanks net dist queue rank tail → p < net.nodes → 4294967294 ≤ slice_index dist p → slice_index rank p ≡ 4294967295
+unmarked_rank : (net : Net) (dist queue rank : List ℕ) (tail p : ℕ) → HasRanks net dist queue rank tail → p < net.nodes → WANTED ≤ slice_index dist p → slice_index rank p ≡ FAR
 unmarked_rank net dist queue rank tail p r l m = elim (r.ranks p l) [
   | inl none ↦ none
   | inr k ↦ absurd (omega (arith, r.order.marks (slice_index rank p) k.0, ap (slice_index dist) k.1))
 ]
 
 ordered_levels : (net : Net) (s xs dist queue rank : List ℕ) (tail top : ℕ) → IsNet net → HasRanks net dist queue rank tail → IsTop net s xs dist top → IsOrdered net (level_of dist top) (cell_of rank)
-ordered_levels net s xs dist queue rank tail top n r b v w i j l = elim (cases_lt (slice_index dist (v - 1)) 4294967294) [
+ordered_levels net s xs dist queue rank tail top n r b v w i j l = elim (cases_lt (slice_index dist (v - 1)) WANTED) [
   | inr out ↦
       absurd (omega (arith, level_unseen dist top v (unmarked_unseen dist v i.0 out), level_most net s xs dist top w r.dist_size b))
   | inl into ↦
@@ -191,7 +192,7 @@ ordered_levels net s xs dist queue rank tail top n r b v w i j l = elim (cases_l
       let low = level_seen dist top v (seen_marked dist v i.0 (omega (arith, i, r.dist_size)) into) in
       let at = cell_at rank v i.0 in
       let to = cell_at rank w j.0 in
-      elim (cases_lt (slice_index dist (w - 1)) 4294967294) [
+      elim (cases_lt (slice_index dist (w - 1)) WANTED) [
         | inr far ↦
             let none = unmarked_rank net dist queue rank tail (w - 1) r (omega (arith, j)) far in
             let short = queue_short dist queue tail r.order in

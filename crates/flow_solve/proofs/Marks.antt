@@ -2,6 +2,7 @@
 use Rattle.std.proofs.Common.{◌≡◌, ◌≢◌, ℕ, zero, suc, ◌+◌, ◌-◌, ◌≤◌, ◌<◌, Bool, true, false, cond, eqb, List, [], ◌∷◌, length, get_or, set, take, refl, ◌∙◌, sym, ap, inl, inr, add-one, eq-eqb, get_or-set_same, get_or-set_other, arith}
 use Rattle.std.proofs.lemmas.Bool.{cases_eq, ne_eqb, eqb-true, or_cases, or_left, or_right}
 use Rattle.flow_net.specs.NodeSets.{one_of}
+use Rattle.flow_solve.specs.declared.searching.TheConstants.{FAR, WANTED}
 use Rattle.flow_solve.specs.Searches.{unseen_cell, wanted_at, IsCount}
 use Rattle.flow_solve.proofs.Queues.{spread_none}
 
@@ -29,24 +30,24 @@ place_in (w ∷ ws) v e = elim (or_cases (eqb w v) (one_of ws v) e) [
 ]
 
 -- one more node is looked out for
-pub look_more : (until dist : List ℕ) (k p : ℕ) → k < length until → 1 ≤ get_or until k 0 → get_or until k 0 ≤ length dist → get_or dist p 0 ≡ unseen_cell (take k until) p → get_or (set dist (get_or until k 0 - 1) 4294967294) p 0 ≡ unseen_cell (take (k + 1) until) p
+pub look_more : (until dist : List ℕ) (k p : ℕ) → k < length until → 1 ≤ get_or until k 0 → get_or until k 0 ≤ length dist → get_or dist p 0 ≡ unseen_cell (take k until) p → get_or (set dist (get_or until k 0 - 1) WANTED) p 0 ≡ unseen_cell (take (k + 1) until) p
 look_more until dist k p l low high e = elim (cases_eq p (get_or until k 0 - 1)) [
   | inl at ↦
       let node : p + 1 ≡ get_or until k 0 = omega arith in
       let yes : one_of (take (k + 1) until) (p + 1) ≡ true = ap (λ j. one_of (take j until) (p + 1)) (add-one k) ∙ ap (one_of (take (suc k) until)) node ∙ one_of-here until k l in
-      let here : get_or (set dist (get_or until k 0 - 1) 4294967294) p 0 ≡ 4294967294 = ap (λ i. get_or (set dist (get_or until k 0 - 1) 4294967294) i 0) at ∙ get_or-set_same dist (get_or until k 0 - 1) 4294967294 0 (omega arith) in
-      here ∙ sym (ap (λ b. cond b 4294967294 4294967295) yes)
+      let here : get_or (set dist (get_or until k 0 - 1) WANTED) p 0 ≡ WANTED = ap (λ i. get_or (set dist (get_or until k 0 - 1) WANTED) i 0) at ∙ get_or-set_same dist (get_or until k 0 - 1) WANTED 0 (omega arith) in
+      here ∙ sym (ap (λ b. cond b WANTED FAR) yes)
   | inr n ↦
       let same : one_of (take (suc k) until) (p + 1) ≡ one_of (take k until) (p + 1) = one_of-other until k (p + 1) l (omega arith) in
-      get_or-set_other dist (get_or until k 0 - 1) p 4294967294 0 n ∙ e ∙ sym (ap (λ j. unseen_cell (take j until) p) (add-one k) ∙ ap (λ b. cond b 4294967294 4294967295) same)
+      get_or-set_other dist (get_or until k 0 - 1) p WANTED 0 n ∙ e ∙ sym (ap (λ j. unseen_cell (take j until) p) (add-one k) ∙ ap (λ b. cond b WANTED FAR) same)
 ]
 
 -- nothing is seen at first
-unseen_high : (b : Bool) → 4294967294 ≤ cond b 4294967294 4294967295
+unseen_high : (b : Bool) → WANTED ≤ cond b WANTED FAR
 unseen_high true = omega arith
 unseen_high false = omega arith
 
-pub unseen_least : (until : List ℕ) (p : ℕ) → 4294967294 ≤ unseen_cell until p
+pub unseen_least : (until : List ℕ) (p : ℕ) → WANTED ≤ unseen_cell until p
 unseen_least until p = unseen_high (one_of until (p + 1))
 
 pub count_none : (until dist : List ℕ) → ((p : ℕ) → p < length dist → get_or dist p 0 ≡ unseen_cell until p) → IsCount until dist 0

@@ -5,6 +5,7 @@ use Rattle.std.proofs.lemmas.Bool.{cases_eq, cases_lt, lt-ltb, le-ltb}
 use Rattle.flow_net.specs.Nets.{Net}
 use Rattle.flow_net.specs.NodeSets.{one_of}
 use Rattle.flow_net.specs.Residual.{residual}
+use Rattle.flow_solve.specs.declared.searching.TheConstants.{FAR, WANTED}
 use Rattle.flow_solve.specs.declared.searching.Direction.{Direction}
 use Rattle.flow_solve.specs.Searches.{IsMarked, spread, queued, IsQueue, IsNear, HasGrown, IsCount, wanted_at, near_end, far_end, IsCome}
 
@@ -14,19 +15,19 @@ total w zero = 0
 total w (suc k) = total w k + w k
 
 pub spread_marked : (w : ℕ → ℕ) (dist : List ℕ) (k : ℕ) → IsMarked dist k → spread w dist (suc k) ≡ spread w dist k + w k
-spread_marked w dist k m = ap (λ b. spread w dist k + cond b (w k) 0) (lt-ltb (get_or dist k 0) 4294967294 m)
+spread_marked w dist k m = ap (λ b. spread w dist k + cond b (w k) 0) (lt-ltb (get_or dist k 0) WANTED m)
 
-pub spread_unmarked : (w : ℕ → ℕ) (dist : List ℕ) (k : ℕ) → 4294967294 ≤ get_or dist k 0 → spread w dist (suc k) ≡ spread w dist k
-spread_unmarked w dist k m = let e : spread w dist (suc k) ≡ spread w dist k + 0 = ap (λ b. spread w dist k + cond b (w k) 0) (le-ltb (get_or dist k 0) 4294967294 m) in omega arith
+pub spread_unmarked : (w : ℕ → ℕ) (dist : List ℕ) (k : ℕ) → WANTED ≤ get_or dist k 0 → spread w dist (suc k) ≡ spread w dist k
+spread_unmarked w dist k m = let e : spread w dist (suc k) ≡ spread w dist k + 0 = ap (λ b. spread w dist k + cond b (w k) 0) (le-ltb (get_or dist k 0) WANTED m) in omega arith
 
 -- where the marks are the same, so is the sum
 spread_same : (w : ℕ → ℕ) (dist dist' : List ℕ) (k : ℕ) → ((v : ℕ) → v < k → get_or dist' v 0 ≡ get_or dist v 0) → spread w dist' k ≡ spread w dist k
 spread_same w dist dist' zero s = refl
 spread_same w dist dist' (suc k) s = let old = spread_same w dist dist' k (λ v l. s v (omega arith)) in
-    let e : cond (ltb (get_or dist' k 0) 4294967294) (w k) 0 ≡ cond (ltb (get_or dist k 0) 4294967294) (w k) 0 = ap (λ d. cond (ltb d 4294967294) (w k) 0) (s k (omega arith)) in
+    let e : cond (ltb (get_or dist' k 0) WANTED) (w k) 0 ≡ cond (ltb (get_or dist k 0) WANTED) (w k) 0 = ap (λ d. cond (ltb d WANTED) (w k) 0) (s k (omega arith)) in
     omega arith
 
-pub spread_set : (w : ℕ → ℕ) (dist : List ℕ) (at x k : ℕ) → at < length dist → x < 4294967294 → 4294967294 ≤ get_or dist at 0 → at < k → spread w (set dist at x) k ≡ spread w dist k + w at
+pub spread_set : (w : ℕ → ℕ) (dist : List ℕ) (at x k : ℕ) → at < length dist → x < WANTED → WANTED ≤ get_or dist at 0 → at < k → spread w (set dist at x) k ≡ spread w dist k + w at
 spread_set w dist at x zero l o u m = absurd (omega arith)
 spread_set w dist at x (suc k) l o u m = elim (cases_eq k at) [
   | inl e ↦
@@ -38,31 +39,31 @@ spread_set w dist at x (suc k) l o u m = elim (cases_eq k at) [
       let weight : w k ≡ w at = ap w e in omega (arith, before, now, was, weight)
   | inr n ↦
       let old = spread_set w dist at x k l o u (omega arith) in
-      let e : cond (ltb (get_or (set dist at x) k 0) 4294967294) (w k) 0 ≡ cond (ltb (get_or dist k 0) 4294967294) (w k) 0 = ap (λ d. cond (ltb d 4294967294) (w k) 0) (get_or-set_other dist at k x 0 n) in
+      let e : cond (ltb (get_or (set dist at x) k 0) WANTED) (w k) 0 ≡ cond (ltb (get_or dist k 0) WANTED) (w k) 0 = ap (λ d. cond (ltb d WANTED) (w k) 0) (get_or-set_other dist at k x 0 n) in
       omega arith
 ]
 
 -- no more than all, and an unmarked place is missing
 pub spread_most : (w : ℕ → ℕ) (dist : List ℕ) (k : ℕ) → spread w dist k ≤ total w k
 spread_most w dist zero = omega arith
-spread_most w dist (suc k) = let old = spread_most w dist k in elim (cases_lt (get_or dist k 0) 4294967294) [
+spread_most w dist (suc k) = let old = spread_most w dist k in elim (cases_lt (get_or dist k 0) WANTED) [
   | inl m ↦ omega (arith, spread_marked w dist k m)
   | inr m ↦ omega (arith, spread_unmarked w dist k m)
 ]
 
-pub spread_missing : (w : ℕ → ℕ) (dist : List ℕ) (at k : ℕ) → at < k → 4294967294 ≤ get_or dist at 0 → spread w dist k + w at ≤ total w k
+pub spread_missing : (w : ℕ → ℕ) (dist : List ℕ) (at k : ℕ) → at < k → WANTED ≤ get_or dist at 0 → spread w dist k + w at ≤ total w k
 spread_missing w dist at zero l u = absurd (omega arith)
 spread_missing w dist at (suc k) l u = elim (cases_eq k at) [
   | inl e ↦
       let old = spread_most w dist k in let there : get_or dist k 0 ≡ get_or dist at 0 = ap (λ i. get_or dist i 0) e in
       let was = spread_unmarked w dist k (omega arith) in let weight : w k ≡ w at = ap w e in omega (arith, old, was, weight)
-  | inr n ↦ let old = spread_missing w dist at k (omega arith) u in elim (cases_lt (get_or dist k 0) 4294967294) [
+  | inr n ↦ let old = spread_missing w dist at k (omega arith) u in elim (cases_lt (get_or dist k 0) WANTED) [
     | inl m ↦ omega (arith, old, spread_marked w dist k m)
     | inr m ↦ omega (arith, old, spread_unmarked w dist k m)
   ]
 ]
 
-pub spread_none : (w : ℕ → ℕ) (dist : List ℕ) (k : ℕ) → ((v : ℕ) → v < k → 4294967294 ≤ get_or dist v 0) → spread w dist k ≡ 0
+pub spread_none : (w : ℕ → ℕ) (dist : List ℕ) (k : ℕ) → ((v : ℕ) → v < k → WANTED ≤ get_or dist v 0) → spread w dist k ≡ 0
 spread_none w dist zero u = refl
 spread_none w dist (suc k) u = spread_unmarked w dist k (u k (omega arith)) ∙ spread_none w dist k (λ v l. u v (omega arith))
 
@@ -78,7 +79,7 @@ spread_zero w dist (suc k) p e l m = elim (cases_eq p k) [
 
 pub spread_some : (w : ℕ → ℕ) (dist : List ℕ) (k : ℕ) → 0 < spread w dist k → (p : ℕ) × (p < k) × IsMarked dist p × (0 < w p)
 spread_some w dist zero l = absurd (omega arith)
-spread_some w dist (suc k) l = elim (cases_lt (get_or dist k 0) 4294967294) [
+spread_some w dist (suc k) l = elim (cases_lt (get_or dist k 0) WANTED) [
   | inl m ↦ let more = spread_marked w dist k m in elim (cases_lt 0 (w k)) [
     | inl some ↦ (k, omega arith, m, some)
     | inr none ↦ let r = spread_some w dist k (omega arith) in (r.0, omega (arith, r.1), r.2, r.3)
@@ -88,7 +89,7 @@ spread_some w dist (suc k) l = elim (cases_lt (get_or dist k 0) 4294967294) [
 
 -- a marked place with a weight that was unmarked before
 abbrev pub HasGained : (ℕ → ℕ) → List ℕ → List ℕ → ℕ → Type 0
-HasGained w dist dist' k = (p : ℕ) × (p < k) × IsMarked dist' p × (4294967294 ≤ get_or dist p 0) × (0 < w p)
+HasGained w dist dist' k = (p : ℕ) × (p < k) × IsMarked dist' p × (WANTED ≤ get_or dist p 0) × (0 < w p)
 
 gained_on : (w : ℕ → ℕ) (dist dist' : List ℕ) (k : ℕ) → HasGained w dist dist' k → HasGained w dist dist' (suc k)
 gained_on w dist dist' k r = (r.0, omega (arith, r.1), r.2, r.3, r.4)
@@ -96,15 +97,15 @@ gained_on w dist dist' k r = (r.0, omega (arith, r.1), r.2, r.3, r.4)
 -- where the sum has become greater there is one
 pub spread_more : (w : ℕ → ℕ) (dist dist' : List ℕ) (k : ℕ) → spread w dist k < spread w dist' k → HasGained w dist dist' k
 spread_more w dist dist' zero l = absurd (omega arith)
-spread_more w dist dist' (suc k) l = elim (cases_lt (get_or dist' k 0) 4294967294) [
-  | inl m ↦ let now = spread_marked w dist' k m in elim (cases_lt (get_or dist k 0) 4294967294) [
+spread_more w dist dist' (suc k) l = elim (cases_lt (get_or dist' k 0) WANTED) [
+  | inl m ↦ let now = spread_marked w dist' k m in elim (cases_lt (get_or dist k 0) WANTED) [
     | inl kept ↦ let was = spread_marked w dist k kept in gained_on w dist dist' k (spread_more w dist dist' k (omega arith))
     | inr new ↦ let was = spread_unmarked w dist k new in elim (cases_lt 0 (w k)) [
       | inl some ↦ (k, omega arith, m, new, some)
       | inr none ↦ gained_on w dist dist' k (spread_more w dist dist' k (omega arith))
     ]
   ]
-  | inr m ↦ let now = spread_unmarked w dist' k m in elim (cases_lt (get_or dist k 0) 4294967294) [
+  | inr m ↦ let now = spread_unmarked w dist' k m in elim (cases_lt (get_or dist k 0) WANTED) [
     | inl kept ↦ let was = spread_marked w dist k kept in gained_on w dist dist' k (spread_more w dist dist' k (omega arith))
     | inr new ↦ let was = spread_unmarked w dist k new in gained_on w dist dist' k (spread_more w dist dist' k (omega arith))
   ]
@@ -143,11 +144,11 @@ queue_most w dist queue tail q = let e = q.sums w in let m = spread_most w dist 
 pub queue_short : (dist queue : List ℕ) (tail : ℕ) → IsQueue dist queue tail → tail ≤ length dist
 queue_short dist queue tail q = let m = queue_most (λ i. 1) dist queue tail q in let a = queued_ones queue tail in let b = total_ones (length dist) in omega arith
 
-pub queue_room : (dist queue : List ℕ) (tail at : ℕ) → at < length dist → 4294967294 ≤ get_or dist at 0 → IsQueue dist queue tail → tail < length dist
+pub queue_room : (dist queue : List ℕ) (tail at : ℕ) → at < length dist → WANTED ≤ get_or dist at 0 → IsQueue dist queue tail → tail < length dist
 queue_room dist queue tail at l u q =
     let m = spread_missing (λ i. 1) dist at (length dist) l u in let e = q.sums (λ i. 1) in let a = queued_ones queue tail in let b = total_ones (length dist) in omega arith
 
-pub queue_none : (dist queue : List ℕ) → ((v : ℕ) → v < length dist → 4294967294 ≤ get_or dist v 0) → IsQueue dist queue 0
+pub queue_none : (dist queue : List ℕ) → ((v : ℕ) → v < length dist → WANTED ≤ get_or dist v 0) → IsQueue dist queue 0
 queue_none dist queue u = record {
   sums = λ w. spread_none w dist (length dist) u;
   places = λ i l. absurd (omega arith);
@@ -158,11 +159,11 @@ queue_none dist queue u = record {
 }
 
 -- an unseen place is none of those that are marked
-pub unseen_other : (dist : List ℕ) (at v : ℕ) → 4294967294 ≤ get_or dist at 0 → IsMarked dist v → v ≢ at
+pub unseen_other : (dist : List ℕ) (at v : ℕ) → WANTED ≤ get_or dist at 0 → IsMarked dist v → v ≢ at
 unseen_other dist at v u m e = let same : get_or dist v 0 ≡ get_or dist at 0 = ap (λ i. get_or dist i 0) e in omega arith
 
 -- a place is marked and goes to the end of the queue
-pub queue_more : (dist queue : List ℕ) (tail at x : ℕ) → at < length dist → length queue ≡ length dist → x ≤ tail → x < 4294967294 → 4294967294 ≤ get_or dist at 0 → IsNear dist x → IsQueue dist queue tail → IsQueue (set dist at x) (set queue tail at) (tail + 1)
+pub queue_more : (dist queue : List ℕ) (tail at x : ℕ) → at < length dist → length queue ≡ length dist → x ≤ tail → x < WANTED → WANTED ≤ get_or dist at 0 → IsNear dist x → IsQueue dist queue tail → IsQueue (set dist at x) (set queue tail at) (tail + 1)
 queue_more dist queue tail at x l size low o u near q =
     let dist' = set dist at x in let queue' = set queue tail at in
     let room = queue_room dist queue tail at l u q in
@@ -204,11 +205,11 @@ queue_more dist queue tail at x l size low o u near q =
       ];
     }
 
-one_or_none : (b : Bool) → 4294967295 - cond b 4294967294 4294967295 ≡ cond b 1 0
+one_or_none : (b : Bool) → FAR - cond b WANTED FAR ≡ cond b 1 0
 one_or_none b = grind arith
 
 -- the count of those looked out for, where the place is marked
-pub count_more : (until dist : List ℕ) (at x wanted : ℕ) → at < length dist → x < 4294967294 → 4294967294 ≤ get_or dist at 0 → IsCount until dist wanted → IsCount until (set dist at x) (wanted + (4294967295 - get_or dist at 0))
+pub count_more : (until dist : List ℕ) (at x wanted : ℕ) → at < length dist → x < WANTED → WANTED ≤ get_or dist at 0 → IsCount until dist wanted → IsCount until (set dist at x) (wanted + (FAR - get_or dist at 0))
 count_more until dist at x wanted l o u c =
     let here : get_or (set dist at x) at 0 ≡ x = get_or-set_same dist at x 0 l in
     let size = length-set dist at x in
@@ -220,7 +221,7 @@ count_more until dist at x wanted l o u c =
       count =
           let old = c.count in let more = spread_set (wanted_at until) dist at x (length dist) l o u l in
           let e : spread (wanted_at until) (set dist at x) (length (set dist at x)) ≡ spread (wanted_at until) (set dist at x) (length dist) = ap (spread (wanted_at until) (set dist at x)) size in
-          let weight : 4294967295 - get_or dist at 0 ≡ wanted_at until at = ap (λ d. 4294967295 - d) (c.cells at l u) ∙ one_or_none (one_of until (at + 1)) in
+          let weight : FAR - get_or dist at 0 ≡ wanted_at until at = ap (λ d. FAR - d) (c.cells at l u) ∙ one_or_none (one_of until (at + 1)) in
           omega arith;
     }
 
@@ -248,7 +249,7 @@ get_or_past [] i l = refl
 get_or_past (x ∷ xs) zero l = absurd (omega arith)
 get_or_past (x ∷ xs) (suc i) l = get_or_past xs i (omega arith)
 
-pub near_none : (dist : List ℕ) → ((v : ℕ) → v < length dist → 4294967294 ≤ get_or dist v 0) → IsNear dist 0
+pub near_none : (dist : List ℕ) → ((v : ℕ) → v < length dist → WANTED ≤ get_or dist v 0) → IsNear dist 0
 near_none dist u v marked = elim (cases_lt v (length dist)) [
   | inl l ↦ absurd (omega (arith, u v l))
   | inr l ↦ let e = get_or_past dist v l in omega arith

@@ -10,6 +10,7 @@ use Rattle.flow_net.specs.Residual.{residual, pushed}
 use Rattle.flow_net.specs.Paths.{HasRoom, IsApart, push_all}
 use Rattle.flow_net.proofs.Pushes.{fits_pushed}
 use Rattle.flow_net.proofs.AugmentingPaths.{room_after}
+use Rattle.flow_solve.specs.declared.searching.TheConstants.{FAR}
 
 -- the least on a path so far, and where it is first met
 pub record IsLeast (net : Net) (xs path : List ℕ) (place least i : ℕ) : Type 0 where
@@ -58,7 +59,7 @@ IsRank queue rank all p = (slice_index rank p < all) × (slice_index queue (slic
 pub record AreRanked (queue rank : List ℕ) (i n : ℕ) : Type 0 where
   pub size : length rank ≡ n
   pub ranked : (j : ℕ) → j < i → slice_index rank (slice_index queue j) < i
-  pub ranks : (p : ℕ) → p < n → (slice_index rank p ≡ 4294967295) ⊎ IsRank queue rank i p
+  pub ranks : (p : ℕ) → p < n → (slice_index rank p ≡ FAR) ⊎ IsRank queue rank i p
 
 pub ranked_more : (queue rank : List ℕ) (i n : ℕ) → slice_index queue i < n → AreRanked queue rank i n → AreRanked queue (set rank (slice_index queue i) i) (i + 1) n
 ranked_more queue rank i n l a = record {

@@ -5,6 +5,7 @@ use Rattle.flow_net.specs.Nets.{Net}
 use Rattle.flow_net.specs.NodeSets.{one_of}
 use Rattle.flow_net.specs.Paths.{IsPath, IsApart, HasRoom}
 use Rattle.flow_net.specs.Residual.{tail_of, head_of, residual}
+use Rattle.flow_solve.specs.declared.searching.TheConstants.{FAR, WANTED}
 use Rattle.flow_solve.specs.declared.searching.Direction.{Direction}
 use Rattle.flow_solve.specs.declared.searching.Direction.TheVariants.{Forwards, Backwards}
 use Rattle.flow_solve.specs.Packs.{group_of}
@@ -38,12 +39,12 @@ HoldsAll nodes X = (v : ℕ) → IsTrue (one_of nodes v) → IsTrue (X v)
 -- The search has seen the node at a place: its cell has a distance, and neither of the two numbers for an unseen node,
 -- 2^32 - 1 and, for one that the search looks out for, 2^32 - 2.
 abbrev pub IsMarked : List ℕ → ℕ → Type 0
-IsMarked dist p = slice_index dist p < 4294967294
+IsMarked dist p = slice_index dist p < WANTED
 
 -- the set of the nodes that the search has seen
 abbrev pub seen : List ℕ → ℕ → Bool
 seen dist zero = false
-seen dist (suc p) = nat_lt (slice_index_or dist p 4294967295) 4294967294
+seen dist (suc p) = nat_lt (slice_index_or dist p FAR) WANTED
 
 -- no marked place is farther
 abbrev pub IsNear : List ℕ → ℕ → Type 0
@@ -56,7 +57,7 @@ HoldsMarked n dist X = (p : ℕ) → p < n → IsMarked dist p → IsTrue (X (p 
 -- a sum over the marked places among the first
 abbrev pub spread : (ℕ → ℕ) → List ℕ → ℕ → ℕ
 spread w dist zero = 0
-spread w dist (suc k) = spread w dist k + (if nat_lt (slice_index dist k) 4294967294 then w k else 0)
+spread w dist (suc k) = spread w dist k + (if nat_lt (slice_index dist k) WANTED then w k else 0)
 
 -- a sum over the first places in the queue
 abbrev pub queued : (ℕ → ℕ) → List ℕ → ℕ → ℕ
@@ -83,14 +84,14 @@ pub record HasGrown (dist via queue : List ℕ) (tail : ℕ) (dist' via' queue' 
 
 -- what an unseen node's cell has, by whether the search looks out for the node; and 1 where it does
 abbrev pub unseen_cell : List ℕ → ℕ → ℕ
-unseen_cell until p = if one_of until (p + 1) then 4294967294 else 4294967295
+unseen_cell until p = if one_of until (p + 1) then WANTED else FAR
 
 abbrev pub wanted_at : List ℕ → ℕ → ℕ
 wanted_at until p = if one_of until (p + 1) then 1 else 0
 
 -- how many of the nodes that the search looks out for were seen
 pub record IsCount (until dist : List ℕ) (wanted : ℕ) : Type 0 where
-  pub cells : (p : ℕ) → p < length dist → 4294967294 ≤ slice_index dist p → slice_index dist p ≡ unseen_cell until p
+  pub cells : (p : ℕ) → p < length dist → WANTED ≤ slice_index dist p → slice_index dist p ≡ unseen_cell until p
   pub count : wanted ≡ spread (wanted_at until) dist (length dist)
 
 -- among the farthest nodes that the search has seen is one that it looks out for

@@ -18,7 +18,7 @@ ghost use Rattle.flow_solve.specs.Trails.{AreTrails, trail_from};
 use crate::method::{Method, work_len};
 use crate::packing::{Packed, pack};
 use crate::searching::{Direction, Plan, WANTED, head, search};
-use flow_net::{FlowTable, Network};
+use flow_net::{FlowTable, GREATEST_CAPACITY, Network};
 
 /// The first of some nodes that a search has seen.
 fn first_seen(nodes: &[u32], dist: &[u32]) -> Option<u32>
@@ -78,7 +78,7 @@ fn least_room(net: &Network, flow: &mut FlowTable, dist: &[u32], via: &[u32], so
     requires node { IsNode net.now source }
     requires marked { IsMarked dist.now (source - 1) }
     ensures room { HasRoom net.now flow.old.flows result (trail_from net.now dist.now via.now source) }
-    ensures most { (d : ℕ) → d < 18446744073709551616 → HasRoom net.now flow.old.flows d (trail_from net.now dist.now via.now source) → d ≤ result }
+    ensures most { (d : ℕ) → d ≤ GREATEST_CAPACITY → HasRoom net.now flow.old.flows d (trail_from net.now dist.now via.now source) → d ≤ result }
     ensures positive { 1 ≤ result }
     ensures flows { flow.new.flows ≡ flow.old.flows }
     ensures steps { flow.new.steps ≡ flow.old.steps + slice_index dist.now (source - 1) }
@@ -126,7 +126,7 @@ fn augment(net: &Network, flow: &mut FlowTable, dist: &[u32], via: &[u32], sourc
     requires marked { IsMarked dist.now (source - 1) }
     ensures positive { 1 ≤ result }
     ensures room { HasRoom net.now flow.old.flows result (trail_from net.now dist.now via.now source) }
-    ensures most { (d : ℕ) → d < 18446744073709551616 → HasRoom net.now flow.old.flows d (trail_from net.now dist.now via.now source) → d ≤ result }
+    ensures most { (d : ℕ) → d ≤ GREATEST_CAPACITY → HasRoom net.now flow.old.flows d (trail_from net.now dist.now via.now source) → d ≤ result }
     ensures flows { flow.new.flows ≡ push_all flow.old.flows (trail_from net.now dist.now via.now source) result }
     ensures never_lowered { flow.old.steps ≤ flow.new.steps }
     ensures steps { flow.new.steps ≤ flow.old.steps + 2 * net.now.nodes }

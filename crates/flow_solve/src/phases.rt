@@ -11,7 +11,7 @@ ghost use Rattle.flow_solve.specs.Searches.{seen, IsWhole};
 ghost use Rattle.flow_solve.specs.Levels.{cell_of, place_of, owed, IsDead, IsInPhase, AreSinks, IsOrdered, IsGentle, AreLevels, IsFar};
 
 use crate::packing::Packed;
-use crate::searching::{Direction, Plan, WANTED, search};
+use crate::searching::{Direction, FAR, Plan, WANTED, search};
 use crate::walking::{Phase, walk};
 use flow_net::FlowTable;
 
@@ -21,9 +21,9 @@ fn rank_all(queue: &[u32], all: u32, rank: &mut [u32])
     requires places { (i : ℕ) → i < all → slice_index queue.now i < length rank.old }
     ensures size { length rank.new ≡ length rank.old }
     ensures ranked { (i : ℕ) → i < all → slice_index rank.new (slice_index queue.now i) < all }
-    ensures ranks { (p : ℕ) → p < length rank.old → (slice_index rank.new p ≡ 4294967295) ⊎ ((slice_index rank.new p < all) × (slice_index queue.now (slice_index rank.new p) ≡ p)) }
+    ensures ranks { (p : ℕ) → p < length rank.old → (slice_index rank.new p ≡ FAR) ⊎ ((slice_index rank.new p < all) × (slice_index queue.now (slice_index rank.new p) ≡ p)) }
 {
-    rank.fill(u32::MAX);
+    rank.fill(FAR);
     for i in 0..all {
         rank[queue[i as usize] as usize] = i;
     }
@@ -31,7 +31,7 @@ fn rank_all(queue: &[u32], all: u32, rank: &mut [u32])
 
 /// How many nodes there are, as far as 32 bits hold it.
 fn count(nodes: &[u32]) -> u32
-    ensures { result ≡ min (length nodes.now) 4294967295 }
+    ensures { result ≡ min (length nodes.now) u32.MAX }
 {
     nodes.len().min(u32::MAX as usize) as u32
 }

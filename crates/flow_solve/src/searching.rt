@@ -16,7 +16,7 @@ ghost use Rattle.flow_solve.specs.Packs.{IsPacked, group_of};
 ghost use Rattle.flow_solve.specs.Searches.{twin_of, crossed, IsClosedFor, IsMarked, IsNear, HoldsMarked, HoldsAll, IsQueue, HasGrown, IsCount, IsCome, IsDone, IsSearched, EndsWithWanted, unseen_cell};
 
 use crate::packing::Packed;
-use flow_net::{FlowTable, Network};
+use flow_net::{FlowTable, MOST_NODES, Network};
 
 /// Which way a search goes over the half-arcs of the residual network.
 #[derive(Clone, Copy)]
@@ -27,7 +27,7 @@ pub(crate) enum Direction {
     Backwards,
 }
 
-/// Stands for the distance of a node that wasn't seen.
+/// Stands for the distance, and for the rank, of a node that wasn't seen.
 pub(crate) const FAR: u32 = u32::MAX;
 
 /// Stands for the distance of a node that wasn't seen and that the search looks out for.
@@ -95,9 +95,9 @@ fn enter(
     requires queue { IsQueue dist.old queue.old seen.all }
     requires via_size { length via.old ≡ length dist.old }
     requires queue_size { length queue.old ≡ length dist.old }
-    requires few { length dist.old ≤ 1000000 }
+    requires few { length dist.old ≤ MOST_NODES }
     requires place { place < length dist.old }
-    requires unseen { 4294967294 ≤ slice_index dist.old place }
+    requires unseen { WANTED ≤ slice_index dist.old place }
     requires level { level ≤ seen.all }
     requires near { IsNear dist.old level }
     requires wanted { seen.wanted ≤ seen.all }
@@ -230,7 +230,7 @@ fn start(dist: &mut [u32], via: &mut [u32], queue: &mut [u32], seen: Seen, node:
     requires queue { IsQueue dist.old queue.old seen.all }
     requires via_size { length via.old ≡ length dist.old }
     requires queue_size { length queue.old ≡ length dist.old }
-    requires few { length dist.old ≤ 1000000 }
+    requires few { length dist.old ≤ MOST_NODES }
     requires node { (1 ≤ node) × (node ≤ length dist.old) }
     requires near { IsNear dist.old 0 }
     requires wanted { seen.wanted ≤ seen.all }
@@ -253,10 +253,10 @@ fn start(dist: &mut [u32], via: &mut [u32], queue: &mut [u32], seen: Seen, node:
 /// Enters each start with distance 0, where all nodes are unseen.
 fn start_all(starts: &[u32], dist: &mut [u32], via: &mut [u32], queue: &mut [u32]) -> Seen
     requires starts { All (λ v. (1 ≤ v) × (v ≤ length dist.old)) starts.now }
-    requires unseen { (p : ℕ) → p < length dist.old → 4294967294 ≤ slice_index dist.old p }
+    requires unseen { (p : ℕ) → p < length dist.old → WANTED ≤ slice_index dist.old p }
     requires via_size { length via.old ≡ length dist.old }
     requires queue_size { length queue.old ≡ length dist.old }
-    requires few { length dist.old ≤ 1000000 }
+    requires few { length dist.old ≤ MOST_NODES }
     ensures queue { IsQueue dist.new queue.new result.all }
     ensures near { IsNear dist.new 0 }
     ensures begun { (i : ℕ) → i < length starts.now → IsMarked dist.new (slice_index starts.now i - 1) }

@@ -157,7 +157,7 @@ pub(crate) struct Phase<'a> {
     pub t: &'a [u32],
     /// The distance of each node to a sink, or a number for an unseen node.
     pub dist: &'a [u32],
-    /// The rank of each node, the nearest first, or `u32::MAX` for an unseen node.
+    /// The rank of each node, the nearest first, or [`FAR`](crate::searching::FAR) for an unseen node.
     pub rank: &'a [u32],
 }
 

@@ -1,6 +1,7 @@
 use Rattle.std.proofs.Common.{ℕ, ◌-◌, ◌<◌, ◌≤◌}
 use Rattle.std.specs.Prelude.{slice_index}
+use Rattle.flow_solve.specs.declared.searching.TheConstants.{WANTED}
 use Rattle.flow_solve.proofs.paths.first_seen.Given as goal
 
 abbrev pub invariant-loop-node : goal.invariant-loop-node
-invariant-loop-node l = (k : ℕ) → k < l.node-index → 4294967294 ≤ slice_index l.dist (slice_index l.nodes k - 1)
+invariant-loop-node l = (k : ℕ) → k < l.node-index → WANTED ≤ slice_index l.dist (slice_index l.nodes k - 1)

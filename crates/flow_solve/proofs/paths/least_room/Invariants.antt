@@ -1,5 +1,6 @@
 use Rattle.std.proofs.Common.{◌≡◌, ℕ, ◌+◌, ◌-◌, ◌≤◌, ◌<◌}
 use Rattle.std.specs.Prelude.{slice_index}
+use Rattle.flow_net.specs.declared.limits.TheConstants.{GREATEST_CAPACITY}
 use Rattle.flow_net.specs.Nets.{IsNode}
 use Rattle.flow_net.specs.Flows.{Fits}
 use Rattle.flow_net.specs.Paths.{HasRoom}
@@ -14,7 +15,7 @@ invariant-loop-node l = record {
   node : IsNode l.net l.node;
   marked : IsMarked l.dist (l.node - 1);
   ahead : (k : ℕ) → k ≤ l.least → HasRoom l.net l.fn.flow.flows k (trail_from l.net l.dist l.via l.node) → HasRoom l.net l.fn.flow.flows k (trail_from l.net l.dist l.via l.source);
-  most : (k : ℕ) → k < 18446744073709551616 → HasRoom l.net l.fn.flow.flows k (trail_from l.net l.dist l.via l.source) → (k ≤ l.least) × HasRoom l.net l.fn.flow.flows k (trail_from l.net l.dist l.via l.node);
+  most : (k : ℕ) → k ≤ GREATEST_CAPACITY → HasRoom l.net l.fn.flow.flows k (trail_from l.net l.dist l.via l.source) → (k ≤ l.least) × HasRoom l.net l.fn.flow.flows k (trail_from l.net l.dist l.via l.node);
   positive : 1 ≤ l.least;
   steps : l.flow.steps + slice_index l.dist (l.node - 1) ≡ l.fn.flow.steps + slice_index l.dist (l.source - 1);
 }

@@ -1,5 +1,5 @@
 -- What one augmentation does to a flow, and how many steps all of them take.
-use Rattle.std.proofs.Common.{◌≡◌, ℕ, suc, ◌+◌, ◌-◌, ◌*◌, ◌^◌, ◌≤◌, ◌<◌, Bool, not, IsTrue, IsFalse, cond, List, [], ◌∷◌, length, get_or, sum_by, refl, ◌∙◌, sym, ap, subst, inl, inr, arith}
+use Rattle.std.proofs.Common.{◌≡◌, ℕ, suc, ◌+◌, ◌-◌, ◌*◌, ◌^◌, ◌≤◌, ◌<◌, Bool, not, IsTrue, IsFalse, cond, List, [], ◌∷◌, length, get_or, replicate, sum_by, refl, ◌∙◌, sym, ap, subst, inl, inr, arith}
 use Rattle.std.specs.List.{All}
 use Rattle.std.proofs.Math.Nat.{mul-le-mul_right}
 use Rattle.std.proofs.lemmas.Nat.{mul-le}
@@ -13,10 +13,11 @@ use Rattle.flow_net.specs.Cuts.{leaves, cap_over, capacity, IsLeastCapacity}
 use Rattle.flow_net.specs.Paths.{HasRoom, push_all}
 use Rattle.flow_net.specs.Laws.{AreApart}
 use Rattle.flow_net.proofs.AugmentingPaths.{climbs_apart, augmented, no_loops_climbed}
-use Rattle.flow_net.proofs.ZeroFlows.{value_bounded}
+use Rattle.flow_net.proofs.ZeroFlows.{value_bounded, zeros_feasible, zeros_value, zeros_no_loops}
 use Rattle.flow_solve.specs.declared.searching.Direction.TheVariants.{Backwards}
 use Rattle.flow_solve.specs.Searches.{IsMarked, IsSearched, IsWhole}
 use Rattle.flow_solve.specs.Bounds.{capacities}
+use Rattle.flow_solve.specs.Raising.{IsFlow}
 use Rattle.flow_solve.specs.Trails.{trail_from}
 use Rattle.flow_solve.proofs.Routes.{nearness, searched_trails, trail_is, sink_at, sink_no_source, terminals_apart}
 use Rattle.flow_solve.proofs.Outcomes.{backward_tight}
@@ -45,23 +46,26 @@ no_capacities : (arcs : List Arc) → length arcs ≡ 0 → sum_by (λ a. a.cap)
 no_capacities [] e = refl
 no_capacities (a ∷ arcs) e = absurd (omega arith)
 
--- a flow after an augmentation
-pub record IsRaised (net : Net) (s t : ℕ → Bool) (ys : List ℕ) (k : ℕ) : Type 0 where
-  pub feasible : IsFeasible net s t ys
-  pub value : HasValue net s ys k
-  pub no_loops : HasNoLoops net ys
+-- the flow that carries nothing
+pub zero_flow : (net : Net) (s t : List ℕ) → IsFlow net s t (replicate (length net.arcs) 0) 0
+zero_flow net s t = record {
+  feasible = zeros_feasible net (one_of s) (one_of t);
+  value = zeros_value net (one_of s);
+  no_loops = zeros_no_loops net;
+}
 
-pub raised : (net : Net) (s t xs dist via : List ℕ) (value d v : ℕ) → AreApart (one_of s) (one_of t) → IsFeasible net (one_of s) (one_of t) xs → HasValue net (one_of s) xs value → HasNoLoops net xs → length via ≡ net.nodes → IsSearched net xs Backwards t dist via → IsTrue (one_of s v) → IsNode net v → IsMarked dist (v - 1) → HasRoom net xs d (trail_from net dist via v) → IsRaised net (one_of s) (one_of t) (push_all xs (trail_from net dist via v) d) (value + d)
-raised net s t xs dist via value d v a f k z size q i node m room =
+-- a flow after an augmentation
+pub raised : (net : Net) (s t xs dist via : List ℕ) (value d v : ℕ) → AreApart (one_of s) (one_of t) → IsFlow net s t xs value → length via ≡ net.nodes → IsSearched net xs Backwards t dist via → IsTrue (one_of s v) → IsNode net v → IsMarked dist (v - 1) → HasRoom net xs d (trail_from net dist via v) → IsFlow net s t (push_all xs (trail_from net dist via v) d) (value + d)
+raised net s t xs dist via value d v a f size q i node m room =
     let trails = searched_trails net xs t dist via size q in
     let r = trail_is net xs dist via (get_or dist (v - 1) 0) v trails node.0 node.1 m refl in
     let sink = sink_at net xs t dist via r.last q r.node.0 r.node.1 r.marked r.over in
     let apart = climbs_apart net (nearness net dist) v r.last (trail_from net dist via v) r.leads r.climbs in
-    let more = augmented net (one_of s) (one_of t) xs d v r.last (trail_from net dist via v) f i sink (sink_no_source (one_of s) (one_of t) a r.last sink) r.leads apart room in
+    let more = augmented net (one_of s) (one_of t) xs d v r.last (trail_from net dist via v) f.feasible i sink (sink_no_source (one_of s) (one_of t) a r.last sink) r.leads apart room in
     record {
       feasible = more.0;
-      value = omega (arith, k, more.1);
-      no_loops = no_loops_climbed net (nearness net dist) xs d (trail_from net dist via v) r.climbs z;
+      value = omega (arith, f.value, more.1);
+      no_loops = no_loops_climbed net (nearness net dist) xs d (trail_from net dist via v) r.climbs f.no_loops;
     }
 
 -- the steps of one more augmentation
@@ -85,15 +89,15 @@ paid_all net before now value n l p =
     let all = paid (capacities net) value net.nodes (length net.arcs) l (no_capacities net.arcs) (let two = n.nodes_least in omega arith) in omega arith
 
 -- the same of a table's flows before the search, after it and after the pushes
-pub raised_by : (net : Net) (s t xs dist via : List ℕ) (value d v : ℕ) (zs ys : List ℕ) → AreTerminals net s t → IsFeasible net (one_of s) (one_of t) xs → HasValue net (one_of s) xs value → HasNoLoops net xs → length via ≡ net.nodes → IsSearched net xs Backwards t dist via → IsTrue (one_of s v) → IsNode net v → IsMarked dist (v - 1) → zs ≡ xs → HasRoom net zs d (trail_from net dist via v) → ys ≡ push_all zs (trail_from net dist via v) d → IsRaised net (one_of s) (one_of t) ys (value + d)
-raised_by net s t xs dist via value d v zs ys a f k z size q i node m kept room pushed =
-    let r = raised net s t xs dist via value d v (terminals_apart net s t a) f k z size q i node m (subst (λ (us : List ℕ). HasRoom net us d (trail_from net dist via v)) kept room) in
+pub raised_by : (net : Net) (s t xs dist via : List ℕ) (value d v : ℕ) (zs ys : List ℕ) → AreTerminals net s t → IsFlow net s t xs value → length via ≡ net.nodes → IsSearched net xs Backwards t dist via → IsTrue (one_of s v) → IsNode net v → IsMarked dist (v - 1) → zs ≡ xs → HasRoom net zs d (trail_from net dist via v) → ys ≡ push_all zs (trail_from net dist via v) d → IsFlow net s t ys (value + d)
+raised_by net s t xs dist via value d v zs ys a f size q i node m kept room pushed =
+    let r = raised net s t xs dist via value d v (terminals_apart net s t a) f size q i node m (subst (λ (us : List ℕ). HasRoom net us d (trail_from net dist via v)) kept room) in
     let same : ys ≡ push_all xs (trail_from net dist via v) d = pushed ∙ ap (λ (us : List ℕ). push_all us (trail_from net dist via v) d) kept in
-    subst (λ (us : List ℕ). IsRaised net (one_of s) (one_of t) us (value + d)) (sym same) r
+    subst (λ (us : List ℕ). IsFlow net s t us (value + d)) (sym same) r
 
 -- no trail: the flow's value is the greatest, and the least capacity
-pub settled : (net : Net) (s t xs : List ℕ) (X : ℕ → Bool) (value : ℕ) → IsNet net → IsFeasible net (one_of s) (one_of t) xs → HasValue net (one_of s) xs value → IsWhole Backwards net xs t X → ((v : ℕ) → IsTrue (one_of s v) → IsFalse (X v)) → IsGreatest net (one_of s) (one_of t) value × IsLeastCapacity net (one_of s) (one_of t) value
-settled net s t xs X value n f k w out =
-    let r = backward_tight net (one_of s) t X xs n f w out in
-    let same : capacity net (λ v. not (X v)) ≡ value = let v = r.value in omega arith in
+pub settled : (net : Net) (s t xs : List ℕ) (X : ℕ → Bool) (value : ℕ) → IsNet net → IsFlow net s t xs value → IsWhole Backwards net xs t X → ((v : ℕ) → IsTrue (one_of s v) → IsFalse (X v)) → IsGreatest net (one_of s) (one_of t) value × IsLeastCapacity net (one_of s) (one_of t) value
+settled net s t xs X value n f w out =
+    let r = backward_tight net (one_of s) t X xs n f.feasible w out in
+    let same : capacity net (λ v. not (X v)) ≡ value = let v = r.value in let k = f.value in omega arith in
     (subst (IsGreatest net (one_of s) (one_of t)) same r.greatest, ((λ v. not (X v)), r.minimum, same))

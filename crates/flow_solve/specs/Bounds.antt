@@ -1,6 +1,10 @@
--- Bounds on the steps of the methods.
+-- How many cells the methods work in, and bounds on their steps.
 use Rattle.std.specs.Prelude.{ℕ, ◌+◌, ◌*◌, length, sum_by}
 use Rattle.flow_net.specs.Nets.{Net}
+
+-- how many cells a solver works in
+abbrev pub work_cells : Net → ℕ
+work_cells net = 6 * net.nodes + 2 * length net.arcs + 2
 
 -- the sum of the capacities
 abbrev pub capacities : Net → ℕ
@@ -13,3 +17,7 @@ paths_bound net = 4 * (capacities net + 1) * net.nodes * length net.arcs
 -- how many steps the phases of the method by levels take at most, whatever feasible flow they start from
 abbrev pub phases_bound : Net → ℕ
 phases_bound net = 3 * net.nodes * net.nodes * length net.arcs
+
+-- how many steps the method by levels takes at most
+abbrev pub levels_bound : Net → ℕ
+levels_bound net = 4 * net.nodes * net.nodes * length net.arcs

@@ -1,5 +1,6 @@
 pub mod Bounds
 pub mod Packs
+pub mod Raising
 pub mod Searches
 pub mod Trails
 pub mod Levels

@@ -10,27 +10,15 @@
 //! a counted step; the ends of arcs it may read freely.
 //!
 //! No call takes memory or refuses: all work is done in the first [`work_len`] cells of a slice that the caller lends. A
-//! cell holds a half-arc, a place, a distance or a rank. With `n` nodes and `m` arcs there are, in this order, for
-//! [`Paths`], [`reach`] and [`reach_back`]:
+//! cell holds a half-arc, a place, a distance or a rank. With `n` nodes and `m` arcs there are, in this order:
 //!
 //! | Cells | What they hold |
 //! |---|---|
 //! | `n` | each node's distance in the last search |
-//! | `n` | the half-arc over which the search came to it |
+//! | `n` | the half-arc over which the search came to it; in a phase of [`Levels`] the node's rank after the search |
 //! | `n` | the search's queue |
-//! | `n + 1` | where each node's half-arcs begin in the next cells |
-//! | `2·m` | the half-arcs, those of a node side by side |
-//! | `2·n + 1` | spare |
-//!
-//! and for [`Levels`]:
-//!
-//! | Cells | What they hold |
-//! |---|---|
-//! | `n` | each node's distance in the last search |
-//! | `n` | the half-arc over which the search came to it; in the phase after the search its rank |
-//! | `n` | the search's queue |
-//! | `n` | each node's current place: that of its half-arc which the walks try next |
-//! | `n` | the half-arcs of the walk's path |
+//! | `n` | for [`Levels`] each node's current place: that of its half-arc which the walks try next |
+//! | `n` | for [`Levels`] the half-arcs of the walk's path |
 //! | `n + 1` | where each node's half-arcs begin in the next cells |
 //! | `2·m` | the half-arcs, those of a node side by side |
 //! | `1` | spare |
@@ -41,6 +29,7 @@ mod method;
 mod packing;
 mod paths;
 mod phases;
+mod raising;
 mod reaching;
 mod searching;
 mod walking;

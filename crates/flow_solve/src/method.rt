@@ -4,6 +4,7 @@ ghost use Rattle.flow_net.specs.Nets.{Net, AreTerminals};
 ghost use Rattle.flow_net.specs.NodeSets.{one_of};
 ghost use Rattle.flow_net.specs.Flows.{Fits, IsFeasible, HasValue, IsGreatest, HasNoLoops};
 ghost use Rattle.flow_net.specs.Cuts.{IsLeastCapacity};
+ghost use Rattle.flow_solve.specs.Bounds.{work_cells};
 
 use flow_net::{FlowTable, Network};
 
@@ -24,7 +25,7 @@ pub trait Method {
     fn greatest(net: &Network, s: &[u32], t: &[u32], flow: &mut FlowTable, work: &mut [u32]) -> u128
         requires fits { Fits net.now flow.old.flows }
         requires terminals { AreTerminals net.now s.now t.now }
-        requires cells { 6 * net.now.nodes + 2 * length net.now.arcs + 2 ≤ length work.old }
+        requires cells { work_cells net.now ≤ length work.old }
         ensures feasible { IsFeasible net.now (one_of s.now) (one_of t.now) flow.new.flows }
         ensures value { HasValue net.now (one_of s.now) flow.new.flows result }
         ensures greatest { IsGreatest net.now (one_of s.now) (one_of t.now) result }
@@ -32,5 +33,5 @@ pub trait Method {
         ensures loops { HasNoLoops net.now flow.new.flows }
         ensures never_lowered { flow.old.steps ≤ flow.new.steps }
         ensures steps { flow.new.steps ≤ flow.old.steps + steps_bound net.now }
-        ensures rest { drop (6 * net.now.nodes + 2 * length net.now.arcs + 2) work.new ≡ drop (6 * net.now.nodes + 2 * length net.now.arcs + 2) work.old };
+        ensures rest { drop (work_cells net.now) work.new ≡ drop (work_cells net.now) work.old };
 }

@@ -15,8 +15,9 @@ ghost use Rattle.flow_solve.specs.Searches.{IsMarked, IsSearched, IsWhole, seen}
 ghost use Rattle.flow_solve.specs.Bounds.{paths_bound};
 ghost use Rattle.flow_solve.specs.Trails.{AreTrails, trail_from};
 
-use crate::method::{Method, work_len};
-use crate::packing::{Packed, pack};
+use crate::method::Method;
+use crate::packing::Packed;
+use crate::raising::{Raise, solve};
 use crate::searching::{Direction, Plan, WANTED, head, search};
 use flow_net::{FlowTable, GREATEST_CAPACITY, Network};
 
@@ -137,42 +138,34 @@ fn augment(net: &Network, flow: &mut FlowTable, dist: &[u32], via: &[u32], sourc
     amount
 }
 
-/// Raises a flow of value 0 until no residual path leads from a source to a sink, and answers its value.
-fn augment_all(net: &Network, s: &[u32], t: &[u32], flow: &mut FlowTable, cells: &mut [u32]) -> u128
-    requires feasible { IsFeasible net.now (one_of s.now) (one_of t.now) flow.old.flows }
-    requires zero { HasValue net.now (one_of s.now) flow.old.flows 0 }
-    requires no_loops { HasNoLoops net.now flow.old.flows }
-    requires terminals { AreTerminals net.now s.now t.now }
-    requires cells { length cells.old ≡ 6 * net.now.nodes + 2 * length net.now.arcs + 2 }
-    ensures feasible { IsFeasible net.now (one_of s.now) (one_of t.now) flow.new.flows }
-    ensures value { HasValue net.now (one_of s.now) flow.new.flows result }
-    ensures greatest { IsGreatest net.now (one_of s.now) (one_of t.now) result }
-    ensures least { IsLeastCapacity net.now (one_of s.now) (one_of t.now) result }
-    ensures loops { HasNoLoops net.now flow.new.flows }
-    ensures never_lowered { flow.old.steps ≤ flow.new.steps }
-    ensures steps { flow.new.steps ≤ flow.old.steps + paths_bound net.now }
-{
-    let n = net.nodes() as usize;
-    let m = net.len() as usize;
-    let (dist, rest) = cells.split_at_mut(n);
-    let (via, rest) = rest.split_at_mut(n);
-    let (queue, rest) = rest.split_at_mut(n);
-    let (first, rest) = rest.split_at_mut(n + 1);
-    let (halves, _) = rest.split_at_mut(2 * m);
-    pack(net, first, halves);
-    let packed = Packed { net, first, halves };
-    let mut value = 0u128;
-    while let Some(source) = find_trail(packed, flow, s, t, dist, via, queue) {
-        value += u128::from(augment(net, flow, dist, via, source));
-    }
-    value
-}
-
 /// Augments along a residual path as long as there is one, with a search for each.
 ///
 /// It takes at most `4·(C + 1)·n·m` steps, `C` being the sum of the capacities: that is what is proved. As its paths are
 /// shortest ones, it takes no more than some `n·m` searches either (Edmonds and Karp 1972). It suits small networks.
 pub struct Paths;
+
+impl Raise for Paths {
+    ghost steps_bound = { paths_bound };
+
+    fn raise(
+        packed: Packed<'_>,
+        s: &[u32],
+        t: &[u32],
+        flow: &mut FlowTable,
+        cells: &mut [u32],
+        value: u128,
+    ) -> u128 {
+        let n = packed.net.nodes() as usize;
+        let (dist, rest) = cells.split_at_mut(n);
+        let (via, rest) = rest.split_at_mut(n);
+        let (queue, _) = rest.split_at_mut(n);
+        let mut raised = value;
+        while let Some(source) = find_trail(packed, flow, s, t, dist, via, queue) {
+            raised += u128::from(augment(packed.net, flow, dist, via, source));
+        }
+        raised
+    }
+}
 
 impl Method for Paths {
     ghost steps_bound = { paths_bound };
@@ -184,8 +177,6 @@ impl Method for Paths {
         flow: &mut FlowTable,
         work: &mut [u32],
     ) -> u128 {
-        let (cells, _rest) = work.split_at_mut(work_len(net.nodes(), net.len()));
-        flow.clear();
-        augment_all(net, s, t, flow, cells)
+        solve::<Paths>(net, s, t, flow, work)
     }
 }

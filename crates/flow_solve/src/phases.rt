@@ -3,10 +3,11 @@ ghost use Rattle.std.specs.Prelude.{◌≡◌, ◌⊎◌, ℕ, List, true, false
 ghost use Rattle.std.specs.List.{All};
 ghost use Rattle.flow_net.specs.Nets.{Net, IsNode, AreTerminals};
 ghost use Rattle.flow_net.specs.NodeSets.{one_of};
-ghost use Rattle.flow_net.specs.Flows.{Fits, IsFeasible, HasValue, IsGreatest, HasNoLoops};
+ghost use Rattle.flow_net.specs.Flows.{Fits, IsGreatest};
 ghost use Rattle.flow_net.specs.Cuts.{IsLeastCapacity};
 ghost use Rattle.flow_solve.specs.Bounds.{phases_bound};
 ghost use Rattle.flow_solve.specs.Packs.{IsPacked};
+ghost use Rattle.flow_solve.specs.Raising.{IsFlow};
 ghost use Rattle.flow_solve.specs.Searches.{seen, IsWhole};
 ghost use Rattle.flow_solve.specs.Levels.{cell_of, place_of, owed, IsDead, IsInPhase, AreSinks, IsOrdered, IsGentle, AreLevels, IsFar};
 
@@ -125,14 +126,10 @@ fn run_phase(
     requires size { length current.old ≡ phase.packed.net.now.nodes }
     requires path_size { length path.old ≡ phase.packed.net.now.nodes }
     requires levels { AreLevels phase.packed.net.now phase.s.now phase.t.now flow.old.flows phase.dist.now phase.rank.now }
-    requires feasible { IsFeasible phase.packed.net.now (one_of phase.s.now) (one_of phase.t.now) flow.old.flows }
-    requires value { HasValue phase.packed.net.now (one_of phase.s.now) flow.old.flows value }
-    requires loops { HasNoLoops phase.packed.net.now flow.old.flows }
+    requires flow { IsFlow phase.packed.net.now phase.s.now phase.t.now flow.old.flows value }
     ensures size { length current.new ≡ phase.entry.packed.net.now.nodes }
     ensures path_size { length path.new ≡ phase.entry.packed.net.now.nodes }
-    ensures feasible { IsFeasible phase.entry.packed.net.now (one_of phase.entry.s.now) (one_of phase.entry.t.now) flow.new.flows }
-    ensures value { HasValue phase.entry.packed.net.now (one_of phase.entry.s.now) flow.new.flows result }
-    ensures loops { HasNoLoops phase.entry.packed.net.now flow.new.flows }
+    ensures flow { IsFlow phase.entry.packed.net.now phase.entry.s.now phase.entry.t.now flow.new.flows result }
     ensures few { (j : ℕ) → IsFar phase.entry.packed.net.now phase.entry.s.now phase.entry.t.now flow.old.flows j → j + 1 < phase.entry.packed.net.now.nodes }
     ensures far { (j : ℕ) → IsFar phase.entry.packed.net.now phase.entry.s.now phase.entry.t.now flow.old.flows j → IsFar phase.entry.packed.net.now phase.entry.s.now phase.entry.t.now flow.new.flows (j + 1) }
     ensures never_lowered { flow.old.steps ≤ flow.new.steps }
@@ -156,14 +153,10 @@ pub(crate) fn run_phases(
     requires packed { IsPacked packed.net.now packed.first.now packed.halves.now }
     requires terminals { AreTerminals packed.net.now s.now t.now }
     requires cells { length cells.old ≡ 5 * packed.net.now.nodes }
-    requires feasible { IsFeasible packed.net.now (one_of s.now) (one_of t.now) flow.old.flows }
-    requires value { HasValue packed.net.now (one_of s.now) flow.old.flows value }
-    requires no_loops { HasNoLoops packed.net.now flow.old.flows }
-    ensures feasible { IsFeasible packed.entry.net.now (one_of s.now) (one_of t.now) flow.new.flows }
-    ensures value { HasValue packed.entry.net.now (one_of s.now) flow.new.flows result }
+    requires flow { IsFlow packed.net.now s.now t.now flow.old.flows value }
+    ensures flow { IsFlow packed.entry.net.now s.now t.now flow.new.flows result }
     ensures greatest { IsGreatest packed.entry.net.now (one_of s.now) (one_of t.now) result }
     ensures least { IsLeastCapacity packed.entry.net.now (one_of s.now) (one_of t.now) result }
-    ensures loops { HasNoLoops packed.entry.net.now flow.new.flows }
     ensures never_lowered { flow.old.steps ≤ flow.new.steps }
     ensures steps { flow.new.steps ≤ flow.old.steps + phases_bound packed.entry.net.now }
 {

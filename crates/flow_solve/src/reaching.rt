@@ -8,6 +8,7 @@ ghost use Rattle.flow_net.specs.Nets.{Net, IsNode, AreTerminals};
 ghost use Rattle.flow_net.specs.NodeSets.{one_of, marked};
 ghost use Rattle.flow_net.specs.Flows.{Fits, IsFeasible, HasValue, HasGreatestValue};
 ghost use Rattle.flow_net.specs.Cuts.{capacity, IsMinimumCut, IsInLeastSourceSide, IsInLeastSinkSide};
+ghost use Rattle.flow_solve.specs.Bounds.{work_cells};
 ghost use Rattle.flow_solve.specs.Searches.{seen, IsWhole, HasRoute};
 
 use crate::method::work_len;
@@ -38,7 +39,7 @@ fn comes_to(
     requires fits { Fits net.now flow.old.flows }
     requires starts { All (IsNode net.now) starts.now }
     requires until { All (IsNode net.now) until.now }
-    requires cells { length cells.old ≡ 6 * net.now.nodes + 2 * length net.now.arcs + 2 }
+    requires cells { length cells.old ≡ work_cells net.now }
     requires side { length side.old ≡ net.now.nodes }
     ensures route { result ≡ true → HasRoute direction net.now flow.old.flows starts.now until.now }
     ensures whole { result ≡ false → IsWhole direction net.now flow.old.flows starts.now (marked side.new) }
@@ -84,7 +85,7 @@ pub fn reach(
 ) -> bool
     requires feasible { IsFeasible net.now (one_of s.now) (one_of t.now) flow.old.flows }
     requires terminals { AreTerminals net.now s.now t.now }
-    requires cells { 6 * net.now.nodes + 2 * length net.now.arcs + 2 ≤ length work.old }
+    requires cells { work_cells net.now ≤ length work.old }
     requires side { length side.old ≡ net.now.nodes }
     ensures answer { (result ≡ false) ↔ HasGreatestValue net.now (one_of s.now) (one_of t.now) flow.old.flows }
     ensures side { result ≡ false → (v : ℕ) → IsNode net.now v → IsTrue (marked side.new v) ↔ IsInLeastSourceSide net.now (one_of s.now) (one_of t.now) v }
@@ -93,7 +94,7 @@ pub fn reach(
     ensures flows { flow.new.flows ≡ flow.old.flows }
     ensures never_lowered { flow.old.steps ≤ flow.new.steps }
     ensures steps { flow.new.steps ≤ flow.old.steps + 2 * length net.now.arcs }
-    ensures rest { drop (6 * net.now.nodes + 2 * length net.now.arcs + 2) work.new ≡ drop (6 * net.now.nodes + 2 * length net.now.arcs + 2) work.old }
+    ensures rest { drop (work_cells net.now) work.new ≡ drop (work_cells net.now) work.old }
 {
     let (cells, _rest) = work.split_at_mut(work_len(net.nodes(), net.len()));
     comes_to(net, flow, Direction::Forwards, s, t, cells, side)
@@ -111,7 +112,7 @@ pub fn reach_back(
 ) -> bool
     requires feasible { IsFeasible net.now (one_of s.now) (one_of t.now) flow.old.flows }
     requires terminals { AreTerminals net.now s.now t.now }
-    requires cells { 6 * net.now.nodes + 2 * length net.now.arcs + 2 ≤ length work.old }
+    requires cells { work_cells net.now ≤ length work.old }
     requires side { length side.old ≡ net.now.nodes }
     ensures answer { (result ≡ false) ↔ HasGreatestValue net.now (one_of s.now) (one_of t.now) flow.old.flows }
     ensures side { result ≡ false → (v : ℕ) → IsNode net.now v → IsTrue (marked side.new v) ↔ IsInLeastSinkSide net.now (one_of s.now) (one_of t.now) v }
@@ -120,7 +121,7 @@ pub fn reach_back(
     ensures flows { flow.new.flows ≡ flow.old.flows }
     ensures never_lowered { flow.old.steps ≤ flow.new.steps }
     ensures steps { flow.new.steps ≤ flow.old.steps + 2 * length net.now.arcs }
-    ensures rest { drop (6 * net.now.nodes + 2 * length net.now.arcs + 2) work.new ≡ drop (6 * net.now.nodes + 2 * length net.now.arcs + 2) work.old }
+    ensures rest { drop (work_cells net.now) work.new ≡ drop (work_cells net.now) work.old }
 {
     let (cells, _rest) = work.split_at_mut(work_len(net.nodes(), net.len()));
     comes_to(net, flow, Direction::Backwards, t, s, cells, side)

@@ -9,16 +9,9 @@ use Rattle.flow_solve.proofs.phases.run_phases.Goals as goal
 
 pub phases-init : goal.phases-init
 phases-init c = record {
-  feasible = c.requires.feasible;
-  value = c.requires.value;
-  no_loops = c.requires.no_loops;
+  flow = c.requires.flow;
   far = far_start c.args.packed.net.now c.args.s.now c.args.t.now c.args.flow.now.flows (terminals_apart c.args.packed.net.now c.args.s.now c.args.t.now c.requires.terminals);
   few = omega (arith, c.nodes-n.ensures.is_net.nodes_least);
-  dist_size = omega arith;
-  rank_size = omega arith;
-  queue_size = omega arith;
-  current_size = omega arith;
-  path_size = omega arith;
   never_lowered = omega arith;
   steps = omega arith;
 }
@@ -28,16 +21,9 @@ phases-preserved c =
     let old = c.phases.invariant in let found = c.find_levels.ensures in let now = c.run_phase-value.ensures in let net = c.args.packed.net.now in
     let far : IsFar net c.args.s.now c.args.t.now c.find_levels.new.flow.flows c.phases.phases = subst (λ (ys : List ℕ). IsFar net c.args.s.now c.args.t.now ys c.phases.phases) (sym found.flows) old.far in
     record {
-      feasible = now.feasible;
-      value = now.value;
-      no_loops = now.loops;
+      flow = now.flow;
       far = now.far c.phases.phases far;
       few = now.few c.phases.phases far;
-      dist_size = found.dist_size;
-      rank_size = found.rank_size;
-      queue_size = found.queue_size;
-      current_size = now.size;
-      path_size = now.path_size;
       never_lowered = omega (arith, old.never_lowered, found.never_lowered, now.never_lowered);
       steps = omega (arith, old.steps, found.steps, now.steps);
     }
@@ -45,12 +31,12 @@ phases-preserved c =
 pub returns-clause-greatest : goal.returns-clause-greatest
 returns-clause-greatest c =
     let old = c.phases.invariant in let found = c.find_levels.ensures in
-    (settled c.args.packed.net.now c.args.s.now c.args.t.now c.phases.flow.flows (seen c.find_levels.new.dist) c.phases.value c.nodes-n.ensures.is_net old.feasible old.value (found.whole c.phases-test.false) (found.outside c.phases-test.false)).0
+    (settled c.args.packed.net.now c.args.s.now c.args.t.now c.phases.flow.flows (seen c.find_levels.new.dist) c.phases.value c.nodes-n.ensures.is_net old.flow (found.whole c.phases-test.false) (found.outside c.phases-test.false)).0
 
 pub returns-clause-least : goal.returns-clause-least
 returns-clause-least c =
     let old = c.phases.invariant in let found = c.find_levels.ensures in
-    (settled c.args.packed.net.now c.args.s.now c.args.t.now c.phases.flow.flows (seen c.find_levels.new.dist) c.phases.value c.nodes-n.ensures.is_net old.feasible old.value (found.whole c.phases-test.false) (found.outside c.phases-test.false)).1
+    (settled c.args.packed.net.now c.args.s.now c.args.t.now c.phases.flow.flows (seen c.find_levels.new.dist) c.phases.value c.nodes-n.ensures.is_net old.flow (found.whole c.phases-test.false) (found.outside c.phases-test.false)).1
 
 pub returns-clause-steps : goal.returns-clause-steps
 returns-clause-steps c =

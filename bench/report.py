@@ -109,21 +109,30 @@ class Report:
 
     def write(self, top):
         """Puts the tables and the picture into the documents."""
+        page, readme = places(top)
         (top / 'docs' / 'benchmarks.svg').write_text(self.picture(), encoding='utf-8')
-        put(top / 'docs' / 'BENCHMARKS.md', self.tables() + '\n\n![Seconds by family and solver](benchmarks.svg)')
-        put(top / 'README.md', f'Run of {self.date} on {self.machine}; seconds of the processor, the least of '
-            f'{self.given.repeat} runs.\n\n' + self.short_table())
+        put(page, self.tables() + '\n\n![Seconds by family and solver](benchmarks.svg)')
+        put(readme, f'Run of {self.date} on {self.machine}; seconds of the processor, the least of {self.given.repeat} '
+            'runs.\n\n' + self.short_table())
 
     def picture(self):
         """A row for each family, a mark for each solver at its time, on a scale by tens."""
         return Picture(self).text()
 
 
+def places(top):
+    """The two documents that tables are put into; it ends the program where one has no place for them."""
+    pages = [top / 'docs' / 'BENCHMARKS.md', top / 'README.md']
+    for path in pages:
+        page = path.read_text(encoding='utf-8')
+        if page.count(BEGIN) != 1 or page.count(END) != 1:
+            raise SystemExit(f'{path.name} has no place between one {BEGIN} and one {END}')
+    return pages
+
+
 def put(path, text):
     """Puts a text between the two markers of a document."""
     page = path.read_text(encoding='utf-8')
-    if page.count(BEGIN) != 1 or page.count(END) != 1:
-        raise SystemExit(f'{path.name} has no place between {BEGIN} and {END}')
     pattern = re.compile(re.escape(BEGIN) + '.*?' + re.escape(END), re.S)
     path.write_text(pattern.sub(lambda _: f'{BEGIN}\n{text}\n{END}', page), encoding='utf-8')
 

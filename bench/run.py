@@ -244,6 +244,8 @@ def options():
 
 def main():
     given = options()
+    if given.write:
+        report.places(HERE.parent)
     given.folder.mkdir(parents=True, exist_ok=True)
     flow = given.flow or built_flow(given.folder / 'bin')
     flow = str(Path(flow).resolve())

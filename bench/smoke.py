@@ -6,6 +6,8 @@ search for augmenting paths finds; the runner has to write its tables and its pi
 wrong or stopped, and to do without one that isn't there. The last line is 'bench: N passed, M failed'.
 """
 import io
+import re
+import shutil
 import subprocess
 import sys
 import tempfile
@@ -116,6 +118,16 @@ def runner(flow, folder):
     holds('a solver that fails is told', told.returncode == 0 and '| failed |' in told.stdout)
 
 
+def instructions(flow):
+    """The counts of instructions, where valgrind is installed."""
+    if not shutil.which('valgrind'):
+        print('bench: valgrind is not installed, so no instructions were counted')
+        return
+    told = subprocess.run([sys.executable, HERE / 'instructions.py', flow], capture_output=True, text=True)
+    figures = [float(figure) for figure in re.findall(r'^\| .* \| (\d+\.\d) \|$', told.stdout, re.M)]
+    holds('three kinds of bytes have a count of instructions', len(figures) == 3 and min(figures) >= 1)
+
+
 def documents(folder):
     """What is put between the markers of a document, and that the rest of it stays."""
     page = folder / 'page.md'
@@ -134,6 +146,7 @@ def main():
         families(flow, folder)
         runner(flow, folder)
         documents(folder)
+        instructions(flow)
     print(f'bench: {passed} passed, {failed} failed')
     return 1 if failed else 0
 

@@ -14,9 +14,11 @@ the last line counts them.
 import csv
 import os
 import re
+import struct
 import subprocess
 import sys
 import tempfile
+import zlib
 from itertools import combinations
 
 ROOT = os.path.dirname(os.path.dirname(os.path.abspath(__file__)))
@@ -90,7 +92,9 @@ def rows(*path):
 
 
 def content(path):
-    """What a file holds: the pixels of a picture in PNG, else the bytes."""
+    """What a file holds: the pixels of a picture in PNG, else the bytes; None where there is no file."""
+    if not os.path.exists(path):
+        return None
     if path.endswith(".png"):
         return png.read(path).pixels
     with open(path, "rb") as file:
@@ -268,7 +272,7 @@ def own_data(checks, flow, scratch, name, expected):
                                       "--out", out)
     checks.equal(f"{name}: other data, status and complaint", (status, complaint), (0, ""))
     checks.equal(f"{name}: other data", words.splitlines()[:-1], expected)
-    checks.equal(f"{name}: other data, picture", os.path.getsize(os.path.join(out, PICTURES[name])) > 0, True)
+    checks.equal(f"{name}: other data, picture", bool(content(os.path.join(out, PICTURES[name]))), True)
 
 
 def small_segmentation(checks, flow, scratch):
@@ -287,7 +291,7 @@ def small_segmentation(checks, flow, scratch):
         "by colour alone: 24 of 48 pixels are object",
         "4 neighbours: 50 nodes, 212 arcs, minimum cut 282", "  24 of 48 pixels are object",
         "8 neighbours: 50 nodes, 352 arcs, minimum cut 298", "  24 of 48 pixels are object"])
-    inside = png.read(os.path.join(scratch, "out", "object8.png")).pixels
+    inside = content(os.path.join(scratch, "out", "object8.png"))
     checks.equal("segmentation: other data, object", inside, [[(20, 20, 20)] * 4 + [(255, 255, 255)] * 4] * 6)
 
 
@@ -365,6 +369,51 @@ def common_module(checks, flow):
     checks.equal("dimacs: infinite", problem.infinite(), 6)
 
 
+FILTERED = (
+    (0, (10, 20, 30), (10, 20, 30)),  # as it is
+    (1, (12, 10, 11), (12, 22, 33)),  # less what is left of it
+    (2, (3, 254, 7), (15, 20, 40)),  # less what is above it, by 256
+    (3, (13, 10, 15), (20, 30, 50)),  # less the mean of both: 7, 20, 35
+    (4, (1, 30, 246), (21, 60, 50)),  # less the one of both and the corner nearest to left + above - corner: 20, 30, 60
+    (4, (4, 10, 11), (25, 70, 71)),  # 21, 60, and the corner 60
+)
+"""Rows of a grey picture by hand: the filter (PNG specification), what stands in the file, and the row."""
+
+
+def png_file(path, width, height, colour_type, raw):
+    """A PNG file of 8 bits a channel, its data in two chunks, with a chunk before them that plays no part."""
+    packed = zlib.compress(raw)
+    chunks = [(b"IHDR", struct.pack(">IIBBBBB", width, height, 8, colour_type, 0, 0, 0)), (b"tEXt", b"Title\0none"),
+              (b"IDAT", packed[:5]), (b"IDAT", packed[5:]), (b"IEND", b"")]
+    with open(path, "wb") as file:
+        file.write(b"\x89PNG\r\n\x1a\n")
+        for kind, body in chunks:
+            file.write(struct.pack(">I", len(body)) + kind + body + struct.pack(">I", zlib.crc32(kind + body)))
+
+
+def pictures(checks, scratch):
+    """Pictures in PNG as other programs write them."""
+    path = os.path.join(scratch, "picture.png")
+    png_file(path, 3, len(FILTERED), 0, bytes(byte for kind, line, _ in FILTERED for byte in (kind, *line)))
+    checks.equal("png: grey", png.read(path).pixels, [[(grey,) * 3 for grey in row] for _, _, row in FILTERED])
+    png_file(path, 1, 2, 4, bytes((0, 9, 8, 2, 1, 255)))
+    checks.equal("png: grey with opacity", png.read(path).pixels, [[(9, 9, 9, 8)], [(10, 10, 10, 7)]])
+    png_file(path, 2, 1, 2, bytes((1, 1, 2, 3, 4, 5, 6)))
+    checks.equal("png: RGB", png.read(path).pixels, [[(1, 2, 3), (5, 7, 9)]])
+    png_file(path, 2, 1, 6, bytes((1, 1, 2, 3, 4, 1, 1, 1, 252)))
+    checks.equal("png: RGB with opacity", png.read(path).pixels, [[(1, 2, 3, 4), (2, 3, 4, 0)]])
+    png.write(path, png.read(path))
+    checks.equal("png: written and read", png.read(path).pixels, [[(1, 2, 3, 4), (2, 3, 4, 0)]])
+    png_file(path, 1, 1, 3, bytes((0, 0)))
+    for name in (path, os.path.join(EXAMPLES, "README.md")):
+        try:
+            png.read(name)
+            refused = False
+        except ValueError:
+            refused = True
+        checks.equal(f"png: {os.path.basename(name)} is refused", refused, True)
+
+
 def networkx_function(checks, flow):
     """The flow function of NetworkX: its own script, and the README's few lines."""
     status, words, complaint = python("examples/networkx/try_networkx.py", flow)
@@ -400,6 +449,7 @@ def main():
                 by_networkx[name](checks, words, scratch)
             small[name](checks, flow, os.path.join(folder, f"small {name}"))
         complaints(checks, flow, os.path.join(folder, "complaints"))
+        pictures(checks, folder)
     common_module(checks, flow)
     networkx_function(checks, flow)
     print(f"examples: {checks.passed} passed, {checks.failed} failed")

@@ -275,6 +275,16 @@ def cut_of_floats_is_exact():
     assert nx.minimum_cut(graph, "s", "t", flow_func=flow) == (0.3, ({"s", "a", "b", "c"}, {"t"}))
 
 
+def almost_full_edge_is_not_full():
+    # By hand: 1 + 2^-53 + 2^-60 come to the last edge. It takes 1 + 2^-52, the float nearest to that, which is more.
+    graph = nx.DiGraph()
+    for node, amount in (("a", 1.0), ("b", 2.0 ** -53), ("c", 2.0 ** -60)):
+        graph.add_edge("s", node, capacity=amount)
+        graph.add_edge(node, "d")
+    graph.add_edge("d", "t", capacity=1 + 2.0 ** -52)
+    assert nx.minimum_cut(graph, "s", "t", flow_func=flow) == (1 + 2.0 ** -52, ({"s"}, set("abcdt")))
+
+
 def cutoffs():
     graph = nx.complete_graph(5)
     nx.set_edge_attributes(graph, 3, "capacity")
@@ -313,7 +323,8 @@ def main():
     count.try_("random graphs of floats", lambda: random_graphs(nx.DiGraph, halves))
     count.try_("random graphs of fractions", lambda: random_graphs(nx.Graph, (Fraction(1, 3), Fraction(5, 7), 2)))
     for test in (nodes_of_any_kind, attribute_of_another_name, infinite_capacities, refused_graphs, great_capacities,
-                 kinds_of_answers, cut_of_floats_is_exact, cutoffs, residual_network, missing_program):
+                 kinds_of_answers, cut_of_floats_is_exact, almost_full_edge_is_not_full, cutoffs, residual_network,
+                 missing_program):
         count.try_(test.__name__.replace("_", " "), test)
     print(f"networkx: {count.passed} passed, {count.failed} failed")
     sys.exit(1 if count.failed else 0)

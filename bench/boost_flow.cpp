@@ -1,6 +1,6 @@
-// The value of a DIMACS maximum flow problem by the Boost Graph Library (Debian: libboost-graph-dev), with its own reader:
-// boost_flow push-relabel FILE, boost_flow boykov-kolmogorov FILE. And boost_flow stoer-wagner FILE: the edge connectivity
-// of the undirected network, where a line says 'k VALUE'.
+// The value of a DIMACS maximum flow problem by the Boost Graph Library (Debian: libboost-graph-dev), with its own
+// reader: boost_flow push-relabel FILE, boost_flow boykov-kolmogorov FILE. And boost_flow stoer-wagner FILE: the edge
+// connectivity of the undirected network, where a line says 'k VALUE'.
 #include <boost/graph/adjacency_list.hpp>
 #include <boost/graph/boykov_kolmogorov_max_flow.hpp>
 #include <boost/graph/push_relabel_max_flow.hpp>

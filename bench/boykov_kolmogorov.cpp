@@ -1,5 +1,6 @@
 // The value of a DIMACS maximum flow problem by the library of Boykov and Kolmogorov (Debian: libmaxflow-dev).
-// Its sums are exact below 2^53. The reader is as plain as it can be, so that the time is the library's: the whole file at once, and no test of it.
+// Its sums are exact below 2^53. The reader is as plain as it can be, so that the time is the library's: the whole
+// file at once, and no test of it.
 #include <cstdio>
 #include <memory>
 #include <vector>

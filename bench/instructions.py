@@ -17,7 +17,8 @@ ARCS = 20000
 
 def instructions(folder, *words):
     """The instructions of a run."""
-    done = subprocess.run(['valgrind', '--tool=callgrind', f'--callgrind-out-file={folder / "callgrind"}', *map(str, words)],
+    counter = ['valgrind', '--tool=callgrind', f'--callgrind-out-file={folder / "callgrind"}']
+    done = subprocess.run([*counter, *map(str, words)],
                           stdout=subprocess.DEVNULL, stderr=subprocess.PIPE, text=True, timeout=600)
     return int(re.search(r'refs: +([0-9,]+)', done.stderr)[1].replace(',', ''))
 
@@ -38,13 +39,15 @@ def rows(flow, folder):
     start = f'p max {NODES} {2 * ARCS}\nn 1 s\nn {NODES} t\n'
 
     # A line that no problem has ends the run when all before it has been read, and nothing else been done.
-    shorter, longer = (written(folder / name, start, text, 'x\n') for name, text in (('shorter', half), ('longer', whole)))
+    shorter = written(folder / 'shorter', start, half, 'x\n')
+    longer = written(folder / 'longer', start, whole, 'x\n')
     read = instructions(folder, flow, 'solve', longer) - instructions(folder, flow, 'solve', shorter)
     yield 'reading arc lines', read / (len(whole) - len(half))
 
     empty = written(folder / 'empty', f'p max {NODES} 0\nn 1 s\nn {NODES} t\n')
     half, whole = ''.join(flows[:ARCS]), ''.join(flows)
-    shorter, longer = (written(folder / name, 's 1\n', text, 'x\n') for name, text in (('shorter', half), ('longer', whole)))
+    shorter = written(folder / 'shorter', 's 1\n', half, 'x\n')
+    longer = written(folder / 'longer', 's 1\n', whole, 'x\n')
     read = instructions(folder, flow, 'check', empty, longer) - instructions(folder, flow, 'check', empty, shorter)
     yield 'reading flow lines of a solution', read / (len(whole) - len(half))
 

@@ -2,8 +2,9 @@
 """The value of a problem by a solver of Python: python_solvers.py SOLVER FILE
 
 SOLVER is igraph, networkx or scipy, and the line that is printed 's VALUE', the greatest value of a flow; or
-igraph-connect or networkx-connect, and the line 'k VALUE', the edge connectivity of the undirected network. Each library
-is used as its manual says, with its reader of the format where it has one. With a SOLVER alone its version is printed.
+igraph-connect or networkx-connect, and the line 'k VALUE', the edge connectivity of the undirected network. Each
+library is used as its manual says, with its reader of the format where it has one. With a SOLVER alone its version is
+printed.
 """
 import sys
 

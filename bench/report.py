@@ -79,8 +79,8 @@ class Report:
         for part in self.parts:
             for problem in part.problems:
                 took, other, words = self.against(problem)
-                lines.append(f'| {problem.family} | {thousands(problem.arcs)} | {"-" if took is None else seconds(took)} '
-                             f'| {other or "-"} | {words} |')
+                own = '-' if took is None else seconds(took)
+                lines.append(f'| {problem.family} | {thousands(problem.arcs)} | {own} | {other or "-"} | {words} |')
         return '\n'.join(lines)
 
     def behind(self):
@@ -98,9 +98,11 @@ class Report:
         for part in self.parts:
             for solver in part.solvers:
                 versions.setdefault(f'{solver.name} {solver.version}'.strip())
-        words = [f'Run of {self.date} on {self.machine}. Problems of size `{self.given.size}`, seed {self.given.seed}; '
-                 f'the least of {self.given.repeat} runs in turn, in seconds of the processor (user and system). A solver '
-                 f'is stopped at {self.given.limit:.0f} seconds. Solvers: ' + ', '.join(versions) + '.', '', self.behind()]
+        words = [f'Run of {self.date} on {self.machine}. Problems of size `{self.given.size}`, '
+                 f'seed {self.given.seed}; '
+                 f'the least of {self.given.repeat} runs in turn, in seconds of the processor (user and system). A '
+                 f'solver is stopped at {self.given.limit:.0f} seconds. Solvers: ' + ', '.join(versions) + '.', '',
+                 self.behind()]
         for part in self.parts:
             words += ['', f'### {part.title}', '', self.table(part)]
         if self.instructions:
@@ -217,6 +219,6 @@ class Picture:
         head = (f'<svg xmlns="http://www.w3.org/2000/svg" viewBox="0 0 {self.WIDTH} {height:.0f}" width="{self.WIDTH}" '
                 f'height="{height:.0f}" font-family="DejaVu Sans, Helvetica, Arial, sans-serif" fill="#222222">\n'
                 f'<rect width="{self.WIDTH}" height="{height:.0f}" fill="#ffffff"/>\n'
-                '<text x="20" y="28" font-size="17" font-weight="bold">From file to value: seconds of the processor, less '
-                'is better</text>\n')
+                '<text x="20" y="28" font-size="17" font-weight="bold">From file to value: seconds of the processor, '
+                'less is better</text>\n')
         return head + '\n'.join(self.lines) + '\n</svg>\n'

@@ -1,9 +1,9 @@
 #!/usr/bin/env python3
 """Compares flow with the solvers that are installed: from file to value, families of problems, least of several times.
 
-With no option it proves and builds flow (minutes), makes the problems, measures, and prints the tables; with --write it
-puts the tables and the picture into docs/BENCHMARKS.md, docs/benchmarks.svg and README.md. Debian's packages of the other
-solvers: liblemon-utils, glpk-utils, python3-igraph, python3-networkx, python3-scipy, libmaxflow-dev and
+With no option it proves and builds flow (minutes), makes the problems, measures, and prints the tables; with --write
+it puts the tables and the picture into docs/BENCHMARKS.md, docs/benchmarks.svg and README.md. Debian's packages of the
+other solvers: liblemon-utils, glpk-utils, python3-igraph, python3-networkx, python3-scipy, libmaxflow-dev and
 libboost-graph-dev with g++. The values of all solvers must agree: where two differ, the status is 1.
 """
 import argparse
@@ -78,7 +78,7 @@ def compiled(folder, name, *libraries):
 
 
 def python_solver(name):
-    """The words of a solver of Python and its version: of the system's Python, or else of this one; nothing of neither."""
+    """The words of a solver of Python and its version, by the system's Python or else by this one."""
     for interpreter in ('/usr/bin/python3', sys.executable):
         version = output_of(interpreter, str(HERE / 'python_solvers.py'), name)
         if version:
@@ -101,7 +101,7 @@ def asked_boost(asked, folder, methods):
 
 
 def flow_solvers(asked, folder):
-    """The other solvers of maximum flows that are asked for and that this machine has."""
+    """The other solvers of maximum flows that are asked for and found."""
     found = []
     if asked('LEMON') and shutil.which('dimacs-solver'):
         found.append(Solver('LEMON', package_version('liblemon-utils'), ['dimacs-solver', '-long'],
@@ -121,7 +121,7 @@ def flow_solvers(asked, folder):
 
 
 def connectivity_solvers(asked, folder):
-    """The other solvers of the edge connectivity of undirected networks that are asked for and that this machine has."""
+    """The other solvers of the edge connectivity of undirected networks that are asked for and found."""
     return [*asked_boost(asked, folder, {'Boost Stoer-Wagner': 'stoer-wagner'}),
             *asked_python(asked, 'igraph-connect', 'igraph'), *asked_python(asked, 'networkx-connect', 'NetworkX')]
 
@@ -234,7 +234,7 @@ def options():
     parser.add_argument('--folder', type=Path, default=cache / 'flow-bench',
                         help='of problems and programs (%(default)s)')
     parser.add_argument('--only', nargs='+', default=[], metavar='FAMILY', help='families (all)')
-    parser.add_argument('--solvers', nargs='+', default=[], metavar='NAME', help="others than flow's (all that are found)")
+    parser.add_argument('--solvers', nargs='+', default=[], metavar='NAME', help='besides flow (all that are found)')
     parser.add_argument('--also', nargs=2, action='append', default=[], metavar=('NAME', 'COMMAND'),
                         help='one more solver of flows, whose last word will be the file and which prints s VALUE')
     parser.add_argument('--no-instructions', action='store_true', help='leave valgrind out')

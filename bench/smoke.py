@@ -92,8 +92,8 @@ def families(flow, folder):
 
 def run(flow, folder, *words):
     """The runner on tiny problems, with no other solver than those that the words add."""
-    return subprocess.run([sys.executable, HERE / 'run.py', '--flow', flow, '--size', 'tiny', '--folder', folder, '--repeat',
-                           '2', '--no-instructions', '--solvers', 'none', *words],
+    return subprocess.run([sys.executable, HERE / 'run.py', '--flow', flow, '--size', 'tiny', '--folder', folder,
+                           '--repeat', '2', '--no-instructions', '--solvers', 'none', *words],
                           capture_output=True, text=True)
 
 

@@ -1,8 +1,8 @@
 #!/usr/bin/env bash
 # Makes the Debian package of the program, DIR/flow_VERSION_amd64.deb: package.sh DIR [PROGRAM]
-# Where no PROGRAM is handed in, scripts/install.sh proves and builds it first. A machine that installs the package needs
-# no Rattle kit. DEBFULLNAME and DEBEMAIL name another maintainer than the project. The path of the package is the one
-# line of standard output.
+# Where no PROGRAM is handed in, scripts/install.sh proves and builds it first. A machine that installs the package
+# needs no Rattle kit. DEBFULLNAME and DEBEMAIL name another maintainer than the project. The path of the package is the
+# one line of standard output.
 set -eu
 if [ $# -lt 1 ] || [ $# -gt 2 ]; then
   echo "usage: bash scripts/package.sh DIR [PROGRAM]" >&2

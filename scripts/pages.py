@@ -42,7 +42,7 @@ class Help:
             else:
                 block[name].append(line)
         head = '\n'.join(block[''])
-        self.commands = {m[1]: m[2] for m in map(re.compile(r'  (\w+)  +(.*)').fullmatch, block.get('Commands', [])) if m}
+        self.commands = re.findall(r'^  (\w+)  +\S', '\n'.join(block.get('Commands', [])), re.M)
         self.options = [(m[1] or '', m[2]) for m in map(
             re.compile(r' +(?:(-\w), )?(--[\w-]+).*').fullmatch, block.get('Options', [])) if m]
         usage = re.search(r'^Usage: flow ?(.*)$', head, re.M)

@@ -1,7 +1,8 @@
 #!/usr/bin/env bash
 # Tries a package in a root of its own: try_package.sh PACKAGE ROOT
-# ROOT is a root file system of Debian, as 'debootstrap --variant=minbase bookworm ROOT' makes it. The package is installed
-# there with dpkg, the program does its jobs there, and the package is removed again. Needs the right to chroot.
+# ROOT is a root file system of Debian, as 'debootstrap --variant=minbase bookworm ROOT' makes it. The package is
+# installed there with dpkg, the program does its jobs there, and the package is removed again. Needs the right to
+# chroot.
 set -eu
 if [ $# -ne 2 ]; then
   echo "usage: bash scripts/try_package.sh PACKAGE ROOT" >&2

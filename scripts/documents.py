@@ -7,9 +7,9 @@ FLOW is the built `flow`; without a DOCUMENT, README.md and all of docs/ are rea
 line `$ COMMAND` is run by bash, with the lines of its here document, and the lines after it are what it prints, on
 standard output and standard error together. The commands of a document run one after the other in a scratch folder of
 its own, with a copy of examples/ and with FLOW on the PATH as `flow`; `$?` is the status of the command before. In a
-block fenced as ```console checkout, they run in the repository itself, where standard output alone is compared, and
-the repository's path is shown as /path/to/flow. Links to files of the repository must lead somewhere. Each check that
-fails is told; the last line counts them.
+block fenced as ```console checkout, they run in the repository itself, where standard output alone is compared, with
+the repository's path shown as /path/to/flow, and they must leave no file behind that git would take. Links to files of
+the repository must lead somewhere. Each check that fails is told; the last line counts them.
 """
 
 import difflib
@@ -78,6 +78,15 @@ def run(command, status, folder, environment, in_checkout):
     return done.returncode, done.stdout.replace(str(REPOSITORY), SHOWN_PATH) if in_checkout else done.stdout
 
 
+def changes():
+    """What git says has changed in the repository; nothing where there is no git."""
+    try:
+        done = subprocess.run(["git", "status", "--porcelain"], cwd=REPOSITORY, capture_output=True, text=True)
+    except FileNotFoundError:
+        return ""
+    return done.stdout
+
+
 def check_commands(document, scratch, flow):
     """Runs the commands of a document; answers how many printed what is shown, and how many did not."""
     folder, programs = scratch / "work", scratch / "bin"
@@ -91,7 +100,10 @@ def check_commands(document, scratch, flow):
         status = 0
         for number, command, shown in commands(lines, first):
             place = REPOSITORY if in_checkout else folder
+            before = changes() if in_checkout else ""
             status, printed = run(command, status, place, environment, in_checkout)
+            if in_checkout and changes() != before:
+                printed += "and the repository isn't as it was\n"
             if printed == shown:
                 passed += 1
                 continue

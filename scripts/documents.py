@@ -114,17 +114,24 @@ def check_commands(document, scratch, flow):
     return passed, failed
 
 
+def places(document):
+    """The names by which links reach the headings of a document."""
+    headings = re.findall(r"^#+ (.*)$", document.read_text(), re.M)
+    return {re.sub(r"[^\w\- ]", "", heading.lower()).replace(" ", "-") for heading in headings}
+
+
 def check_links(document):
-    """Looks for the files that a document links to or shows; answers how many are there, and how many are not."""
+    """Looks for what a document links to or shows; answers how many of these are there, and how many are not."""
     passed = failed = 0
-    for target in re.findall(r"\]\(([^)#\s]+)(?:#[^)\s]*)?\)", document.read_text()):
-        if re.match(r"[a-z]+:", target):
+    for name, place in re.findall(r"\]\(([^)#\s]*)(?:#([^)\s]*))?\)", document.read_text()):
+        if re.match(r"[a-z]+:", name):
             continue
-        if (document.parent / target).exists():
+        target = document.parent / name if name else document
+        if target.exists() and (not place or place in places(target)):
             passed += 1
         else:
             failed += 1
-            print(f"failed: {document.relative_to(REPOSITORY)} links to {target}, which isn't there")
+            print(f"failed: {document.relative_to(REPOSITORY)} links to {name}#{place}, which isn't there")
     return passed, failed
 
 

@@ -93,16 +93,18 @@ impl Network {
     /// # Errors
     ///
     /// `OutOfMemory` where the growth was refused; the network is then unchanged.
+    #[inline(always)]
     pub fn push(&mut self, arc: Arc) -> Result<(), OutOfMemory>
         requires room { length self.old.arcs < MOST_ARCS_BOTH_WAYS }
         requires within { IsArcWithin self.old.nodes arc }
         ensures ok { OnOk result (self.new ≡ record self.old { arcs = self.old.arcs ++ arc ∷ [] }) }
         ensures err { OnErr result (self.new ≡ self.old) }
     {
-        match self.arcs.push(arc) {
-            Ok(()) => Ok(()),
-            Err(_) => Err(OutOfMemory),
+        if self.arcs.reserve(1).is_err() {
+            return Err(OutOfMemory);
         }
+        self.arcs.push_reserved(arc);
+        Ok(())
     }
 
     /// The same network with every capacity set to 1, in which a flow counts arcs. It takes no memory.

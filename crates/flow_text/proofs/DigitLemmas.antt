@@ -1,5 +1,5 @@
 -- The value of a field, digit by digit from its front.
-use Rattle.std.proofs.Common.{◌≡◌, ◌<◌, ◌≤◌, ℕ, suc, ◌+◌, ◌-◌, ◌*◌, ◌^◌, true, false, List, length, get_or, drop, refl, ◌∙◌, arith, add-one, drop-cons}
+use Rattle.std.proofs.Common.{◌≡◌, ◌<◌, ◌≤◌, ℕ, suc, ◌+◌, ◌-◌, ◌*◌, ◌^◌, ◌%◌, true, false, List, length, get_or, drop, refl, ◌∙◌, arith, add-one, drop-cons}
 use Rattle.std.specs.Char.{is_ascii_digit}
 use Rattle.std.specs.Str.{all_ascii_digits}
 use Rattle.std.proofs.lemmas.List.{drop_all}
@@ -64,3 +64,16 @@ digit-le c h = grind (arith, common_steps)
 -- one digit more passes 128 bits, and so the whole does
 pub Makes-past : (field : List ℕ) (i value : ℕ) → i < length field → Makes field i value → 2 ^ 128 ≤ value * 10 + (get_or field i 0 - 48) → 2 ^ 128 ≤ value_of field
 Makes-past field i value h so past = let le = Makes-le field (i + 1) _ (Makes-more field i value h so) in omega arith
+
+-- a byte from which that of the digit 0 is taken, in 64 bits that wrap: the digit's value, and above 9 for any other byte
+abbrev pub less_zero : ℕ → ℕ
+less_zero c = (c + 18446744073709551568) % 18446744073709551616
+
+pub is_digit-less_zero : (c : ℕ) → c < 256 → less_zero c ≤ 9 → is_ascii_digit c ≡ true
+is_digit-less_zero c byte nine =
+    let least : 48 ≤ c = omega arith in
+    let most : c ≤ 57 = omega arith in
+    grind (arith, common_steps)
+
+pub less_zero-digit : (c : ℕ) → c < 256 → less_zero c ≤ 9 → c - 48 ≡ less_zero c
+less_zero-digit c byte nine = omega arith

@@ -120,10 +120,11 @@ impl SolutionLines {
             dst: dst as u32,
             flow,
         };
-        match self.lines.push(line) {
-            Ok(()) => Ok(true),
-            Err(_) => Err(Refusal::Memory),
+        if self.lines.reserve(1).is_err() {
+            return Err(Refusal::Memory);
         }
+        self.lines.push_reserved(line);
+        Ok(true)
     }
 
     /// The flow lines so far.

@@ -6,31 +6,31 @@ ghost use Rattle.flow_text.specs.UsualLines.{IsLeading, IsNumberUntil, IsLetter,
 // The value of the digits from `start` on, at most 19, and the place behind them.
 #[inline(always)]
 fn leading_digits(text: &[u8], start: usize) -> (u64, usize)
-    requires { start ≤ length text.now }
+    requires { start + 19 ≤ length text.now }
     ensures low { start ≤ result.1 }
     ensures short { result.1 ≤ start + 19 }
     ensures leading { IsLeading (drop start text.now) result.0 (result.1 - start) }
 {
-    let most = text.len().min(start + 19);
     let mut value: u64 = 0;
-    for i in start..most {
-        if !text[i].is_ascii_digit() {
+    for i in start..start + 19 {
+        let digit = (text[i] as u64).wrapping_sub(48);
+        if digit > 9 {
             return (value, i);
         }
-        value = value * 10 + (text[i] - b'0') as u64;
+        value = value * 10 + digit;
     }
-    (value, most)
+    (value, start + 19)
 }
 
 // The value of the number that begins at `start`, where it has at most 19 digits and this byte is behind it, and the place of
 // that byte.
 #[inline(always)]
 fn number_until(text: &[u8], start: usize, end: u8) -> Option<(u64, usize)>
-    requires { start ≤ length text.now }
-    ensures { IfSome result (λ found. (start ≤ found.1) × IsNumberUntil (drop start text.now) end found.0 (found.1 - start)) }
+    requires { start + 20 ≤ length text.now }
+    ensures { IfSome result (λ found. (start ≤ found.1) × (found.1 ≤ start + 19) × IsNumberUntil (drop start text.now) end found.0 (found.1 - start)) }
 {
     let (value, at) = leading_digits(text, start);
-    if at == start || at >= text.len() || text[at] != end {
+    if at == start || text[at] != end {
         return None;
     }
     Some((value, at))
@@ -42,7 +42,7 @@ pub(crate) fn usual_line(text: &[u8], letter: u8) -> Option<(u64, u64, u64, usiz
     requires { IsLetter letter }
     ensures { IfSome result (λ found. IsUsual letter text.now found.0 found.1 found.2 found.3) }
 {
-    if text.len() < 2 || text[0] != letter || text[1] != b' ' {
+    if text.len() < 62 || text[0] != letter || text[1] != b' ' {
         return None;
     }
     let (src, first) = number_until(text, 2, b' ')?;

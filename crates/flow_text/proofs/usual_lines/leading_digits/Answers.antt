@@ -1,5 +1,5 @@
-use Rattle.std.proofs.Common.{arith, ◌<◌, ◌≡◌, ◌+◌, ◌-◌, ◌*◌, get_or, drop, subst}
-use Rattle.flow_text.proofs.DigitLemmas.{digit-le, fits-more, fits-nineteen}
+use Rattle.std.proofs.Common.{arith, ◌<◌, ◌≤◌, ◌≡◌, ◌+◌, ◌-◌, ◌*◌, get_or, drop, subst}
+use Rattle.flow_text.proofs.DigitLemmas.{fits-more, fits-nineteen, less_zero, is_digit-less_zero, less_zero-digit}
 use Rattle.flow_text.specs.UsualLines.{IsLeading}
 use Rattle.flow_text.proofs.UsualLemmas.{IsLeading-none, IsLeading-at}
 use Rattle.flow_text.proofs.usual_lines.leading_digits.Goals as goal
@@ -17,7 +17,14 @@ overflow_mul-value c =
 pub overflow_add-value : goal.overflow_add-value
 overflow_add-value c =
     let more : c.loop-i.value * 10 + 9 < 10000000000000000000 = fits-nineteen (c.loop-i.i - c.args.start + 1) _ (omega arith) (fits-more _ _ 9 (omega arith) c.loop-i.invariant.fits) in
-    let nine = digit-le (get_or c.args.text.now c.loop-i.i 0) (grind arith) in omega arith
+    omega arith
 
 pub loop-i-preserved : goal.loop-i-preserved
-loop-i-preserved c = IsLeading-at c.args.text.now c.loop-i.value c.args.start c.loop-i.i (omega arith) (omega arith) (grind arith) (digit-le _ (grind arith)) c.loop-i.invariant
+loop-i-preserved c =
+    let byte = get_or c.args.text.now c.loop-i.i 0 in
+    let known = c.type_inv.text c.loop-i.i in
+    let fits : byte < 256 = omega arith in
+    let nine : less_zero byte ≤ 9 = c.if-digit-gt9.false in
+    let digit : byte - 48 ≡ less_zero byte = less_zero-digit byte fits nine in
+    subst (λ d. IsLeading (drop c.args.start c.args.text.now) (c.loop-i.value * 10 + d) (c.loop-i.i + 1 - c.args.start)) digit
+    (IsLeading-at c.args.text.now c.loop-i.value c.args.start c.loop-i.i (omega arith) (omega arith) (is_digit-less_zero byte fits nine) (omega arith) c.loop-i.invariant)

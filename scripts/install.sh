@@ -22,6 +22,7 @@ Proving and building flow, since nothing is built that isn't proved. From nothin
 on four cores, and two to three gigabytes of memory; what an earlier run has proved is kept, and taken up.
 TEXT
 
+{ # The rest is read at once, so that a change of this file while the proof goes on does no harm.
 log=$(mktemp)
 start=$SECONDS
 set -m # a group of processes of its own, to be ended as one
@@ -56,3 +57,5 @@ rm -f "$log"
 install -m 755 crates/flow/out/flow "$folder/flow"
 printf 'proved and built in %d minutes %d seconds\n' $(((SECONDS - start) / 60)) $(((SECONDS - start) % 60)) >&2
 echo "$folder/flow"
+exit 0
+}

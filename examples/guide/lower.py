@@ -8,9 +8,10 @@ other. What is printed is the value and the flow of each row. Where no flow keep
 into which more must come than can leave it, or the other way round.
 """
 
-import csv
 import subprocess
 import sys
+
+from rows import read_rows, whole
 
 
 def run(command, nodes, sources, sinks, arcs):
@@ -19,7 +20,12 @@ def run(command, nodes, sources, sinks, arcs):
     problem += [f"n {node} s" for node in sources] + [f"n {node} t" for node in sinks]
     problem += [f"a {source} {target} {capacity}" for source, target, capacity in arcs]
     text = "\n".join(problem) + "\n"
-    done = subprocess.run(["flow", command], input=text, stdout=subprocess.PIPE, text=True, check=True)
+    try:
+        done = subprocess.run(["flow", command], input=text, stdout=subprocess.PIPE, text=True)
+    except FileNotFoundError:
+        sys.exit("the program flow isn't on the PATH")
+    if done.returncode != 0:
+        sys.exit(done.returncode)
     lines = [line.split() for line in done.stdout.splitlines()]
     return int(lines[0][1]), [[int(field) for field in line[1:]] for line in lines[1:]]
 
@@ -54,12 +60,20 @@ def greatest_flow(rows, count, sources, sinks, flow):
 
 
 def main():
-    with open(sys.argv[1], newline="") as file:
-        table = list(csv.DictReader(file))
+    if len(sys.argv) != 4:
+        sys.exit("usage: lower.py TABLE SOURCE[,SOURCE ..] SINK[,SINK ..]")
+    table = read_rows(sys.argv[1], "from", "to", "low", "high")
     names = list(dict.fromkeys(row[end] for row in table for end in ("from", "to")))
     number = {name: place for place, name in enumerate(names, 1)}
+    for name in ",".join(sys.argv[2:4]).split(","):
+        if name not in number:
+            sys.exit(f"{sys.argv[1]} has no row from or to {name!r}")
     sources, sinks = ([number[name] for name in word.split(",")] for word in sys.argv[2:4])
-    rows = [(number[row["from"]], number[row["to"]], int(row["low"]), int(row["high"])) for row in table]
+    rows = [(number[row["from"]], number[row["to"]], whole(sys.argv[1], row, "low"), whole(sys.argv[1], row, "high"))
+            for row in table]
+    for row, (_, _, low, high) in zip(table, rows):
+        if low > high:
+            sys.exit(f"{sys.argv[1]}: low is greater than high from {row['from']} to {row['to']}")
 
     flow, side = least_flow(rows, len(names), sources, sinks)
     if flow is None:
@@ -72,7 +86,7 @@ def main():
         print(", ".join(name for name in names if number[name] in side))
         return 1
     flow = greatest_flow(rows, len(names), sources, sinks, flow)
-    value = sum((tail in sources) * amount - (head in sources) * amount for (tail, head, _, _), amount in zip(rows, flow))
+    value = sum(((tail in sources) - (head in sources)) * amount for (tail, head, _, _), amount in zip(rows, flow))
     print(f"value {value}")
     for row, amount in zip(table, flow):
         print(f"{row['from']} -> {row['to']}: {amount} of {row['low']} to {row['high']}")

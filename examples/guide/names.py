@@ -7,8 +7,10 @@ ENDS = {"n": 1, "f": 2, "a": 2, "over": 2, "unbalanced": 1}
 
 
 def main():
+    if len(sys.argv) != 2:
+        sys.exit("usage: names.py PROBLEM < OUTPUT")
     names = {}
-    with open(sys.argv[1]) as file:
+    with open(sys.argv[1], encoding="utf-8") as file:
         for line in file:
             if line.startswith("c node "):
                 number, name = line[len("c node "):].rstrip("\n").split(" ", 1)

@@ -10,8 +10,9 @@ into what flow prints.
 """
 
 import argparse
-import csv
 import sys
+
+from rows import read_rows, whole
 
 
 def main():
@@ -23,18 +24,17 @@ def main():
     words.add_argument("sinks", help="the names of the sinks, parted by commas")
     given = words.parse_args()
 
-    with open(given.table, newline="") as file:
-        rows = list(csv.DictReader(file))
+    rows = read_rows(given.table, "from", "to", "capacity")
     nodes = {}
     for row in rows:
         nodes.setdefault(row["from"], len(nodes) + 1)
         nodes.setdefault(row["to"], len(nodes) + 1)
-    terminals = [(name, kind) for names, kind in ((given.sources, "s"), (given.sinks, "t")) for name in names.split(",")]
+    terminals = [(name, "s") for name in given.sources.split(",")] + [(name, "t") for name in given.sinks.split(",")]
     for name, _ in terminals:
         if name not in nodes:
             sys.exit(f"{given.table} has no link from or to {name!r}")
 
-    infinite = 1 + sum(int(row["capacity"]) for row in rows if row["capacity"] != "inf")
+    infinite = 1 + sum(whole(given.table, row, "capacity") for row in rows if row["capacity"] != "inf")
     arcs = []
     for row in rows:
         capacity = 1 if given.unit else infinite if row["capacity"] == "inf" else int(row["capacity"])

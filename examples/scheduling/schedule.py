@@ -30,7 +30,7 @@ class Week:
 
     def __init__(self, people, shifts):
         self.most = {row["person"]: int(row["most"]) for row in people}
-        self.can = {row["person"]: row["can"].split(";") for row in people}
+        self.can = {row["person"]: [shift.strip() for shift in row["can"].split(";") if shift.strip()] for row in people}
         self.places = {row["shift"]: int(row["places"]) for row in shifts}
         command.check_known((shift for can in self.can.values() for shift in can if shift), self.places)
         self.days = list(dict.fromkeys(day_of(shift) for shift in self.places))
@@ -104,7 +104,7 @@ def explain(week, near_sources, near_sinks):
 def draw(path, week, taken, short, value):
     """The roster: a row for each person, a column for each shift."""
     shifts = list(week.places)
-    width = LEFT + CELL * len(shifts) + 130
+    width = max(LEFT + CELL * len(shifts) + 130, 800)
     bottom = TOP + CELL * len(week.most)
     drawing = svg.Drawing(width, bottom + 190, "A roster and the places that stay empty")
     needed = sum(week.places.values())
@@ -114,10 +114,12 @@ def draw(path, week, taken, short, value):
         x = LEFT + CELL * column
         if shift in short:
             drawing.rect(x, TOP - 28, CELL, bottom - TOP + 70, fill=SHORT)
-        drawing.text(x + CELL // 2, TOP - 10, shift.split()[1], 13, text_anchor="middle")
+        drawing.text(x + CELL // 2, TOP - 10, " ".join(shift.split()[1:]), 13, text_anchor="middle")
         draw_filled(drawing, x, bottom, sum(other == shift for other, _ in taken), week.places[shift])
-    for place, day in enumerate(week.days):
-        drawing.text(LEFT + CELL * (2 * place + 1), TOP - 36, day, 15, text_anchor="middle", font_weight="bold")
+    for day in week.days:
+        columns = [column for column, shift in enumerate(shifts) if day_of(shift) == day]
+        middle = LEFT + CELL * (columns[0] + columns[-1] + 1) // 2
+        drawing.text(middle, TOP - 36, day, 15, text_anchor="middle", font_weight="bold")
     drawing.text(LEFT + CELL * len(shifts) + 22, TOP - 10, "shifts / most", 13)
     drawing.text(28, bottom + 28, "filled / places", 13)
     for row, person in enumerate(week.most):
@@ -173,7 +175,7 @@ def main():
         print(f"these shifts have {sum(week.places[shift] for shift in short)} places: {', '.join(short)}")
         print(f"at most {sum(gives.values())} of them can be filled: "
               + ", ".join(f"{person} {number}" for person, number in gives.items()))
-        print(f"one more would be filled if one of these could work then: {', '.join(helpers)}")
+        print("one more would be filled if one of these could work then: " + (", ".join(helpers) or "nobody"))
     draw(example.output("roster.svg"), week, taken, short, value)
     print(f"drawn: {example.output('roster.svg')}")
 

@@ -69,7 +69,9 @@ class Report:
         if took is None or not others:
             return took, None, 'no other solver finished' if took is not None else 'flow was stopped'
         least, name = min(others)
-        if took <= least:
+        if max(took, least) <= 1.05 * min(took, least):
+            return took, f'{name} {seconds(least)}', 'level with it'
+        if took < least:
             return took, f'{name} {seconds(least)}', f'{times(least / took)} times as fast'
         return took, f'{name} {seconds(least)}', f'behind, {times(took / least)} times the time'
 
@@ -80,7 +82,9 @@ class Report:
             for problem in part.problems:
                 took, other, words = self.against(problem)
                 own = '-' if took is None else seconds(took)
-                lines.append(f'| {problem.family} | {thousands(problem.arcs)} | {own} | {other or "-"} | {words} |')
+                kind = '' if part is self.parts[0] else f' ({part.title.lower()})'
+                lines.append(f'| {problem.family}{kind} | {thousands(problem.arcs)} | {own} | {other or "-"} '
+                             f'| {words} |')
         return '\n'.join(lines)
 
     def behind(self):

@@ -180,27 +180,25 @@ def zsh_offers(lines):
         setup = f"unsetopt zle_bracketed_paste; PS1='READY>'; fpath=({folder} $fpath); autoload -Uz compinit; " \
                 "compinit -D -u; bindkey '^X' list-choices; stty cols 200 rows 100; print SET''UP"
         os.write(terminal, setup.encode() + b'\r')
-        read_until(terminal, 'SETUP', 20)
-        read_until(terminal, 'READY>', 20)
+        read_until(terminal, 'SETUP')
+        read_until(terminal, 'READY>')
         for line in lines:
             os.write(terminal, line.encode() + b'\x18')
-            text = read_until(terminal, None, 1.5)
+            text = read_until(terminal, f'READY>{line}') # the line again, below the list
             offers.append(text[text.find(line) + len(line):])
             os.write(terminal, b'\x15\r')
-            read_until(terminal, 'READY>', 20)
+            read_until(terminal, 'READY>')
     finally:
         os.close(terminal)
         os.waitpid(child, 0)
     return offers
 
 
-def read_until(terminal, mark, seconds):
-    """What the terminal shows, up to the mark; with no mark, all that comes before it is silent for so long."""
+def read_until(terminal, mark):
+    """What the terminal shows, up to the mark, or within a minute."""
     text = ''
-    end = time.monotonic() + seconds
-    while mark is None or mark not in text:
-        if not select.select([terminal], [], [], max(0, end - time.monotonic()))[0]:
-            break
+    end = time.monotonic() + 60
+    while mark not in text and select.select([terminal], [], [], max(0, end - time.monotonic()))[0]:
         text += os.read(terminal, 65536).decode(errors='replace')
     return text
 

@@ -23,7 +23,7 @@ import tempfile
 
 REPOSITORY = pathlib.Path(__file__).resolve().parent.parent
 SHOWN_PATH = "/path/to/flow"
-SECONDS = 600
+SECONDS = 3600  # An install proves what it doesn't find proved.
 
 
 def blocks(text):

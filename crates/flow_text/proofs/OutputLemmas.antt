@@ -1,11 +1,12 @@
 -- How long the lines are, and how a text of lines grows.
-use Rattle.std.proofs.Common.{◌≡◌, ℕ, ◌+◌, ◌^◌, ◌<◌, ◌≤◌, Bool, true, false, cond, List, [], ◌∷◌, ◌++◌, length, get_or, take, refl, ap, ◌∙◌, arith, lit≤, append-nil, length-append, ℤ, FitsSigned}
+use Rattle.std.proofs.Common.{◌≡◌, ℕ, ◌+◌, ◌-◌, ◌^◌, ◌<◌, ◌≤◌, drop, set, length-set, Bool, true, false, cond, List, [], ◌∷◌, ◌++◌, length, get_or, take, refl, ap, ◌∙◌, arith, lit≤, append-nil, length-append, ℤ, FitsSigned}
 use Rattle.std.specs.Prelude.{filter, decimal, codes, if◌then◌else◌}
 use Rattle.std.specs.Int.{w128}
 use Rattle.std.specs.Fmt.{signed_decimal}
 use Rattle.std.specs.List.{flat_map, zip, range_with_len}
 use Rattle.std.proofs.lemmas.Fmt.{length-decimal-le_wide}
-use Rattle.std.proofs.lemmas.Grind.{flat_map-append}
+use Rattle.std.proofs.lemmas.Grind.{flat_map-append, drop-set_at}
+use Rattle.std.proofs.lemmas.Slice.{between_to_end}
 use Rattle.std.proofs.lemmas.List.Elements.{filter_more}
 use Rattle.std.proofs.lemmas.List.FromFn.{get_or-range_with_len, length-range_with_len}
 use Rattle.std.proofs.lemmas.List.{take_all, take_more}
@@ -163,3 +164,9 @@ module _ (X : ℕ → Bool) (n i : ℕ) where
 
   pub node_lines_end : n ≤ i → flat_map node_line (filter X (take i (range_with_len 1 n))) ≡ flat_map node_line (filter X (range_with_len 1 n))
   node_lines_end past = ap (λ l. flat_map node_line (filter X l)) (take_all i (range_with_len 1 n) (omega (arith, length-range_with_len 1 n)))
+
+-- the bytes from a byte on that was written in front of others
+pub written_front : (bytes : List ℕ) (n end byte : ℕ) → length bytes ≡ n → 0 < end → end ≤ n → take (n - (end - 1)) (drop (end - 1) (set bytes (end - 1) byte)) ≡ byte ∷ drop end bytes
+written_front bytes n end byte long some within =
+    let next : end - 1 + 1 ≡ end = omega arith in
+    between_to_end (set bytes (end - 1) byte) (end - 1) n (omega (arith, length-set bytes (end - 1) byte)) ∙ drop-set_at bytes (end - 1) (end - 1) byte (omega arith) (omega arith) ∙ ap (λ k. byte ∷ drop k bytes) next

@@ -25,7 +25,8 @@ pub use laws::{
 pub use line_fields::Fields;
 pub use numbers::Number;
 pub use output::{
-    Line, arc_line, connect_line, fault_line, flow_line, node_line, solution_line, verdict_line,
+    Line, MOST_LINE_BYTES, arc_line, connect_line, fault_line, flow_line, node_line, push_arc_line,
+    push_flow_line, push_node_line, solution_line, verdict_line,
 };
 pub use problem_reader::ProblemReader;
 pub use scan::{fields, number};

@@ -15,8 +15,11 @@ use itoa::{Buffer, Integer, write_digits};
 #[cfg(test)]
 mod tests;
 
-/// A line of output with its byte 10. No line is longer than 128 bytes, so that none takes memory.
-pub type Line = ArrayVec<u8, 128>;
+/// No line is longer than this, in bytes.
+pub const MOST_LINE_BYTES: usize = 128;
+
+/// A line of output with its byte 10, which takes no memory.
+pub type Line = ArrayVec<u8, MOST_LINE_BYTES>;
 
 /// The line `s VALUE` that begins a solution or a cut.
 #[tactic(auto, unfolding(crate::specs::Output::solution_line))]
@@ -52,6 +55,40 @@ pub fn arc_line(arc: Arc) -> Line
     let mut line = Line::new();
     push_pair(&mut line, b'a', arc.src, arc.dst, arc.cap);
     line
+}
+
+/// Appends the line `f SRC DST FLOW` to lines that have room for one, as `flow_line` makes it.
+#[tactic(auto, unfolding(crate::specs::Output::flow_line))]
+#[inline(always)]
+pub fn push_flow_line<const N: usize>(lines: &mut ArrayVec<u8, N>, src: u32, dst: u32, flow: u64)
+    requires { array_vec_len lines.old + MOST_LINE_BYTES ≤ N }
+    ensures { lines.new.items ≡ lines.old.items ++ flow_line src dst flow }
+{
+    push_pair(lines, b'f', src, dst, flow);
+}
+
+/// Appends the line `a SRC DST CAP` to lines that have room for one, as `arc_line` makes it.
+#[tactic(auto, unfolding(crate::specs::Output::arc_line))]
+#[inline(always)]
+pub fn push_arc_line<const N: usize>(lines: &mut ArrayVec<u8, N>, arc: Arc)
+    requires { array_vec_len lines.old + MOST_LINE_BYTES ≤ N }
+    ensures { lines.new.items ≡ lines.old.items ++ arc_line arc }
+{
+    push_pair(lines, b'a', arc.src, arc.dst, arc.cap);
+}
+
+/// Appends the line `n NODE` to lines that have room for one, as `node_line` makes it.
+#[tactic(auto, unfolding(crate::specs::Output::node_line), using(crate::proofs::OutputLemmas::decimal_10))]
+#[inline(always)]
+pub fn push_node_line<const N: usize>(lines: &mut ArrayVec<u8, N>, node: u32)
+    requires { array_vec_len lines.old + MOST_LINE_BYTES ≤ N }
+    ensures { lines.new.items ≡ lines.old.items ++ node_line node }
+{
+    let mut bytes = [b'\n'; 16];
+    let end = put_number(&mut bytes, node as u64, 15);
+    let start = end - 1;
+    bytes[start] = b'n';
+    push_bytes(lines, &bytes[start..]);
 }
 
 /// The line `k VALUE` of the edge connectivity.
@@ -112,8 +149,14 @@ fn number_line<I: Integer>(word: &[u8], n: I) -> Line
 // so it is written backwards into bytes of its own, in front of the last, which is the line's end, and copied once.
 #[tactic(auto, using(crate::proofs::OutputLemmas::decimal_10, crate::proofs::OutputLemmas::decimal_20))]
 #[inline(always)]
-fn push_pair(line: &mut Line, letter: u8, src: u32, dst: u32, amount: u64)
-    requires { array_vec_len line.old ≤ 80 }
+fn push_pair<const N: usize>(
+    line: &mut ArrayVec<u8, N>,
+    letter: u8,
+    src: u32,
+    dst: u32,
+    amount: u64,
+)
+    requires { array_vec_len line.old + 48 ≤ N }
     ensures { line.new.items ≡ line.old.items ++ (letter ∷ codes " " ++ decimal src ++ codes " " ++ decimal dst ++ codes " " ++ decimal amount ++ codes "\n") }
 {
     let mut bytes = [b'\n'; 48];
@@ -200,8 +243,8 @@ fn message_line(start: &[u8], line: u64, code: FaultCode) -> Line
 
 // Appends bytes for which there is room.
 #[inline]
-fn push_bytes(line: &mut Line, bytes: &[u8])
-    requires { array_vec_len line.old + length bytes.now ≤ 128 }
+fn push_bytes<const N: usize>(line: &mut ArrayVec<u8, N>, bytes: &[u8])
+    requires { array_vec_len line.old + length bytes.now ≤ N }
     ensures { line.new.items ≡ line.old.items ++ bytes.now }
 {
     line.try_extend_from_slice(bytes).unwrap();
@@ -210,7 +253,7 @@ fn push_bytes(line: &mut Line, bytes: &[u8])
 // Appends a number in its fewest digits, for which there is room.
 #[inline]
 fn push_number<I: Integer>(line: &mut Line, n: I)
-    requires { array_vec_len line.old + I.MAX_STR_LEN ≤ 128 }
+    requires { array_vec_len line.old + I.MAX_STR_LEN ≤ MOST_LINE_BYTES }
     ensures items { line.new.items ≡ line.old.items ++ I.text n }
     ensures short { length (I.text n) ≤ I.MAX_STR_LEN }
 {

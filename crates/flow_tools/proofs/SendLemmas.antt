@@ -72,3 +72,11 @@ put_ok a b c held text bytes (Err x) s e p = tt
 pub put_err : {E : Type 0} (a b c : Option (List ℕ)) (held text bytes : List ℕ) (r : Result (Unit {0}) E) → Sends a b held text → bytes ≡ held → OnErr r (Stops b c bytes) → OnErr r (Stops a c text)
 put_err a b c held text bytes (Ok x) s e p = tt
 put_err a b c held text bytes (Err x) s e p = stops_in a b c held text s (rw (← e) p)
+
+-- a line more is held, and none more taken
+pub sends_with : (a b : Option (List ℕ)) (held text line : List ℕ) → Sends a b held text → Sends a b (held ++ line) (text ++ line)
+sends_with a b held text line s = record { sent = s.sent; taken = s.taken; whole = ap (λ l. l ++ line) s.whole ∙ append_assoc s.sent held line }
+
+-- a stream fails at some of what was held, and so of what is held with a line more
+pub stops_with : (a b : Option (List ℕ)) (text line : List ℕ) → Stops a b text → Stops a b (text ++ line)
+stops_with a b text line s = stops_early a b text line (text ++ line) s refl

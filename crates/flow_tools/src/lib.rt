@@ -17,6 +17,7 @@ mod checking;
 mod connect_answers;
 mod connecting;
 mod counted;
+mod gathering;
 mod jobs;
 mod laws;
 pub mod memory;

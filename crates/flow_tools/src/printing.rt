@@ -8,10 +8,11 @@ ghost use Rattle.flow_tools.specs.Answers.{solution_text, source_side_text};
 ghost use Rattle.flow_tools.specs.Sides.{side_of};
 ghost use Rattle.flow_tools.specs.Streams.{Flags, Sends, Stops};
 
-use super::sending::{Gathered, hold, put_all};
+use super::gathering::{gather_arc_line, gather_flow_line, gather_node_line};
+use super::sending::{Gathered, put_all};
 use super::streams::{Failed, Output};
 use flow_net::{Arc, Network};
-use flow_text::{arc_line, flow_line, node_line, solution_line};
+use flow_text::solution_line;
 
 /// Puts a value, and unless it is asked for alone the flow on each arc, in order.
 ///
@@ -92,8 +93,7 @@ fn hold_flows<O: Output>(
 {
     for i in 0..net.len() {
         let arc = net.arc(i);
-        let line = flow_line(arc.src, arc.dst, flows[i as usize]);
-        hold(out, held, line.as_slice())?;
+        gather_flow_line(out, held, arc, flows[i as usize])?;
     }
     Ok(())
 }
@@ -125,7 +125,7 @@ fn hold_nodes<O: Output>(
         if !is_inside(side, sink, node) {
             continue;
         }
-        hold(out, held, node_line(node).as_slice())?;
+        gather_node_line(out, held, node)?;
     }
     Ok(())
 }
@@ -159,7 +159,7 @@ fn hold_arcs<O: Output>(
         if !does_leave(side, sink, arc) {
             continue;
         }
-        hold(out, held, arc_line(arc).as_slice())?;
+        gather_arc_line(out, held, arc)?;
     }
     Ok(())
 }

@@ -1,4 +1,4 @@
-use Rattle.std.proofs.Common.{◌∙◌, arith}
+use Rattle.std.proofs.Common.{◌∙◌, arith, refl}
 use Rattle.flow_net.specs.Nets.{no_arc}
 use Rattle.flow_net.specs.Cuts.{leaves}
 use Rattle.flow_text.specs.Output.{arc_line}
@@ -15,18 +15,18 @@ loop-i-preserved-then-not-does_leave g c =
       c.loop-i.invariant.1,
     )
 
-pub returns-in_err-hold-clause-err : goal.returns-in_err-hold-clause-err
-returns-in_err-hold-clause-err g c =
+pub returns-in_err-gather_arc_line-clause-err : goal.returns-in_err-gather_arc_line-clause-err
+returns-in_err-gather_arc_line-clause-err g c =
     let p = leaves (side_of c.args.sink c.args.side.now) in let arcs = c.args.net.now.arcs in
     on_err c.from_residual.result (rw (flat_map-filter p arc_line arcs) (lines_stop (line_if p arc_line) arcs c.loop-i.i _ _ _ _ c.loop-i.invariant.0 no_arc _ _ (omega arith)
-    (arc_line_is p c.args.net.now c.loop-i.i c.arc-arc.result _ c.arc-arc.ensures.arc c.if-not-does_leave.ensures (c.as_slice.ensures.value ∙ c.arc_line.ensures)) c.in_err-hold.ensures.err))
+    (arc_line_is p c.args.net.now c.loop-i.i c.arc-arc.result _ c.arc-arc.ensures.arc c.if-not-does_leave.ensures refl) c.in_err-gather_arc_line.ensures.err))
 
 pub loop-i-preserved : goal.loop-i-preserved
 loop-i-preserved g c =
     let p = leaves (side_of c.args.sink c.args.side.now) in let arcs = c.args.net.now.arcs in (
       lines_more (line_if p arc_line) arcs c.loop-i.i _ _ _ _ c.loop-i.invariant.0 no_arc _ _ _ (omega arith)
-          (arc_line_is p c.args.net.now c.loop-i.i c.arc-arc.result _ c.arc-arc.ensures.arc c.if-not-does_leave.ensures (c.as_slice.ensures.value ∙ c.arc_line.ensures)) c.in_ok-hold.ensures.ok,
-      c.in_ok-hold.ensures.flag ∙ c.loop-i.invariant.1,
+          (arc_line_is p c.args.net.now c.loop-i.i c.arc-arc.result _ c.arc-arc.ensures.arc c.if-not-does_leave.ensures refl) c.in_ok-gather_arc_line.ensures.ok,
+      c.in_ok-gather_arc_line.ensures.flag ∙ c.loop-i.invariant.1,
     )
 
 pub returns-clause-ok : goal.returns-clause-ok

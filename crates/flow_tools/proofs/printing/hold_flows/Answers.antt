@@ -1,4 +1,4 @@
-use Rattle.std.proofs.Common.{◌∙◌, arith}
+use Rattle.std.proofs.Common.{◌∙◌, arith, refl}
 use Rattle.std.specs.List.{zip}
 use Rattle.flow_net.specs.Nets.{no_arc}
 use Rattle.flow_text.specs.Output.{arc_flow_line}
@@ -7,18 +7,18 @@ use Rattle.flow_tools.proofs.LineLemmas.{lines_more, lines_stop, lines_end}
 use Rattle.flow_tools.proofs.PrintLemmas.{length-arc_flows, flow_line_is}
 use Rattle.flow_tools.proofs.printing.hold_flows.Goals as goal
 
-pub returns-in_err-hold-clause-err : goal.returns-in_err-hold-clause-err
-returns-in_err-hold-clause-err g c =
+pub returns-in_err-gather_flow_line-clause-err : goal.returns-in_err-gather_flow_line-clause-err
+returns-in_err-gather_flow_line-clause-err g c =
     let net = c.args.net.now in let flows = c.args.flows.now in let e = length-arc_flows net flows c.requires.count in
     on_err c.from_residual.result (lines_stop arc_flow_line (zip net.arcs flows) c.loop-i.i _ _ _ _ c.loop-i.invariant.0 (no_arc, 0) _ _ (omega arith)
-    (flow_line_is net flows c.requires.count c.loop-i.i _ _ (omega arith) c.arc-arc.ensures.arc (c.as_slice.ensures.value ∙ c.flow_line-line.ensures)) c.in_err-hold.ensures.err)
+    (flow_line_is net flows c.requires.count c.loop-i.i _ _ (omega arith) c.arc-arc.ensures.arc refl) c.in_err-gather_flow_line.ensures.err)
 
 pub loop-i-preserved : goal.loop-i-preserved
 loop-i-preserved g c =
     let net = c.args.net.now in let flows = c.args.flows.now in let e = length-arc_flows net flows c.requires.count in (
       lines_more arc_flow_line (zip net.arcs flows) c.loop-i.i _ _ _ _ c.loop-i.invariant.0 (no_arc, 0) _ _ _ (omega arith)
-          (flow_line_is net flows c.requires.count c.loop-i.i _ _ (omega arith) c.arc-arc.ensures.arc (c.as_slice.ensures.value ∙ c.flow_line-line.ensures)) c.in_ok-hold.ensures.ok,
-      c.in_ok-hold.ensures.flag ∙ c.loop-i.invariant.1,
+          (flow_line_is net flows c.requires.count c.loop-i.i _ _ (omega arith) c.arc-arc.ensures.arc refl) c.in_ok-gather_flow_line.ensures.ok,
+      c.in_ok-gather_flow_line.ensures.flag ∙ c.loop-i.invariant.1,
     )
 
 pub returns-clause-ok : goal.returns-clause-ok

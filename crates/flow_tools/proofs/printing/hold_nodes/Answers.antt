@@ -1,4 +1,4 @@
-use Rattle.std.proofs.Common.{◌∙◌, arith}
+use Rattle.std.proofs.Common.{◌∙◌, arith, refl}
 use Rattle.std.specs.List.{range_with_len}
 use Rattle.std.proofs.lemmas.List.FromFn.{length-range_with_len}
 use Rattle.flow_text.specs.Output.{node_line}
@@ -15,18 +15,18 @@ loop-i-preserved-then-not-is_inside g c =
       c.loop-i.invariant.1,
     )
 
-pub returns-in_err-hold-clause-err : goal.returns-in_err-hold-clause-err
-returns-in_err-hold-clause-err g c =
+pub returns-in_err-gather_node_line-clause-err : goal.returns-in_err-gather_node_line-clause-err
+returns-in_err-gather_node_line-clause-err g c =
     let p = side_of c.args.sink c.args.side.now in let n = c.args.net.now.nodes in let e = length-range_with_len 1 n in
     on_err c.from_residual.result (rw (flat_map-filter p node_line (range_with_len 1 n)) (lines_stop (line_if p node_line) (range_with_len 1 n) c.loop-i.i _ _ _ _ c.loop-i.invariant.0 0 _ _ (omega arith)
-    (node_line_is p n c.loop-i.i (omega arith) _ c.if-not-is_inside.ensures (c.as_slice.ensures.value ∙ c.node_line.ensures)) c.in_err-hold.ensures.err))
+    (node_line_is p n c.loop-i.i (omega arith) _ c.if-not-is_inside.ensures refl) c.in_err-gather_node_line.ensures.err))
 
 pub loop-i-preserved : goal.loop-i-preserved
 loop-i-preserved g c =
     let p = side_of c.args.sink c.args.side.now in let n = c.args.net.now.nodes in let e = length-range_with_len 1 n in (
       lines_more (line_if p node_line) (range_with_len 1 n) c.loop-i.i _ _ _ _ c.loop-i.invariant.0 0 _ _ _ (omega arith)
-          (node_line_is p n c.loop-i.i (omega arith) _ c.if-not-is_inside.ensures (c.as_slice.ensures.value ∙ c.node_line.ensures)) c.in_ok-hold.ensures.ok,
-      c.in_ok-hold.ensures.flag ∙ c.loop-i.invariant.1,
+          (node_line_is p n c.loop-i.i (omega arith) _ c.if-not-is_inside.ensures refl) c.in_ok-gather_node_line.ensures.ok,
+      c.in_ok-gather_node_line.ensures.flag ∙ c.loop-i.invariant.1,
     )
 
 pub returns-clause-ok : goal.returns-clause-ok

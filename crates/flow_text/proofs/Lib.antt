@@ -13,3 +13,5 @@ pub mod UsualLemmas
 pub mod EarlyLemmas
 pub mod CutLemmas
 pub mod OutputLemmas
+pub mod WithinLemmas
+pub mod AcceptedLemmas

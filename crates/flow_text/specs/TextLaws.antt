@@ -1,9 +1,11 @@
 -- The laws of lines, and of faults of a text that goes on.
-use Rattle.std.specs.Prelude.{◌≡◌, ℕ, List, ◌++◌, Some, Err}
+use Rattle.std.specs.Prelude.{◌≡◌, ℕ, List, ◌++◌, Some, Ok, Err}
 use Rattle.std.specs.List.{All}
+use Rattle.flow_net.specs.Nets.{Instance, IsNet, IsProblem}
 use Rattle.flow_text.specs.Lines.{ended, rest, joined, HasNoEnd}
 use Rattle.flow_text.specs.Problem.{early, problem}
-use Rattle.flow_text.specs.Solution.{early_solution, solution}
+use Rattle.flow_text.specs.Solution.{Written, early_solution, solution}
+use Rattle.flow_text.specs.SolutionReading.{IsWithinLimits}
 use Rattle.flow_text.specs.declared.faults.FaultCode.{FaultCode}
 
 -- each text is cut into lines and a rest without byte 10 ..
@@ -21,3 +23,11 @@ EarlyFaultStays = (b x : List ℕ) (fault : ℕ × FaultCode) → early b ≡ So
 -- the same of a solution text
 abbrev pub EarlySolutionFaultStays : Type 0
 EarlySolutionFaultStays = (b x : List ℕ) (nodes : ℕ) (fault : ℕ × FaultCode) → early_solution b nodes ≡ Some fault → solution (b ++ x) nodes ≡ Err fault
+
+-- an accepted problem text says a network within the limits, and terminals that are proper: sources and sinks, all nodes, none twice
+abbrev pub AcceptedProblemIsWithin : Type 0
+AcceptedProblemIsWithin = (b : List ℕ) (p : Instance) → problem b ≡ Ok p → IsNet p.net × IsProblem p
+
+-- an accepted solution text says a value and flow lines within the limits
+abbrev pub AcceptedSolutionIsWithin : Type 0
+AcceptedSolutionIsWithin = (b : List ℕ) (nodes : ℕ) (found : Written) → solution b nodes ≡ Ok found → IsWithinLimits nodes found

@@ -1,5 +1,5 @@
 //! The laws of the texts. Each function computes nothing: its contract is the law.
-ghost use Rattle.flow_text.specs.TextLaws.{LinesAreCut, LinesAreCutOneWay, EarlyFaultStays, EarlySolutionFaultStays};
+ghost use Rattle.flow_text.specs.TextLaws.{LinesAreCut, LinesAreCutOneWay, EarlyFaultStays, EarlySolutionFaultStays, AcceptedProblemIsWithin, AcceptedSolutionIsWithin};
 
 /// Each text is cut into lines and a rest that hold no byte 10.
 pub fn lines_are_cut()
@@ -19,4 +19,14 @@ pub fn early_fault_stays()
 /// An early fault of a solution's text is the fault of every text that goes on from it.
 pub fn early_solution_fault_stays()
     ensures { EarlySolutionFaultStays }
+{}
+
+/// A problem's text without a fault says a network within the limits, with proper terminals.
+pub fn accepted_problem_is_within()
+    ensures { AcceptedProblemIsWithin }
+{}
+
+/// A solution's text without a fault says a value and flow lines within the limits.
+pub fn accepted_solution_is_within()
+    ensures { AcceptedSolutionIsWithin }
 {}

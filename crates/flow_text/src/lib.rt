@@ -20,7 +20,8 @@ mod verdicts;
 
 pub use faults::{FaultCode, ReadFault};
 pub use laws::{
-    early_fault_stays, early_solution_fault_stays, lines_are_cut, lines_are_cut_one_way,
+    accepted_problem_is_within, accepted_solution_is_within, early_fault_stays,
+    early_solution_fault_stays, lines_are_cut, lines_are_cut_one_way,
 };
 pub use line_fields::Fields;
 pub use numbers::Number;

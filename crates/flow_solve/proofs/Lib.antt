@@ -17,3 +17,4 @@ pub mod Ranks
 pub mod Walks
 pub mod Levelled
 pub mod Turning
+pub mod Rising

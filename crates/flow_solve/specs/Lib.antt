@@ -4,3 +4,4 @@ pub mod Raising
 pub mod Searches
 pub mod Trails
 pub mod Levels
+pub mod Trees

@@ -1,11 +1,52 @@
-//! The method by levels (Dinitz 1970): phases of shortest augmenting paths.
+//! The method by levels (Dinitz 1970), in two stages that work on one flow: search trees first, then phases.
+//!
+//! 1. **Two trees** (`trees`, `chains`, `orphans`, `frontiers`). Search trees grow from the sources and from the sinks, a
+//!    level of the smaller *frontier* at a time (Boykov and Kolmogorov 2004), and are kept breadth-first (incremental
+//!    breadth-first search: Goldberg, Hed, Kaplan, Tarjan and Werneck 2011). Each node in a tree has a *label*, which tells
+//!    its level, and a *parent*, the half-arc that leads a level nearer to its root. Where the trees touch, an augmenting path
+//!    is pushed through. A node whose half-arc to its parent was filled is an *orphan*: it is *adopted* by another node a
+//!    level nearer to the root, or else raised to a farther level, with its children as orphans in turn, or set free. So no
+//!    search begins anew. That serves where the first paths are short and most of a tree outlives a push: images,
+//!    assignments, closures.
+//! 2. **Phases** (`phases`, `walking`). A search backwards from the sinks ranks the nodes, walks from the sources along
+//!    falling ranks block all shortest paths, and the distance from the sources to the sinks grows by each phase. They go
+//!    on from whatever feasible flow they find, and their last search, which sees no source, shows that the flow is greatest.
+//!
+//! Nothing is claimed of the trees: a path is written down and looked at, half-arc by half-arc, before anything is pushed
+//! along it, and the stage may leave wherever it is. What it takes is counted off an allowance of 16 steps for each arc, in
+//! which a half-arc that is passed by without a look counts as a step too, and which is at most `n²·m`. The phases take at
+//! most `3·n²·m` from any feasible flow, so that both stay within `4·n²·m` for each network.
+//!
+//! The trees aren't grown where they were measured to bring nothing: where there are more than 32 arcs for each node, since a
+//! repair passes all half-arcs of a node; and no farther than until the nearest source and sink are found to be more than
+//! some 16 half-arcs apart, since then much flow goes far, and paths one by one bring little. There the phases begin at once.
+ghost use Rattle.std.specs.Prelude.{◌*◌, ◌≤◌, length};
 ghost use Rattle.flow_solve.specs.Bounds.{levels_bound};
 
+use crate::chains::Ends;
 use crate::method::Method;
 use crate::packing::Packed;
 use crate::phases::run_phases;
 use crate::raising::{Raise, solve};
+use crate::trees::grow_trees;
 use flow_net::{FlowTable, Network};
+
+/// How many times the number of arcs the trees may take, in steps and in half-arcs that they pass by.
+const TREES_SHARE: u64 = 16;
+
+/// The most arcs for each node with which the trees are grown: each repair of theirs passes all half-arcs of some nodes.
+const TREES_DEGREE: u32 = 32;
+
+/// How much the trees may take before the phases go on; nothing in a dense network.
+fn allowance(net: &Network) -> u64
+    ensures { result ≤ net.now.nodes * net.now.nodes * length net.now.arcs }
+{
+    if net.len() / TREES_DEGREE > net.nodes() {
+        return 0;
+    }
+    let n = u64::from(net.nodes());
+    (n * n).min(TREES_SHARE) * u64::from(net.len())
+}
 
 /// Augments along shortest paths, level by level, in phases: a search backwards from the sinks ranks the nodes, the nearest
 /// first, and walks from the sources along falling ranks block all shortest paths. It takes at most `4·n²·m` steps.
@@ -22,7 +63,9 @@ impl Raise for Levels {
         cells: &mut [u32],
         value: u128,
     ) -> u128 {
-        run_phases(packed, s, t, flow, cells, value)
+        let ends = Ends { s, t };
+        let raised = grow_trees(packed, ends, flow, cells, value, allowance(packed.net));
+        run_phases(packed, s, t, flow, cells, raised)
     }
 }
 

@@ -22,16 +22,31 @@
 //! | `n + 1` | where each node's half-arcs begin in the next cells |
 //! | `2·m` | the half-arcs, those of a node side by side |
 //! | `1` | spare |
+//!
+//! The search trees, with which [`Levels`] begins, have the first `5·n` of these cells for themselves:
+//!
+//! | Cells | What they hold |
+//! |---|---|
+//! | `1` | spare, since nodes and levels count from 1 |
+//! | `n` | each node's label: twice its level in its tree, and 1 more in that of the sinks; 0 for a free node |
+//! | `n` | the half-arc from a node to its parent; for an orphan the next orphan of its level; for a root its place among the terminals |
+//! | `n` | the node before it in its frontier |
+//! | `n` | the node after it in its frontier |
+//! | `n - 1` | for each level its first orphan; while flow is pushed, the half-arcs of the path |
 #![tactic(auto)]
 
+mod chains;
+mod frontiers;
 mod levels;
 mod method;
+mod orphans;
 mod packing;
 mod paths;
 mod phases;
 mod raising;
 mod reaching;
 mod searching;
+mod trees;
 mod walking;
 
 pub use levels::Levels;

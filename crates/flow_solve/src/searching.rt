@@ -73,7 +73,7 @@ fn twin(half: u32) -> u32
 }
 
 /// For a half-arc that leaves a node: the half-arc of its arc over which a search may go on from that node.
-fn cross(direction: Direction, half: u32) -> u32
+pub(crate) fn cross(direction: Direction, half: u32) -> u32
     ensures { result ≡ crossed direction half }
 {
     match direction {

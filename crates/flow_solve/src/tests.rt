@@ -1,9 +1,14 @@
 ghost use Rattle.flow_net.specs.Flows.{IsFeasible};
-ghost use Rattle.std.specs.Prelude.{◌≡◌, ◌≢◌, ℕ, Bool, ◌≤◌, ◌<◌, IsTrue, IfSome, length, slice_index, take, drop};
+ghost use Rattle.std.specs.Prelude.{◌≡◌, ◌≢◌, ℕ, Bool, List, ◌≤◌, ◌<◌, IsTrue, IfSome, length, slice_index, take, drop};
 ghost use Rattle.flow_net.specs.Nets.{IsNode, AreTerminals, AreDistinct};
 ghost use Rattle.std.specs.List.{All};
+ghost use Rattle.flow_solve.specs.Raising.{IsFlow};
 
 use super::*;
+use crate::chains::Ends;
+use crate::packing::{Packed, pack};
+use crate::phases::run_phases;
+use crate::trees::grow_trees;
 use flow_net::{Arc, FlowTable, Network};
 use std::alloc::Global;
 
@@ -83,7 +88,8 @@ struct Answer {
 
 /// A table of an empty flow.
 fn empty_flow(alloc: Global, net: &Network) -> Option<FlowTable>
-    ensures { IfSome result (λ table. (s t : ℕ → Bool) → IsFeasible net.now s t table.flows) }
+    ensures feasible { IfSome result (λ table. (s t : ℕ → Bool) → IsFeasible net.now s t table.flows) }
+    ensures flow { IfSome result (λ table. (s t : List ℕ) → IsFlow net.now s t table.flows 0) }
 {
     match FlowTable::new(alloc, net) {
         Ok(table) => Some(table),
@@ -510,6 +516,116 @@ fn known_answers(rt: HostRuntime) {
             (known.name, true)
         );
     }
+}
+
+/// The values that the trees reach with an allowance, and the phases after them, and that of the other method, for a network
+/// of at most 6 nodes and 40 arcs, if the terminals are good.
+fn stages(
+    alloc: Global,
+    net: &Network,
+    terminals: &[u32],
+    k: usize,
+    allowance: u64,
+) -> Option<(u128, u128, u128)> {
+    let mut work = [7u32; 120];
+    let n = net.nodes() as usize;
+    let m = net.len() as usize;
+    if n > 6 || m > 40 || !may_be_terminals(net, terminals, k) {
+        return None;
+    }
+    let mut flow = empty_flow(alloc, net)?;
+    let (s, t) = terminals.split_at(k);
+    let (cells, rest) = work.split_at_mut(5 * n);
+    let (first, rest) = rest.split_at_mut(n + 1);
+    let (halves, _rest) = rest.split_at_mut(2 * m);
+    pack(net, first, halves);
+    let packed = Packed { net, first, halves };
+    let reached = grow_trees(packed, Ends { s, t }, &mut flow, cells, 0, allowance);
+    let greatest = run_phases(packed, s, t, &mut flow, cells, reached);
+    let mut other = empty_flow(alloc, net)?;
+    let mut work = [7u32; 120];
+    Some((
+        reached,
+        greatest,
+        Paths::greatest(net, s, t, &mut other, &mut work),
+    ))
+}
+
+/// Arcs on which the trees come to an end of themselves, and the greatest value. Node 1 is the source and node 6 the sink.
+const GROWN: &[(&[(u32, u32, u64)], u128)] = &[
+    (&[(1, 2, 3), (2, 6, 2), (1, 3, 4), (3, 6, 5), (1, 6, 7)], 13),
+    // The half-arc from node 1 to node 2 is filled first: node 2 is an orphan that has to be raised.
+    (&[(1, 2, 1), (2, 6, 5), (1, 3, 4), (3, 2, 4)], 5),
+    // Nothing leads to the sink.
+    (&[(2, 1, 3), (3, 6, 2), (1, 1, 9), (1, 4, 8)], 0),
+];
+
+#[test]
+fn trees_that_end_of_themselves(rt: HostRuntime) {
+    for (arcs, value) in GROWN {
+        let net = network(rt.alloc(), 6, arcs);
+        assert_eq!(&rt;
+            stages(rt.alloc(), &net, &[1, 6], 1, 1000),
+            Some((*value, *value, *value))
+        );
+    }
+}
+
+#[test]
+fn trees_that_are_left(rt: HostRuntime) {
+    let (arcs, value) = GROWN[0];
+    let net = network(rt.alloc(), 6, arcs);
+    let mut before = 0u128;
+    let mut between = 0u32;
+    for allowance in 0u64..200 {
+        let answer = stages(rt.alloc(), &net, &[1, 6], 1, allowance);
+        let (reached, greatest, other) = answer.expect(&rt, "good terminals");
+        assert!(&rt; before <= reached && reached <= value);
+        assert_eq!(&rt; (greatest, other), (value, value));
+        if 0 < reached && reached < value {
+            between = between.wrapping_add(1);
+        }
+        before = reached;
+    }
+    assert!(&rt; between > 0);
+    assert_eq!(&rt; before, value);
+}
+
+#[test]
+fn methods_agree_on_random_networks(rt: HostRuntime) {
+    let mut random = Random { state: 1970 };
+    let mut tried = 0u32;
+    let mut between = 0u32;
+    for _ in 0..6000 {
+        let nodes = 2 + random.below(5) as u32;
+        let mut net = Network::new(rt.alloc(), nodes);
+        add_arcs(&mut net, &mut random);
+        let terminals = [
+            random_node(&mut random, nodes),
+            random_node(&mut random, nodes),
+            random_node(&mut random, nodes),
+            random_node(&mut random, nodes),
+        ];
+        let k = 1 + random.below(2) as usize;
+        let end = k + 1 + random.below(2) as usize;
+        let allowance = random.below(60);
+        if let Some((reached, greatest, other)) = stages(
+            rt.alloc(),
+            &net,
+            &terminals[..end],
+            k,
+            allowance,
+        ) {
+            assert!(&rt; reached <= greatest);
+            assert_eq!(&rt; greatest, other);
+            tried = tried.wrapping_add(1);
+            if 0 < reached && reached < greatest {
+                between = between.wrapping_add(1);
+            }
+        }
+    }
+    assert!(&rt; tried > 2000);
+    assert!(&rt; between > 20);
 }
 
 #[test]

@@ -14,7 +14,7 @@ use crate::searching::head;
 use flow_net::{FlowTable, Network};
 
 /// The node that a half-arc leaves. No step: it reads the arc alone.
-fn tail(net: &Network, half: u32) -> u32
+pub(crate) fn tail(net: &Network, half: u32) -> u32
     requires { half < 2 * length net.now.arcs }
     ensures tail { result ≡ tail_of net.now half }
     ensures node { IsNode net.now result }
@@ -50,7 +50,7 @@ fn least_on(net: &Network, flow: &mut FlowTable, path: &[u32]) -> (u32, u64)
 }
 
 /// Pushes an amount through each half-arc of a path.
-fn push_over(net: &Network, flow: &mut FlowTable, path: &[u32], amount: u64)
+pub(crate) fn push_over(net: &Network, flow: &mut FlowTable, path: &[u32], amount: u64)
     requires fits { Fits net.now flow.old.flows }
     requires halves { All (λ h. h < 2 * length net.now.arcs) path.now }
     requires apart { IsApart path.now }

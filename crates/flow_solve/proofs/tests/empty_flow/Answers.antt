@@ -2,7 +2,12 @@ use Rattle.std.proofs.Common.{subst, sym}
 use Rattle.flow_net.specs.Flows.{IsFeasible}
 use Rattle.flow_net.specs.Residual.{Table}
 use Rattle.flow_net.proofs.ZeroFlows.{zeros_feasible}
+use Rattle.flow_solve.specs.Raising.{IsFlow}
+use Rattle.flow_solve.proofs.Raises.{zero_flow}
 use Rattle.flow_solve.proofs.tests.empty_flow.Goals as goal
 
-pub returns-in-Ok : goal.returns-in-Ok
-returns-in-Ok c = λ s t. subst (λ (table : Table). IsFeasible c.args.net.now s t table.flows) (sym c.in-Ok.ensures.empty) (zeros_feasible c.args.net.now s t)
+pub returns-in-Ok-clause-feasible : goal.returns-in-Ok-clause-feasible
+returns-in-Ok-clause-feasible c = λ s t. subst (λ (table : Table). IsFeasible c.args.net.now s t table.flows) (sym c.in-Ok.ensures.empty) (zeros_feasible c.args.net.now s t)
+
+pub returns-in-Ok-clause-flow : goal.returns-in-Ok-clause-flow
+returns-in-Ok-clause-flow c = λ s t. subst (λ (table : Table). IsFlow c.args.net.now s t table.flows 0) (sym c.in-Ok.ensures.empty) (zero_flow c.args.net.now s t)

@@ -29,7 +29,7 @@
 //! |---|---|
 //! | `1` | spare, since nodes and levels count from 1 |
 //! | `n` | each node's label: twice its level in its tree, and 1 more in that of the sinks; 0 for a free node |
-//! | `n` | the half-arc from a node to its parent; for an orphan the next orphan of its level; for a root its place among the terminals |
+//! | `n` | the half-arc to its parent; for an orphan the next orphan of its level, for a root its place among the terminals |
 //! | `n` | the node before it in its frontier |
 //! | `n` | the node after it in its frontier |
 //! | `n - 1` | for each level its first orphan; while flow is pushed, the half-arcs of the path |

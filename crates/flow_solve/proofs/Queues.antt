@@ -7,6 +7,7 @@ use Rattle.flow_net.specs.NodeSets.{one_of}
 use Rattle.flow_net.specs.Residual.{residual}
 use Rattle.flow_solve.specs.declared.searching.TheConstants.{FAR, WANTED}
 use Rattle.flow_solve.specs.declared.searching.Direction.{Direction}
+use Rattle.flow_solve.specs.declared.searching.Progress.{Progress}
 use Rattle.flow_solve.specs.Searches.{IsMarked, spread, queued, IsQueue, IsNear, HasGrown, IsCount, wanted_at, near_end, far_end, IsCome}
 
 -- the sum over all of the first places
@@ -225,17 +226,23 @@ count_more until dist at x wanted l o u c =
           omega arith;
     }
 
-pub grown_marked : (dist via queue : List ℕ) (tail : ℕ) (dist' via' queue' : List ℕ) (tail' v : ℕ) → HasGrown dist via queue tail dist' via' queue' tail' → IsMarked dist v → IsMarked dist' v
-grown_marked dist via queue tail dist' via' queue' tail' v g m = omega (arith, (g.kept v m).0)
+pub grown_marked : {dist via queue dist' via' queue' : List ℕ} {a b : Progress} → HasGrown dist via queue a dist' via' queue' b → (p : ℕ) → IsMarked dist p → IsMarked dist' p
+grown_marked g p m = omega (arith, (g.kept p m).0)
 
-pub grown_on : (dist via queue : List ℕ) (tail : ℕ) (dist' via' queue' : List ℕ) (tail' : ℕ) (dist'' via'' queue'' : List ℕ) (tail'' : ℕ) → HasGrown dist via queue tail dist' via' queue' tail' → HasGrown dist' via' queue' tail' dist'' via'' queue'' tail'' → HasGrown dist via queue tail dist'' via'' queue'' tail''
-grown_on dist via queue tail dist' via' queue' tail' dist'' via'' queue'' tail'' g h = record {
-  dist_size = h.dist_size ∙ g.dist_size;
-  via_size = h.via_size ∙ g.via_size;
-  queue_size = h.queue_size ∙ g.queue_size;
-  kept = λ v m. let a = g.kept v m in let b = h.kept v (grown_marked dist via queue tail dist' via' queue' tail' v g m) in (b.0 ∙ a.0, b.1 ∙ a.1);
+pub grown_none : (dist via queue : List ℕ) (a : Progress) → HasGrown dist via queue a dist via queue a
+grown_none dist via queue a = record {
+  kept = λ p m. (refl, refl);
+  ahead = λ i l. refl;
+  more = omega arith;
+  count = λ until k. k;
+}
+
+pub grown_on : {dist via queue dist' via' queue' dist'' via'' queue'' : List ℕ} {a b c : Progress} → HasGrown dist via queue a dist' via' queue' b → HasGrown dist' via' queue' b dist'' via'' queue'' c → HasGrown dist via queue a dist'' via'' queue'' c
+grown_on g h = record {
+  kept = λ p m. let a = g.kept p m in let b = h.kept p (grown_marked g p m) in (b.0 ∙ a.0, b.1 ∙ a.1);
   ahead = λ i m. let a = g.more in h.ahead i (omega arith) ∙ g.ahead i m;
   more = let a = g.more in let b = h.more in omega arith;
+  count = λ until k. h.count until (g.count until k);
 }
 
 pub near_more : (dist : List ℕ) (at x level : ℕ) → at < length dist → x ≤ level → IsNear dist level → IsNear (set dist at x) level
@@ -256,10 +263,10 @@ near_none dist u v marked = elim (cases_lt v (length dist)) [
 ]
 
 -- what was come to stays so
-pub come_on : (net : Net) (flows : List ℕ) (dir : Direction) (dist via queue : List ℕ) (tail : ℕ) (dist' via' queue' : List ℕ) (tail' v : ℕ) → HasGrown dist via queue tail dist' via' queue' tail' → IsMarked dist v → IsCome net flows dir dist via v → IsCome net flows dir dist' via' v
-come_on net flows dir dist via queue tail dist' via' queue' tail' v g m c =
+pub come_on : {dist via queue dist' via' queue' : List ℕ} {a b : Progress} (net : Net) (flows : List ℕ) (dir : Direction) (v : ℕ) → HasGrown dist via queue a dist' via' queue' b → IsMarked dist v → IsCome net flows dir dist via v → IsCome net flows dir dist' via' v
+come_on {dist = dist} {via = via} {dist' = dist'} {via' = via'} net flows dir v g m c =
     let by = (g.kept v m).1 in let h = get_or via v 0 in let near = near_end dir net h - 1 in
-    let there : IsMarked dist' near = grown_marked dist via queue tail dist' via' queue' tail' near g c.marked in
+    let there : IsMarked dist' near = grown_marked g near c.marked in
     let level : get_or dist' near 0 + 1 ≡ get_or dist' v 0 = let a = (g.kept near c.marked).0 in let b = (g.kept v m).0 in let l = c.level in omega arith in
     record {
       in_range = subst (λ k. k < 2 * length net.arcs) (sym by) c.in_range;

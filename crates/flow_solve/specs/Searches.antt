@@ -1,12 +1,15 @@
 -- Breadth-first searches over the residual network, forwards from sources or backwards from sinks. Lists of cells have a
 -- cell for each node, that of node 1 first; the place of a node is the number of its cell.
-use Rattle.std.specs.Prelude.{◌⊎◌, ◌≡◌, ℕ, zero, suc, ◌+◌, ◌-◌, ◌*◌, ◌%◌, ◌<◌, ◌≤◌, ◌==◌, nat_lt, if◌then◌else◌, Bool, false, IsTrue, List, length, slice_index, slice_index_or}
+use Rattle.std.specs.Prelude.{◌⊎◌, ◌≡◌, ℕ, zero, suc, ◌+◌, ◌-◌, ◌*◌, ◌%◌, ◌<◌, ◌≤◌, ◌==◌, nat_lt, if◌then◌else◌, Bool, false, IsTrue, IsFalse, List, length, slice_index, slice_index_or}
 use Rattle.flow_net.specs.Nets.{Net}
 use Rattle.flow_net.specs.NodeSets.{one_of}
 use Rattle.flow_net.specs.Paths.{IsPath, IsApart, HasRoom}
 use Rattle.flow_net.specs.Residual.{tail_of, head_of, residual}
 use Rattle.flow_solve.specs.declared.searching.TheConstants.{FAR, WANTED}
+use Rattle.flow_net.specs.declared.limits.TheConstants.{MOST_NODES}
+use Rattle.flow_solve.specs.declared.searching.Arrival.{Arrival}
 use Rattle.flow_solve.specs.declared.searching.Direction.{Direction}
+use Rattle.flow_solve.specs.declared.searching.Progress.{Progress}
 use Rattle.flow_solve.specs.declared.searching.Direction.TheVariants.{Forwards, Backwards}
 use Rattle.flow_solve.specs.Packs.{group_of}
 
@@ -37,7 +40,7 @@ abbrev pub HoldsAll : List ℕ → (ℕ → Bool) → Type 0
 HoldsAll nodes X = (v : ℕ) → IsTrue (one_of nodes v) → IsTrue (X v)
 
 -- The search has seen the node at a place: its cell has a distance, and neither of the two numbers for an unseen node,
--- 2^32 - 1 and, for one that the search looks out for, 2^32 - 2.
+-- FAR and, for one that the search looks out for, WANTED.
 abbrev pub IsMarked : List ℕ → ℕ → Type 0
 IsMarked dist p = slice_index dist p < WANTED
 
@@ -73,15 +76,6 @@ pub record IsQueue (dist queue : List ℕ) (tail : ℕ) : Type 0 where
   pub levels : (p : ℕ) → p < length dist → IsMarked dist p → slice_index dist p < tail
   pub rises : (i j : ℕ) → i ≤ j → j < tail → slice_index dist (slice_index queue i) ≤ slice_index dist (slice_index queue j)
 
--- marks and the queue have only grown
-pub record HasGrown (dist via queue : List ℕ) (tail : ℕ) (dist' via' queue' : List ℕ) (tail' : ℕ) : Type 0 where
-  pub dist_size : length dist' ≡ length dist
-  pub via_size : length via' ≡ length via
-  pub queue_size : length queue' ≡ length queue
-  pub kept : (p : ℕ) → IsMarked dist p → (slice_index dist' p ≡ slice_index dist p) × (slice_index via' p ≡ slice_index via p)
-  pub ahead : (i : ℕ) → i < tail → slice_index queue' i ≡ slice_index queue i
-  pub more : tail ≤ tail'
-
 -- what an unseen node's cell has, by whether the search looks out for the node; and 1 where it does
 abbrev pub unseen_cell : List ℕ → ℕ → ℕ
 unseen_cell until p = if one_of until (p + 1) then WANTED else FAR
@@ -93,6 +87,48 @@ wanted_at until p = if one_of until (p + 1) then 1 else 0
 pub record IsCount (until dist : List ℕ) (wanted : ℕ) : Type 0 where
   pub cells : (p : ℕ) → p < length dist → WANTED ≤ slice_index dist p → slice_index dist p ≡ unseen_cell until p
   pub count : wanted ≡ spread (wanted_at until) dist (length dist)
+
+-- a search that goes on: what it has seen stays as it was, and it counts each node that it looks out for
+pub record HasGrown (dist via queue : List ℕ) (before : Progress) (dist' via' queue' : List ℕ) (after : Progress) : Type 0 where
+  pub kept : (p : ℕ) → IsMarked dist p → (slice_index dist' p ≡ slice_index dist p) × (slice_index via' p ≡ slice_index via p)
+  pub ahead : (i : ℕ) → i < before.seen → slice_index queue' i ≡ slice_index queue i
+  pub more : before.seen ≤ after.seen
+  pub count : (until : List ℕ) → IsCount until dist before.wanted → IsCount until dist' after.wanted
+
+-- the cells of a search: one for each node in each list
+pub record AreCells (net : Net) (dist via queue : List ℕ) : Type 0 where
+  pub dist_size : length dist ≡ net.nodes
+  pub via_size : length via ≡ net.nodes
+  pub queue_size : length queue ≡ net.nodes
+
+-- how far a search is: it has a cell for each node in each list, and what it has seen stands in the queue
+pub record IsSearch (dist via queue : List ℕ) (progress : Progress) : Type 0 where
+  pub via_size : length via ≡ length dist
+  pub queue_size : length queue ≡ length dist
+  pub few : length dist ≤ MOST_NODES
+  pub order : IsQueue dist queue progress.seen
+  pub wanted : progress.wanted ≤ progress.seen
+
+-- a search may come to a place: it is unseen, and none that was seen is farther
+pub record IsArrival (dist : List ℕ) (progress : Progress) (arrival : Arrival) : Type 0 where
+  pub place : arrival.place < length dist
+  pub unseen : WANTED ≤ slice_index dist arrival.place
+  pub level : arrival.level ≤ progress.seen
+  pub near : IsNear dist arrival.level
+
+-- for a half-arc that leaves a node: the search may cross it, and so comes to a place
+pub record LeadsTo (dir : Direction) (net : Net) (flows : List ℕ) (h d : ℕ) (arrival : Arrival) : Type 0 where
+  pub head : head_of net h ≡ arrival.place + 1
+  pub remains : 1 ≤ residual net flows (crossed dir h)
+  pub level : arrival.level ≡ d
+  pub half : arrival.half ≡ crossed dir h
+
+-- it has come there
+pub record HasArrived (dist via : List ℕ) (arrival : Arrival) : Type 0 where
+  pub marked : IsMarked dist arrival.place
+  pub level : slice_index dist arrival.place ≡ arrival.level
+  pub half : slice_index via arrival.place ≡ arrival.half
+  pub near : IsNear dist arrival.level
 
 -- among the farthest nodes that the search has seen is one that it looks out for
 abbrev pub EndsWithWanted : List ℕ → List ℕ → Type 0
@@ -113,6 +149,14 @@ abbrev pub IsDone : Net → List ℕ → Direction → List ℕ → ℕ → Type
 IsDone net flows dir dist p = (h : ℕ) → h < 2 * length net.arcs → group_of net h ≡ p → 1 ≤ residual net flows (crossed dir h)
     → IsMarked dist (head_of net h - 1) × (slice_index dist (head_of net h - 1) ≤ slice_index dist p + 1)
 
+-- each half-arc that leaves a place was followed, and nothing else came in
+pub record IsFollowed (net : Net) (flows : List ℕ) (dir : Direction) (place : ℕ) (dist dist' via' : List ℕ) : Type 0 where
+  pub near : IsNear dist' (slice_index dist place + 1)
+  pub come : (p : ℕ) → IsMarked dist' p → IsMarked dist p ⊎ IsCome net flows dir dist' via' p
+  pub next_level : (p : ℕ) → IsMarked dist' p → IsMarked dist p ⊎ (slice_index dist' p ≡ slice_index dist place + 1)
+  pub done : (h : ℕ) → h < 2 * length net.arcs → group_of net h ≡ place → 1 ≤ residual net flows (crossed dir h) → IsMarked dist' (head_of net h - 1)
+  pub only : (side : ℕ → Bool) → IsClosedFor dir net flows side → IsTrue (side (place + 1)) → HoldsMarked net.nodes dist side → HoldsMarked net.nodes dist' side
+
 -- What a search has found, also where it has stopped early: the starts are marked with 0; a marked place was come to;
 -- a place is done, or else no marked place is farther than it by more than one; each closed set that holds the starts
 -- holds what is marked.
@@ -130,6 +174,11 @@ pub record IsWhole (dir : Direction) (net : Net) (flows starts : List ℕ) (X : 
   pub holds : HoldsAll starts X
   pub closed : IsClosedFor dir net flows X
   pub least : (Y : ℕ → Bool) → HoldsAll starts Y → IsClosedFor dir net flows Y → (v : ℕ) → IsTrue (X v) → IsTrue (Y v)
+
+-- the search comes to none of the nodes that it looks out for, and has seen all that it can come to
+pub record Misses (dir : Direction) (net : Net) (flows starts until dist : List ℕ) : Type 0 where
+  pub whole : IsWhole dir net flows starts (seen dist)
+  pub outside : (v : ℕ) → IsTrue (one_of until v) → IsFalse (seen dist v)
 
 -- a residual path from a node of one set to a node of another, with no two half-arcs of one arc
 pub record IsRoute (net : Net) (flows : List ℕ) (from to : ℕ → Bool) : Type 0 where

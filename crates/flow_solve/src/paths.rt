@@ -5,14 +5,14 @@
 //! is walked twice, once to find the least residual capacity and once to push so much.
 ghost use Rattle.std.specs.Prelude.{◌≡◌, ℕ, ◌+◌, ◌-◌, ◌*◌, ◌<◌, ◌≤◌, IsTrue, IsFalse, IfSome, IfNone, length, slice_index, sum_by};
 ghost use Rattle.std.specs.List.{All};
-ghost use Rattle.flow_net.specs.Nets.{Net, IsNode, AreTerminals};
+ghost use Rattle.flow_net.specs.Nets.{Net, IsNode};
 ghost use Rattle.flow_net.specs.NodeSets.{one_of};
-ghost use Rattle.flow_net.specs.Flows.{Fits, IsFeasible, HasValue, IsGreatest, HasNoLoops};
+ghost use Rattle.flow_net.specs.Flows.{Fits};
 ghost use Rattle.flow_net.specs.Paths.{HasRoom, push_all};
-ghost use Rattle.flow_net.specs.Cuts.{IsLeastCapacity};
 ghost use Rattle.flow_solve.specs.Packs.{IsPacked};
-ghost use Rattle.flow_solve.specs.Searches.{IsMarked, IsSearched, IsWhole, seen};
+ghost use Rattle.flow_solve.specs.Searches.{AreCells, IsMarked, IsSearched, Misses, seen};
 ghost use Rattle.flow_solve.specs.Bounds.{paths_bound};
+ghost use Rattle.flow_solve.specs.Steps.{OnlyLooks};
 ghost use Rattle.flow_solve.specs.Trails.{AreTrails, trail_from};
 
 use crate::method::Method;
@@ -38,38 +38,27 @@ fn first_seen(nodes: &[u32], dist: &[u32]) -> Option<u32>
 
 /// Searches backwards from the sinks, and answers a source from which a trail leads to a sink, if there is one.
 fn find_trail(
-    packed: Packed<'_>,
+    plan: Plan<'_>,
     flow: &mut FlowTable,
-    s: &[u32],
-    t: &[u32],
     dist: &mut [u32],
     via: &mut [u32],
     queue: &mut [u32],
 ) -> Option<u32>
-    requires fits { Fits packed.net.now flow.old.flows }
-    requires packed { IsPacked packed.net.now packed.first.now packed.halves.now }
-    requires sources { All (IsNode packed.net.now) s.now }
-    requires sinks { All (IsNode packed.net.now) t.now }
-    requires cells { length dist.old ≡ packed.net.now.nodes }
-    requires via_size { length via.old ≡ packed.net.now.nodes }
-    requires queue_size { length queue.old ≡ packed.net.now.nodes }
-    ensures some { IfSome result (λ v. IsTrue (one_of s.now v) × IsNode packed.entry.net.now v × IsMarked dist.new (v - 1)) }
-    ensures searched { IsSearched packed.entry.net.now flow.old.flows Direction.Backwards t.now dist.new via.new }
-    ensures none { IfNone result (IsWhole Direction.Backwards packed.entry.net.now flow.old.flows t.now (seen dist.new)) }
-    ensures outside { IfNone result ((v : ℕ) → IsTrue (one_of s.now v) → IsFalse (seen dist.new v)) }
-    ensures flows { flow.new.flows ≡ flow.old.flows }
-    ensures never_lowered { flow.old.steps ≤ flow.new.steps }
-    ensures steps { flow.new.steps ≤ flow.old.steps + 2 * length packed.entry.net.now.arcs }
+    requires fits { Fits plan.packed.net.now flow.old.flows }
+    requires packed { IsPacked plan.packed.net.now plan.packed.first.now plan.packed.halves.now }
+    requires starts { All (IsNode plan.packed.net.now) plan.starts.now }
+    requires until { All (IsNode plan.packed.net.now) plan.until.now }
+    requires backwards { plan.direction ≡ Direction.Backwards }
+    requires enough { plan.enough ≡ 1 }
+    requires cells { AreCells plan.packed.net.now dist.old via.old queue.old }
+    ensures some { IfSome result (λ v. IsTrue (one_of plan.entry.until.now v) × IsNode plan.entry.packed.net.now v × IsMarked dist.new (v - 1)) }
+    ensures searched { IsSearched plan.entry.packed.net.now flow.old.flows Direction.Backwards plan.entry.starts.now dist.new via.new }
+    ensures missed { IfNone result (Misses Direction.Backwards plan.entry.packed.net.now flow.old.flows plan.entry.starts.now plan.entry.until.now dist.new) }
+    ensures looks { OnlyLooks flow.old flow.new (2 * length plan.entry.packed.net.now.arcs) }
 {
-    let _ = packed.net.nodes();
-    let plan = Plan {
-        direction: Direction::Backwards,
-        starts: t,
-        until: s,
-        enough: 1,
-    };
-    search(packed, flow, plan, dist, via, queue);
-    first_seen(s, dist)
+    let _ = plan.packed.net.nodes();
+    search(plan, flow, dist, via, queue);
+    first_seen(plan.until, dist)
 }
 
 /// The least residual capacity on the trail from a node.
@@ -159,8 +148,15 @@ impl Raise for Paths {
         let (dist, rest) = cells.split_at_mut(n);
         let (via, rest) = rest.split_at_mut(n);
         let (queue, _) = rest.split_at_mut(n);
+        let plan = Plan {
+            packed,
+            direction: Direction::Backwards,
+            starts: t,
+            until: s,
+            enough: 1,
+        };
         let mut raised = value;
-        while let Some(source) = find_trail(packed, flow, s, t, dist, via, queue) {
+        while let Some(source) = find_trail(plan, flow, dist, via, queue) {
             raised += u128::from(augment(packed.net, flow, dist, via, source));
         }
         raised

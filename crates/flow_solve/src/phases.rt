@@ -8,7 +8,8 @@ ghost use Rattle.flow_net.specs.Cuts.{IsLeastCapacity};
 ghost use Rattle.flow_solve.specs.Bounds.{phases_bound};
 ghost use Rattle.flow_solve.specs.Packs.{IsPacked};
 ghost use Rattle.flow_solve.specs.Raising.{IsFlow};
-ghost use Rattle.flow_solve.specs.Searches.{seen, IsWhole};
+ghost use Rattle.flow_solve.specs.Searches.{seen, AreCells, Misses};
+ghost use Rattle.flow_solve.specs.Steps.{OnlyLooks, TakesSteps};
 ghost use Rattle.flow_solve.specs.Levels.{cell_of, place_of, owed, IsDead, IsInPhase, AreSinks, IsOrdered, IsGentle, AreLevels, IsFar};
 
 use crate::packing::Packed;
@@ -40,42 +41,28 @@ fn count(nodes: &[u32]) -> u32
 /// Searches backwards from the sinks until all sources are seen, and ranks what it has seen, the nearest first. Answers
 /// whether a source was seen.
 fn find_levels(
-    packed: Packed<'_>,
+    plan: Plan<'_>,
     flow: &mut FlowTable,
-    s: &[u32],
-    t: &[u32],
     dist: &mut [u32],
     rank: &mut [u32],
     queue: &mut [u32],
 ) -> bool
-    requires fits { Fits packed.net.now flow.old.flows }
-    requires packed { IsPacked packed.net.now packed.first.now packed.halves.now }
-    requires terminals { AreTerminals packed.net.now s.now t.now }
-    requires dist_size { length dist.old ≡ packed.net.now.nodes }
-    requires rank_size { length rank.old ≡ packed.net.now.nodes }
-    requires queue_size { length queue.old ≡ packed.net.now.nodes }
-    ensures levels { result ≡ true → AreLevels packed.entry.net.now s.now t.now flow.old.flows dist.new rank.new }
-    ensures whole { result ≡ false → IsWhole Direction.Backwards packed.entry.net.now flow.old.flows t.now (seen dist.new) }
-    ensures outside { result ≡ false → (v : ℕ) → IsTrue (one_of s.now v) → IsFalse (seen dist.new v) }
-    ensures dist_size { length dist.new ≡ packed.entry.net.now.nodes }
-    ensures rank_size { length rank.new ≡ packed.entry.net.now.nodes }
-    ensures queue_size { length queue.new ≡ packed.entry.net.now.nodes }
-    ensures flows { flow.new.flows ≡ flow.old.flows }
-    ensures never_lowered { flow.old.steps ≤ flow.new.steps }
-    ensures steps { flow.new.steps ≤ flow.old.steps + 2 * length packed.entry.net.now.arcs }
+    requires fits { Fits plan.packed.net.now flow.old.flows }
+    requires packed { IsPacked plan.packed.net.now plan.packed.first.now plan.packed.halves.now }
+    requires terminals { AreTerminals plan.packed.net.now plan.until.now plan.starts.now }
+    requires backwards { plan.direction ≡ Direction.Backwards }
+    requires enough { plan.enough ≡ min (length plan.until.now) u32.MAX }
+    requires cells { AreCells plan.packed.net.now dist.old rank.old queue.old }
+    ensures levels { result ≡ true → AreLevels plan.entry.packed.net.now plan.entry.until.now plan.entry.starts.now flow.old.flows dist.new rank.new }
+    ensures missed { result ≡ false → Misses Direction.Backwards plan.entry.packed.net.now flow.old.flows plan.entry.starts.now plan.entry.until.now dist.new }
+    ensures looks { OnlyLooks flow.old flow.new (2 * length plan.entry.packed.net.now.arcs) }
 {
-    let _ = packed.net.nodes();
-    let plan = Plan {
-        direction: Direction::Backwards,
-        starts: t,
-        until: s,
-        enough: count(s),
-    };
-    let seen = search(packed, flow, plan, dist, rank, queue);
-    if seen.wanted == 0 {
+    let _ = plan.packed.net.nodes();
+    let progress = search(plan, flow, dist, rank, queue);
+    if progress.wanted == 0 {
         return false;
     }
-    rank_all(queue, seen.all, rank);
+    rank_all(queue, progress.seen, rank);
     true
 }
 
@@ -165,9 +152,16 @@ pub(crate) fn run_phases(
     let (rank, rest) = rest.split_at_mut(n);
     let (queue, rest) = rest.split_at_mut(n);
     let (current, path) = rest.split_at_mut(n);
+    let plan = Plan {
+        packed,
+        direction: Direction::Backwards,
+        starts: t,
+        until: s,
+        enough: count(s),
+    };
     let mut value = value;
     let mut phases = 0u32;
-    'phases: while find_levels(packed, flow, s, t, dist, rank, queue) {
+    'phases: while find_levels(plan, flow, dist, rank, queue) {
         let phase = Phase {
             packed,
             s,

@@ -9,6 +9,7 @@ ghost use Rattle.flow_net.specs.NodeSets.{one_of, marked};
 ghost use Rattle.flow_net.specs.Flows.{Fits, IsFeasible, HasValue, HasGreatestValue};
 ghost use Rattle.flow_net.specs.Cuts.{capacity, IsMinimumCut, IsInLeastSourceSide, IsInLeastSinkSide};
 ghost use Rattle.flow_solve.specs.Bounds.{work_cells};
+ghost use Rattle.flow_solve.specs.Steps.{OnlyLooks};
 ghost use Rattle.flow_solve.specs.Searches.{seen, IsWhole, HasRoute};
 
 use crate::method::work_len;
@@ -27,12 +28,12 @@ fn mark(dist: &[u32], side: &mut [bool])
 }
 
 /// Searches from the starts, and answers whether it comes to one of the other nodes. If not, it marks what it has seen.
-fn comes_to(
-    net: &Network,
+fn comes_to<'a>(
+    net: &'a Network,
     flow: &mut FlowTable,
     direction: Direction,
-    starts: &[u32],
-    until: &[u32],
+    starts: &'a [u32],
+    until: &'a [u32],
     cells: &mut [u32],
     side: &mut [bool],
 ) -> bool
@@ -44,9 +45,7 @@ fn comes_to(
     ensures route { result ≡ true → HasRoute direction net.now flow.old.flows starts.now until.now }
     ensures whole { result ≡ false → IsWhole direction net.now flow.old.flows starts.now (marked side.new) }
     ensures outside { result ≡ false → (v : ℕ) → IsTrue (one_of until.now v) → IsFalse (marked side.new v) }
-    ensures flows { flow.new.flows ≡ flow.old.flows }
-    ensures never_lowered { flow.old.steps ≤ flow.new.steps }
-    ensures steps { flow.new.steps ≤ flow.old.steps + 2 * length net.now.arcs }
+    ensures looks { OnlyLooks flow.old flow.new (2 * length net.now.arcs) }
 {
     let n = net.nodes() as usize;
     let m = net.len() as usize;
@@ -56,15 +55,15 @@ fn comes_to(
     let (first, rest) = rest.split_at_mut(n + 1);
     let (halves, _) = rest.split_at_mut(2 * m);
     pack(net, first, halves);
-    let packed = Packed { net, first, halves };
     let plan = Plan {
+        packed: Packed { net, first, halves },
         direction,
         starts,
         until,
         enough: 1,
     };
-    let seen = search(packed, flow, plan, dist, via, queue);
-    if seen.wanted > 0 {
+    let progress = search(plan, flow, dist, via, queue);
+    if progress.wanted > 0 {
         return true;
     }
     mark(dist, side);

@@ -6,14 +6,15 @@
 //!
 //! A search can stop early: the nodes that it looks out for have a distance of their own while they are unseen, so that it
 //! counts them as it enters them.
-ghost use Rattle.std.specs.Prelude.{◌⊎◌, ◌≡◌, ℕ, Bool, List, IsTrue, ◌+◌, ◌-◌, ◌*◌, ◌<◌, ◌≤◌, length, slice_index};
+ghost use Rattle.std.specs.Prelude.{◌⊎◌, ◌≡◌, ℕ, List, IsTrue, IfSome, IfNone, ◌+◌, ◌-◌, ◌*◌, ◌<◌, ◌≤◌, length, slice_index};
 ghost use Rattle.std.specs.List.{All};
 ghost use Rattle.flow_net.specs.Nets.{Net, IsNode};
 ghost use Rattle.flow_net.specs.NodeSets.{one_of};
 ghost use Rattle.flow_net.specs.Flows.{Fits};
 ghost use Rattle.flow_net.specs.Residual.{head_of, residual};
-ghost use Rattle.flow_solve.specs.Packs.{IsPacked, group_of};
-ghost use Rattle.flow_solve.specs.Searches.{twin_of, crossed, IsClosedFor, IsMarked, IsNear, HoldsMarked, HoldsAll, IsQueue, HasGrown, IsCount, IsCome, IsDone, IsSearched, EndsWithWanted, unseen_cell};
+ghost use Rattle.flow_solve.specs.Packs.{IsPacked, halves_at};
+ghost use Rattle.flow_solve.specs.Steps.{OnlyLooks};
+ghost use Rattle.flow_solve.specs.Searches.{twin_of, crossed, AreCells, IsMarked, IsNear, IsQueue, IsSearch, IsArrival, HasArrived, LeadsTo, HasGrown, IsFollowed, IsCount, IsDone, IsSearched, Misses, EndsWithWanted, unseen_cell};
 
 use crate::packing::Packed;
 use flow_net::{FlowTable, MOST_NODES, Network};
@@ -36,6 +37,8 @@ pub(crate) const WANTED: u32 = u32::MAX - 1;
 /// What a search is to do.
 #[derive(Clone, Copy)]
 pub(crate) struct Plan<'a> {
+    /// The network that it goes over, with the half-arcs side by side.
+    pub packed: Packed<'a>,
     /// Which way it goes.
     pub direction: Direction,
     /// The nodes that it goes from.
@@ -46,13 +49,26 @@ pub(crate) struct Plan<'a> {
     pub enough: u32,
 }
 
-/// How many nodes a search has seen: the end of its queue.
+/// How far a search is: numbers of places, all of which stand in its queue.
 #[derive(Clone, Copy)]
-pub(crate) struct Seen {
-    /// All of them.
-    pub all: u32,
-    /// Those among them that the search looks out for.
+pub(crate) struct Progress {
+    /// Those whose half-arcs it has followed, the first in the queue.
+    pub followed: u32,
+    /// Those that it has seen: the end of the queue.
+    pub seen: u32,
+    /// Those among the seen ones that it looks out for.
     pub wanted: u32,
+}
+
+/// A search that comes to an unseen place.
+#[derive(Clone, Copy)]
+pub(crate) struct Arrival {
+    /// The place.
+    pub place: u32,
+    /// Its distance.
+    pub level: u32,
+    /// The half-arc over which the search comes; any number for a start.
+    pub half: u32,
 }
 
 /// The node that a half-arc leads to. No step: it reads the arc alone.
@@ -87,131 +103,102 @@ fn enter(
     dist: &mut [u32],
     via: &mut [u32],
     queue: &mut [u32],
-    seen: Seen,
-    place: u32,
-    level: u32,
-    half: u32,
-) -> Seen
-    requires queue { IsQueue dist.old queue.old seen.all }
-    requires via_size { length via.old ≡ length dist.old }
-    requires queue_size { length queue.old ≡ length dist.old }
-    requires few { length dist.old ≤ MOST_NODES }
-    requires place { place < length dist.old }
-    requires unseen { WANTED ≤ slice_index dist.old place }
-    requires level { level ≤ seen.all }
-    requires near { IsNear dist.old level }
-    requires wanted { seen.wanted ≤ seen.all }
-    ensures queue { IsQueue dist.new queue.new result.all }
-    ensures near { IsNear dist.new level }
-    ensures grown { HasGrown dist.old via.old queue.old seen.all dist.new via.new queue.new result.all }
-    ensures here { IsMarked dist.new place }
-    ensures come { (p : ℕ) → IsMarked dist.new p → IsMarked dist.old p ⊎ ((p ≡ place) × (slice_index dist.new p ≡ level) × (slice_index via.new p ≡ half)) }
-    ensures only { (side : ℕ → Bool) → IsTrue (side (place + 1)) → HoldsMarked (length dist.old) dist.old side → HoldsMarked (length dist.old) dist.new side }
-    ensures count { (until : List ℕ) → IsCount until dist.old seen.wanted → IsCount until dist.new result.wanted }
-    ensures wanted { result.wanted ≤ result.all }
+    progress: Progress,
+    arrival: Arrival,
+) -> Progress
+    requires search { IsSearch dist.old via.old queue.old progress }
+    requires arrival { IsArrival dist.old progress arrival }
+    ensures search { IsSearch dist.new via.new queue.new result }
+    ensures grown { HasGrown dist.old via.old queue.old progress dist.new via.new queue.new result }
+    ensures arrived { HasArrived dist.new via.new arrival }
+    ensures come { (p : ℕ) → IsMarked dist.new p → IsMarked dist.old p ⊎ (p ≡ arrival.place) }
+    ensures followed { result.followed ≡ progress.followed }
 {
+    let place = arrival.place as usize;
     // The two numbers for an unseen node differ by one.
-    let wanted = seen.wanted + (FAR - dist[place as usize]);
-    dist[place as usize] = level;
-    via[place as usize] = half;
-    queue[seen.all as usize] = place;
-    Seen {
-        all: seen.all + 1,
+    let wanted = progress.wanted + (FAR - dist[place]);
+    dist[place] = arrival.level;
+    via[place] = arrival.half;
+    queue[progress.seen as usize] = arrival.place;
+    Progress {
+        followed: progress.followed,
+        seen: progress.seen + 1,
         wanted,
     }
 }
 
-/// Enters the place that a half-arc which leaves a node leads to, if it is unseen and the search may go there.
-fn follow(
-    net: &Network,
+/// Where a half-arc that leaves a node brings the search, if it leads to an unseen node and the search may go there. It
+/// looks only if the node is unseen.
+fn arrive(
+    plan: Plan<'_>,
     flow: &mut FlowTable,
-    direction: Direction,
-    dist: &mut [u32],
-    via: &mut [u32],
-    queue: &mut [u32],
-    seen: Seen,
+    dist: &[u32],
     half: u32,
     level: u32,
-) -> Seen
-    requires fits { Fits net.now flow.old.flows }
-    requires queue { IsQueue dist.old queue.old seen.all }
-    requires cells { length dist.old ≡ net.now.nodes }
-    requires via_size { length via.old ≡ length dist.old }
-    requires queue_size { length queue.old ≡ length dist.old }
-    requires half { half < 2 * length net.now.arcs }
-    requires level { level ≤ seen.all }
-    requires near { IsNear dist.old level }
-    requires wanted { seen.wanted ≤ seen.all }
-    ensures queue { IsQueue dist.new queue.new result.all }
-    ensures near { IsNear dist.new level }
-    ensures grown { HasGrown dist.old via.old queue.old seen.all dist.new via.new queue.new result.all }
-    ensures here { 1 ≤ residual net.now flow.old.flows (crossed direction half) → IsMarked dist.new (head_of net.now half - 1) }
-    ensures come { (p : ℕ) → IsMarked dist.new p → IsMarked dist.old p ⊎ ((head_of net.now half ≡ p + 1) × (1 ≤ residual net.now flow.old.flows (crossed direction half)) × (slice_index dist.new p ≡ level) × (slice_index via.new p ≡ crossed direction half)) }
-    ensures only { (side : ℕ → Bool) → (1 ≤ residual net.now flow.old.flows (crossed direction half) → IsTrue (side (head_of net.now half))) → HoldsMarked (length dist.old) dist.old side → HoldsMarked (length dist.old) dist.new side }
-    ensures count { (until : List ℕ) → IsCount until dist.old seen.wanted → IsCount until dist.new result.wanted }
-    ensures wanted { result.wanted ≤ result.all }
-    ensures flows { flow.new.flows ≡ flow.old.flows }
-    ensures never_lowered { flow.old.steps ≤ flow.new.steps }
-    ensures no_look { IsMarked dist.old (head_of net.now half - 1) → flow.new.steps ≡ flow.old.steps }
-    ensures steps { flow.new.steps ≤ flow.old.steps + 1 }
+) -> Option<Arrival>
+    requires fits { Fits plan.packed.net.now flow.old.flows }
+    requires cells { length dist.now ≡ plan.packed.net.now.nodes }
+    requires half { half < 2 * length plan.packed.net.now.arcs }
+    ensures some { IfSome result (λ arrival. LeadsTo plan.entry.direction plan.entry.packed.net.now flow.old.flows half level arrival) }
+    ensures unseen { IfSome result (λ arrival. (arrival.place < length dist.now) × (WANTED ≤ slice_index dist.now arrival.place)) }
+    ensures none { IfNone result (1 ≤ residual plan.entry.packed.net.now flow.old.flows (crossed plan.entry.direction half) → IsMarked dist.now (head_of plan.entry.packed.net.now half - 1)) }
+    ensures looks { OnlyLooks flow.old flow.new 1 }
+    ensures no_look { IsMarked dist.now (head_of plan.entry.packed.net.now half - 1) → flow.new.steps ≡ flow.old.steps }
 {
+    let net = plan.packed.net;
     let _ = net.nodes();
     let place = head(net, half) - 1;
     if dist[place as usize] < WANTED {
-        return seen;
+        return None;
     }
-    let crossing = cross(direction, half);
+    let crossing = cross(plan.direction, half);
     let (_, room) = flow.look(net, crossing);
     if room > 0 {
-        enter(dist, via, queue, seen, place, level, crossing)
+        Some(Arrival {
+            place,
+            level,
+            half: crossing,
+        })
     } else {
-        seen
+        None
     }
 }
 
-/// Follows each half-arc that leaves the node at a place.
+/// Follows each half-arc that leaves the next place in the queue.
 fn follow_all(
-    packed: Packed<'_>,
+    plan: Plan<'_>,
     flow: &mut FlowTable,
-    direction: Direction,
     dist: &mut [u32],
     via: &mut [u32],
     queue: &mut [u32],
-    seen: Seen,
-    place: u32,
-) -> Seen
-    requires fits { Fits packed.net.now flow.old.flows }
-    requires packed { IsPacked packed.net.now packed.first.now packed.halves.now }
-    requires queue { IsQueue dist.old queue.old seen.all }
-    requires cells { length dist.old ≡ packed.net.now.nodes }
-    requires via_size { length via.old ≡ length dist.old }
-    requires queue_size { length queue.old ≡ length dist.old }
-    requires place { place < packed.net.now.nodes }
-    requires marked { IsMarked dist.old place }
-    requires near { IsNear dist.old (slice_index dist.old place + 1) }
-    requires wanted { seen.wanted ≤ seen.all }
-    ensures queue { IsQueue dist.new queue.new result.all }
-    ensures near { IsNear dist.new (slice_index dist.old place + 1) }
-    ensures grown { HasGrown dist.old via.old queue.old seen.all dist.new via.new queue.new result.all }
-    ensures come { (p : ℕ) → IsMarked dist.new p → IsMarked dist.old p ⊎ IsCome packed.entry.net.now flow.old.flows direction dist.new via.new p }
-    ensures next_level { (p : ℕ) → IsMarked dist.new p → IsMarked dist.old p ⊎ (slice_index dist.new p ≡ slice_index dist.old place + 1) }
-    ensures done { (h : ℕ) → h < 2 * length packed.entry.net.now.arcs → group_of packed.entry.net.now h ≡ place → 1 ≤ residual packed.entry.net.now flow.old.flows (crossed direction h) → IsMarked dist.new (head_of packed.entry.net.now h - 1) }
-    ensures only { (side : ℕ → Bool) → IsClosedFor direction packed.entry.net.now flow.old.flows side → IsTrue (side (place + 1)) → HoldsMarked packed.entry.net.now.nodes dist.old side → HoldsMarked packed.entry.net.now.nodes dist.new side }
-    ensures count { (until : List ℕ) → IsCount until dist.old seen.wanted → IsCount until dist.new result.wanted }
-    ensures wanted { result.wanted ≤ result.all }
-    ensures flows { flow.new.flows ≡ flow.old.flows }
-    ensures never_lowered { flow.old.steps ≤ flow.new.steps }
-    ensures steps { flow.new.steps ≤ flow.old.steps + (slice_index packed.entry.first.now (place + 1) - slice_index packed.entry.first.now place) }
+    progress: Progress,
+) -> Progress
+    requires fits { Fits plan.packed.net.now flow.old.flows }
+    requires packed { IsPacked plan.packed.net.now plan.packed.first.now plan.packed.halves.now }
+    requires cells { length dist.old ≡ plan.packed.net.now.nodes }
+    requires search { IsSearch dist.old via.old queue.old progress }
+    requires next { progress.followed < progress.seen }
+    requires near { IsNear dist.old (slice_index dist.old (slice_index queue.old progress.followed) + 1) }
+    ensures search { IsSearch dist.new via.new queue.new result }
+    ensures grown { HasGrown dist.old via.old queue.old progress dist.new via.new queue.new result }
+    ensures followed { IsFollowed plan.entry.packed.net.now flow.old.flows plan.entry.direction (slice_index queue.old progress.followed) dist.old dist.new via.new }
+    ensures next { result.followed ≡ progress.followed + 1 }
+    ensures looks { OnlyLooks flow.old flow.new (halves_at plan.entry.packed.first.now (slice_index queue.old progress.followed)) }
 {
-    let Packed { net, first, halves } = packed;
+    let Packed { net, first, halves } = plan.packed;
     let _ = net.nodes();
-    let level = dist[place as usize] + 1;
-    let mut seen = seen;
-    for spot in first[place as usize]..first[place as usize + 1] {
-        let half = halves[spot as usize];
-        seen = follow(net, flow, direction, dist, via, queue, seen, half, level);
+    let place = queue[progress.followed as usize] as usize;
+    let level = dist[place] + 1;
+    let mut progress = progress;
+    for spot in first[place]..first[place + 1] {
+        if let Some(arrival) = arrive(plan, flow, dist, halves[spot as usize], level) {
+            progress = enter(dist, via, queue, progress, arrival);
+        }
     }
-    seen
+    Progress {
+        followed: progress.followed + 1,
+        ..progress
+    }
 }
 
 /// Makes all nodes unseen, and tells apart those that the search looks out for.
@@ -226,86 +213,89 @@ fn look_out(dist: &mut [u32], until: &[u32])
 }
 
 /// Enters a node with distance 0, unless it was seen.
-fn start(dist: &mut [u32], via: &mut [u32], queue: &mut [u32], seen: Seen, node: u32) -> Seen
-    requires queue { IsQueue dist.old queue.old seen.all }
-    requires via_size { length via.old ≡ length dist.old }
-    requires queue_size { length queue.old ≡ length dist.old }
-    requires few { length dist.old ≤ MOST_NODES }
+fn start(
+    dist: &mut [u32],
+    via: &mut [u32],
+    queue: &mut [u32],
+    progress: Progress,
+    node: u32,
+) -> Progress
+    requires search { IsSearch dist.old via.old queue.old progress }
     requires node { (1 ≤ node) × (node ≤ length dist.old) }
     requires near { IsNear dist.old 0 }
-    requires wanted { seen.wanted ≤ seen.all }
-    ensures queue { IsQueue dist.new queue.new result.all }
+    ensures search { IsSearch dist.new via.new queue.new result }
     ensures near { IsNear dist.new 0 }
-    ensures grown { HasGrown dist.old via.old queue.old seen.all dist.new via.new queue.new result.all }
+    ensures grown { HasGrown dist.old via.old queue.old progress dist.new via.new queue.new result }
     ensures here { IsMarked dist.new (node - 1) }
     ensures come { (p : ℕ) → IsMarked dist.new p → IsMarked dist.old p ⊎ (p + 1 ≡ node) }
-    ensures count { (until : List ℕ) → IsCount until dist.old seen.wanted → IsCount until dist.new result.wanted }
-    ensures wanted { result.wanted ≤ result.all }
+    ensures followed { result.followed ≡ progress.followed }
 {
     let place = node - 1;
     if dist[place as usize] < WANTED {
-        seen
+        progress
     } else {
-        enter(dist, via, queue, seen, place, 0, 0)
+        let arrival = Arrival {
+            place,
+            level: 0,
+            half: 0,
+        };
+        enter(dist, via, queue, progress, arrival)
     }
 }
 
 /// Enters each start with distance 0, where all nodes are unseen.
-fn start_all(starts: &[u32], dist: &mut [u32], via: &mut [u32], queue: &mut [u32]) -> Seen
+fn start_all(starts: &[u32], dist: &mut [u32], via: &mut [u32], queue: &mut [u32]) -> Progress
     requires starts { All (λ v. (1 ≤ v) × (v ≤ length dist.old)) starts.now }
     requires unseen { (p : ℕ) → p < length dist.old → WANTED ≤ slice_index dist.old p }
     requires via_size { length via.old ≡ length dist.old }
     requires queue_size { length queue.old ≡ length dist.old }
     requires few { length dist.old ≤ MOST_NODES }
-    ensures queue { IsQueue dist.new queue.new result.all }
+    ensures search { IsSearch dist.new via.new queue.new result }
     ensures near { IsNear dist.new 0 }
     ensures begun { (i : ℕ) → i < length starts.now → IsMarked dist.new (slice_index starts.now i - 1) }
     ensures come { (p : ℕ) → p < length dist.old → IsMarked dist.new p → IsTrue (one_of starts.now (p + 1)) }
     ensures count { (until : List ℕ) → IsCount until dist.old 0 → IsCount until dist.new result.wanted }
-    ensures wanted { result.wanted ≤ result.all }
+    ensures followed { result.followed ≡ 0 }
 {
-    let mut seen = Seen { all: 0, wanted: 0 };
+    let mut progress = Progress {
+        followed: 0,
+        seen: 0,
+        wanted: 0,
+    };
     for node in starts {
-        seen = start(dist, via, queue, seen, *node);
+        progress = start(dist, via, queue, progress, *node);
     }
-    seen
+    progress
 }
 
 /// Searches from the starts, over half-arcs with a residual capacity, until so many of the nodes to look out for are seen
 /// or no further node can be. Each node that is seen gets its distance, in half-arcs, and the half-arc over which the
 /// search came to it; `queue` has their places, the nearest first. At most one look at each half-arc.
 pub(crate) fn search(
-    packed: Packed<'_>,
-    flow: &mut FlowTable,
     plan: Plan<'_>,
+    flow: &mut FlowTable,
     dist: &mut [u32],
     via: &mut [u32],
     queue: &mut [u32],
-) -> Seen
-    requires fits { Fits packed.net.now flow.old.flows }
-    requires packed { IsPacked packed.net.now packed.first.now packed.halves.now }
-    requires starts { All (IsNode packed.net.now) plan.starts.now }
-    requires until { All (IsNode packed.net.now) plan.until.now }
-    requires cells { length dist.old ≡ packed.net.now.nodes }
-    requires via_size { length via.old ≡ packed.net.now.nodes }
-    requires queue_size { length queue.old ≡ packed.net.now.nodes }
-    ensures searched { IsSearched packed.entry.net.now flow.old.flows plan.entry.direction plan.entry.starts.now dist.new via.new }
-    ensures whole { result.wanted < plan.entry.enough → (p : ℕ) → p < packed.entry.net.now.nodes → IsMarked dist.new p → IsDone packed.entry.net.now flow.old.flows plan.entry.direction dist.new p }
+) -> Progress
+    requires fits { Fits plan.packed.net.now flow.old.flows }
+    requires packed { IsPacked plan.packed.net.now plan.packed.first.now plan.packed.halves.now }
+    requires starts { All (IsNode plan.packed.net.now) plan.starts.now }
+    requires until { All (IsNode plan.packed.net.now) plan.until.now }
+    requires cells { AreCells plan.packed.net.now dist.old via.old queue.old }
+    ensures searched { IsSearched plan.entry.packed.net.now flow.old.flows plan.entry.direction plan.entry.starts.now dist.new via.new }
+    ensures whole { result.wanted < plan.entry.enough → (p : ℕ) → p < plan.entry.packed.net.now.nodes → IsMarked dist.new p → IsDone plan.entry.packed.net.now flow.old.flows plan.entry.direction dist.new p }
+    ensures missed { result.wanted ≡ 0 → 1 ≤ plan.entry.enough → Misses plan.entry.direction plan.entry.packed.net.now flow.old.flows plan.entry.starts.now plan.entry.until.now dist.new }
     ensures soon { 1 ≤ plan.entry.enough → plan.entry.enough ≤ result.wanted → EndsWithWanted plan.entry.until.now dist.new }
     ensures count { IsCount plan.entry.until.now dist.new result.wanted }
-    ensures queue { IsQueue dist.new queue.new result.all }
-    ensures flows { flow.new.flows ≡ flow.old.flows }
-    ensures never_lowered { flow.old.steps ≤ flow.new.steps }
-    ensures steps { flow.new.steps ≤ flow.old.steps + 2 * length packed.entry.net.now.arcs }
+    ensures queue { IsQueue dist.new queue.new result.seen }
+    ensures looks { OnlyLooks flow.old flow.new (2 * length plan.entry.packed.net.now.arcs) }
 {
-    let _ = packed.net.nodes();
+    let _ = plan.packed.net.nodes();
     look_out(dist, plan.until);
-    let mut seen = start_all(plan.starts, dist, via, queue);
-    let mut at = 0;
-    while at < seen.all && seen.wanted < plan.enough {
-        let place = queue[at as usize];
-        seen = follow_all(packed, flow, plan.direction, dist, via, queue, seen, place);
-        at += 1;
+    let mut progress = start_all(plan.starts, dist, via, queue);
+    'places: while progress.followed < progress.seen && progress.wanted < plan.enough {
+        progress = follow_all(plan, flow, dist, via, queue, progress);
     }
-    seen
+    progress
 }

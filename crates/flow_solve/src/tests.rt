@@ -9,7 +9,7 @@ use crate::chains::Ends;
 use crate::packing::{Packed, pack};
 use crate::phases::run_phases;
 use crate::trees::grow_trees;
-use flow_net::{Arc, FlowTable, Network};
+use flow_net::{Arc, FEWEST_NODES, FlowTable, MOST_ARCS_BOTH_WAYS, MOST_NODES, Network};
 use std::alloc::Global;
 
 /// Whether a number stands nowhere before its place.
@@ -56,23 +56,28 @@ fn all_within(nodes: &[u32], most: u32) -> bool
     true
 }
 
-/// A network of 2 to 1,000,000 nodes with those of some arcs that it can have.
-fn network(alloc: Global, nodes: u32, arcs: &[(u32, u32, u64)]) -> Network
-    requires least { 2 ≤ nodes }
-    requires most { nodes ≤ 1000000 }
+/// A network with some arcs, if it can have them all and there is memory.
+fn network(alloc: Global, nodes: u32, arcs: &[(u32, u32, u64)]) -> Option<Network>
+    requires least { FEWEST_NODES ≤ nodes }
+    requires most { nodes ≤ MOST_NODES }
 {
     let mut net = Network::new(alloc, nodes);
     for (src, dst, cap) in arcs {
-        add(&mut net, *src, *dst, *cap);
+        if !add(&mut net, *src, *dst, *cap) {
+            return None;
+        }
     }
-    net
+    Some(net)
 }
 
-/// Adds an arc, if the network can have it and there is memory.
-fn add(net: &mut Network, src: u32, dst: u32, cap: u64) {
+/// Adds an arc, and answers whether the network can have it and there is memory.
+#[must_use]
+fn add(net: &mut Network, src: u32, dst: u32, cap: u64) -> bool {
     let nodes = net.nodes();
-    if net.len() < 8_000_000 && 1 <= src && src <= nodes && 1 <= dst && dst <= nodes {
-        let _ = net.push(Arc { src, dst, cap });
+    if net.len() < MOST_ARCS_BOTH_WAYS && 1 <= src && src <= nodes && 1 <= dst && dst <= nodes {
+        net.push(Arc { src, dst, cap }).is_ok()
+    } else {
+        false
     }
 }
 
@@ -230,15 +235,20 @@ fn random_node(random: &mut Random, nodes: u32) -> u32
     1 + random.below(u64::from(nodes)) as u32
 }
 
-/// Adds arcs between any two nodes, self-loops and parallel arcs among them, small capacities and the largest.
-fn add_arcs(net: &mut Network, random: &mut Random) {
+/// Adds arcs between any two nodes, self-loops and parallel arcs among them, small capacities and the largest. Answers
+/// whether all of them were added.
+#[must_use]
+fn add_arcs(net: &mut Network, random: &mut Random) -> bool {
     for _ in 0..random.below(15) {
         let nodes = net.nodes();
         let src = random_node(random, nodes);
         let dst = random_node(random, nodes);
         let cap = [0, 1, 2, 3, 5, u64::MAX][random.below(6) as usize];
-        add(net, src, dst, cap);
+        if !add(net, src, dst, cap) {
+            return false;
+        }
     }
+    true
 }
 
 #[test]
@@ -248,7 +258,7 @@ fn all_sets_agree(rt: HostRuntime) {
     for _ in 0..600 {
         let nodes = 2 + random.below(5) as u32;
         let mut net = Network::new(rt.alloc(), nodes);
-        add_arcs(&mut net, &mut random);
+        assert!(&rt; add_arcs(&mut net, &mut random));
         let terminals = [
             random_node(&mut random, nodes),
             random_node(&mut random, nodes),
@@ -494,7 +504,9 @@ fn answers(alloc: Global, known: &Known) -> bool {
     if nodes < 2 || 6 < nodes || known.back.len() != nodes {
         return false;
     }
-    let net = network(alloc, nodes as u32, known.arcs);
+    let Some(net) = network(alloc, nodes as u32, known.arcs) else {
+        return false;
+    };
     let Some(answer) = solve(alloc, &net, known.terminals, known.k) else {
         return false;
     };
@@ -563,7 +575,7 @@ const GROWN: &[(&[(u32, u32, u64)], u128)] = &[
 #[test]
 fn trees_that_end_of_themselves(rt: HostRuntime) {
     for (arcs, value) in GROWN {
-        let net = network(rt.alloc(), 6, arcs);
+        let net = network(rt.alloc(), 6, arcs).expect(&rt, "memory");
         assert_eq!(&rt;
             stages(rt.alloc(), &net, &[1, 6], 1, 1000),
             Some((*value, *value, *value))
@@ -574,7 +586,7 @@ fn trees_that_end_of_themselves(rt: HostRuntime) {
 #[test]
 fn trees_that_are_left(rt: HostRuntime) {
     let (arcs, value) = GROWN[0];
-    let net = network(rt.alloc(), 6, arcs);
+    let net = network(rt.alloc(), 6, arcs).expect(&rt, "memory");
     let mut before = 0u128;
     let mut between = 0u32;
     for allowance in 0u64..200 {
@@ -599,7 +611,7 @@ fn methods_agree_on_random_networks(rt: HostRuntime) {
     for _ in 0..6000 {
         let nodes = 2 + random.below(5) as u32;
         let mut net = Network::new(rt.alloc(), nodes);
-        add_arcs(&mut net, &mut random);
+        assert!(&rt; add_arcs(&mut net, &mut random));
         let terminals = [
             random_node(&mut random, nodes),
             random_node(&mut random, nodes),
@@ -633,40 +645,39 @@ fn a_long_chain(rt: HostRuntime) {
     let mut net = Network::new(rt.alloc(), 100_000);
     for i in 0u32..99_999 {
         let v = 99_999 - i;
-        add(&mut net, v, v + 1, u64::from(v));
+        assert!(&rt; add(&mut net, v, v + 1, u64::from(v)));
     }
     let net = net;
     let (s, t) = ([1], [100_000]);
-    if may_be_terminals(&net, &[1, 100_000], 1) && net.nodes() == 100_000 {
-        let mut flow = FlowTable::new(rt.alloc(), &net).expect(&rt, "memory");
-        let len = work_len(net.nodes(), net.len());
-        let mut work = Vec::from_elem(rt.alloc(), 0u32, len).expect(&rt, "memory");
-        let mut side = Vec::from_elem(rt.alloc(), false, 100_000).expect(&rt, "memory");
-        assert_eq!(&rt; Paths::greatest(&net, &s, &t, &mut flow, &mut work), 1);
-        assert!(&rt; !reach(&net, &s, &t, &mut flow, &mut work, &mut side));
-        assert!(&rt; side[0]);
-        assert!(&rt; !side[1..].contains(&true));
-        flow.clear();
-        assert_eq!(&rt; Levels::greatest(&net, &s, &t, &mut flow, &mut work), 1);
-    }
+    assert!(&rt; may_be_terminals(&net, &[1, 100_000], 1));
+    assert_eq!(&rt; net.nodes(), 100_000);
+    let mut flow = FlowTable::new(rt.alloc(), &net).expect(&rt, "memory");
+    let len = work_len(net.nodes(), net.len());
+    let mut work = Vec::from_elem(rt.alloc(), 0u32, len).expect(&rt, "memory");
+    let mut side = Vec::from_elem(rt.alloc(), false, 100_000).expect(&rt, "memory");
+    assert_eq!(&rt; Paths::greatest(&net, &s, &t, &mut flow, &mut work), 1);
+    assert!(&rt; !reach(&net, &s, &t, &mut flow, &mut work, &mut side));
+    assert!(&rt; side[0]);
+    assert!(&rt; !side[1..].contains(&true));
+    flow.clear();
+    assert_eq!(&rt; Levels::greatest(&net, &s, &t, &mut flow, &mut work), 1);
 }
 
 #[test]
 fn a_star(rt: HostRuntime) {
     let mut net = Network::new(rt.alloc(), 200_002);
     for i in 0u32..200_000 {
-        add(&mut net, 1, i + 2, 1);
-        add(&mut net, i + 2, 200_002, 1);
+        assert!(&rt; add(&mut net, 1, i + 2, 1));
+        assert!(&rt; add(&mut net, i + 2, 200_002, 1));
     }
     let net = net;
     let (s, t) = ([1], [200_002]);
-    if may_be_terminals(&net, &[1, 200_002], 1) && net.nodes() == 200_002 {
-        let mut flow = FlowTable::new(rt.alloc(), &net).expect(&rt, "memory");
-        let len = work_len(net.nodes(), net.len());
-        let mut work = Vec::from_elem(rt.alloc(), 0u32, len).expect(&rt, "memory");
-        assert_eq!(&rt;
-            Levels::greatest(&net, &s, &t, &mut flow, &mut work),
-            200_000
-        );
-    }
+    assert!(&rt; may_be_terminals(&net, &[1, 200_002], 1));
+    let mut flow = FlowTable::new(rt.alloc(), &net).expect(&rt, "memory");
+    let len = work_len(net.nodes(), net.len());
+    let mut work = Vec::from_elem(rt.alloc(), 0u32, len).expect(&rt, "memory");
+    assert_eq!(&rt;
+        Levels::greatest(&net, &s, &t, &mut flow, &mut work),
+        200_000
+    );
 }

@@ -19,26 +19,26 @@ phases-init c = record {
 pub phases-preserved : goal.phases-preserved
 phases-preserved c =
     let old = c.phases.invariant in let found = c.find_levels.ensures in let now = c.run_phase-value.ensures in let net = c.args.packed.net.now in
-    let far : IsFar net c.args.s.now c.args.t.now c.find_levels.new.flow.flows c.phases.phases = subst (λ (ys : List ℕ). IsFar net c.args.s.now c.args.t.now ys c.phases.phases) (sym found.flows) old.far in
+    let far : IsFar net c.args.s.now c.args.t.now c.find_levels.new.flow.flows c.phases.phases = subst (λ (ys : List ℕ). IsFar net c.args.s.now c.args.t.now ys c.phases.phases) (sym found.looks.flows) old.far in
     record {
       flow = now.flow;
       far = now.far c.phases.phases far;
       few = now.few c.phases.phases far;
-      never_lowered = omega (arith, old.never_lowered, found.never_lowered, now.never_lowered);
-      steps = omega (arith, old.steps, found.steps, now.steps);
+      never_lowered = omega (arith, old.never_lowered, found.looks.never_lowered, now.never_lowered);
+      steps = omega (arith, old.steps, found.looks.steps, now.steps);
     }
 
 pub returns-clause-greatest : goal.returns-clause-greatest
 returns-clause-greatest c =
     let old = c.phases.invariant in let found = c.find_levels.ensures in
-    (settled c.args.packed.net.now c.args.s.now c.args.t.now c.phases.flow.flows (seen c.find_levels.new.dist) c.phases.value c.nodes-n.ensures.is_net old.flow (found.whole c.phases-test.false) (found.outside c.phases-test.false)).0
+    (settled c.args.packed.net.now c.args.s.now c.args.t.now c.phases.flow.flows (seen c.find_levels.new.dist) c.phases.value c.nodes-n.ensures.is_net old.flow (found.missed c.phases-test.false).whole (found.missed c.phases-test.false).outside).0
 
 pub returns-clause-least : goal.returns-clause-least
 returns-clause-least c =
     let old = c.phases.invariant in let found = c.find_levels.ensures in
-    (settled c.args.packed.net.now c.args.s.now c.args.t.now c.phases.flow.flows (seen c.find_levels.new.dist) c.phases.value c.nodes-n.ensures.is_net old.flow (found.whole c.phases-test.false) (found.outside c.phases-test.false)).1
+    (settled c.args.packed.net.now c.args.s.now c.args.t.now c.phases.flow.flows (seen c.find_levels.new.dist) c.phases.value c.nodes-n.ensures.is_net old.flow (found.missed c.phases-test.false).whole (found.missed c.phases-test.false).outside).1
 
 pub returns-clause-steps : goal.returns-clause-steps
 returns-clause-steps c =
     let old = c.phases.invariant in let found = c.find_levels.ensures in let net = c.args.packed.net.now in
-    run_paid net.nodes (length net.arcs) (net.nodes - 1) c.phases.phases c.args.flow.now.steps c.find_levels.new.flow.steps (omega (arith, old.few)) (omega (arith, c.nodes-n.ensures.is_net.nodes_least)) (omega (arith, old.few)) (omega (arith, old.steps, found.steps))
+    run_paid net.nodes (length net.arcs) (net.nodes - 1) c.phases.phases c.args.flow.now.steps c.find_levels.new.flow.steps (omega (arith, old.few)) (omega (arith, c.nodes-n.ensures.is_net.nodes_least)) (omega (arith, old.few)) (omega (arith, old.steps, found.looks.steps))

@@ -1,28 +1,55 @@
-use Rattle.std.proofs.Common.{get_or-set_same, arith}
-use Rattle.flow_solve.proofs.Queues.{queue_short, queue_room, queue_more, count_more}
+use Rattle.std.proofs.Common.{get_or, set, length, length-set, get_or-set_same, get_or-set_other, ◌≡◌, ℕ, refl, arith}
+use Rattle.flow_solve.proofs.Queues.{queue_short, queue_room, queue_more, count_more, near_more, unseen_other}
 use Rattle.flow_solve.proofs.searching.enter.Goals as goal
 
 pub overflow_add-wanted : goal.overflow_add-wanted
-overflow_add-wanted c = let short = queue_short c.args.dist.now c.args.queue.now c.args.seen.all c.requires.queue in omega (arith, c.requires.few, c.requires.unseen, c.requires.wanted)
+overflow_add-wanted c =
+    let s = c.requires.search in let short = queue_short c.args.dist.now c.args.queue.now c.args.progress.seen s.order in
+    omega (arith, s.few, c.requires.arrival.unseen, s.wanted)
 
-pub bounds-queue-seen : goal.bounds-queue-seen
-bounds-queue-seen c = omega (arith, queue_room c.args.dist.now c.args.queue.now c.args.seen.all c.args.place c.requires.place c.requires.unseen c.requires.queue, c.requires.queue_size)
+pub bounds-queue-progress : goal.bounds-queue-progress
+bounds-queue-progress c =
+    let s = c.requires.search in let a = c.requires.arrival in
+    omega (arith, queue_room c.args.dist.now c.args.queue.now c.args.progress.seen c.args.arrival.place a.place a.unseen s.order, s.queue_size)
 
 pub overflow_add-result : goal.overflow_add-result
-overflow_add-result c = let short = queue_short c.args.dist.now c.args.queue.now c.args.seen.all c.requires.queue in omega (arith, c.requires.few)
+overflow_add-result c =
+    let s = c.requires.search in let short = queue_short c.args.dist.now c.args.queue.now c.args.progress.seen s.order in omega (arith, s.few)
 
-pub returns-clause-queue : goal.returns-clause-queue
-returns-clause-queue c =
-    let short = queue_short c.args.dist.now c.args.queue.now c.args.seen.all c.requires.queue in
-    queue_more c.args.dist.now c.args.queue.now c.args.seen.all c.args.place c.args.level c.requires.place c.requires.queue_size c.requires.level
-    (omega (arith, c.requires.few, c.requires.level)) c.requires.unseen c.requires.near c.requires.queue
+pub returns-clause-search : goal.returns-clause-search
+returns-clause-search c =
+    let s = c.requires.search in let a = c.requires.arrival in
+    let short = queue_short c.args.dist.now c.args.queue.now c.args.progress.seen s.order in
+    let dist' = length-set c.args.dist.now c.args.arrival.place c.args.arrival.level in
+    record {
+      via_size = omega (arith, dist', length-set c.args.via.now c.args.arrival.place c.args.arrival.half, s.via_size);
+      queue_size = omega (arith, dist', length-set c.args.queue.now c.args.progress.seen c.args.arrival.place, s.queue_size);
+      few = omega (arith, dist', s.few);
+      order = queue_more c.args.dist.now c.args.queue.now c.args.progress.seen c.args.arrival.place c.args.arrival.level a.place s.queue_size a.level (omega (arith, s.few, a.level)) a.unseen a.near s.order;
+      wanted = omega (arith, s.wanted, a.unseen);
+    }
 
-pub returns-clause-here : goal.returns-clause-here
-returns-clause-here c =
-    let short = queue_short c.args.dist.now c.args.queue.now c.args.seen.all c.requires.queue in
-    let same = get_or-set_same c.args.dist.now c.args.place c.args.level 0 c.requires.place in omega (arith, c.requires.few, c.requires.level)
+pub returns-clause-grown : goal.returns-clause-grown
+returns-clause-grown c =
+    let s = c.requires.search in let a = c.requires.arrival in
+    let short = queue_short c.args.dist.now c.args.queue.now c.args.progress.seen s.order in
+    record {
+      kept = λ p m.
+          let other = unseen_other c.args.dist.now c.args.arrival.place p a.unseen m in
+          (get_or-set_other c.args.dist.now c.args.arrival.place p c.args.arrival.level 0 other, get_or-set_other c.args.via.now c.args.arrival.place p c.args.arrival.half 0 other);
+      ahead = λ i l. get_or-set_other c.args.queue.now c.args.progress.seen i c.args.arrival.place 0 (omega (arith, l));
+      more = omega arith;
+      count = λ until k. count_more until c.args.dist.now c.args.arrival.place c.args.arrival.level c.args.progress.wanted a.place (omega (arith, s.few, a.level)) a.unseen k;
+    }
 
-pub returns-clause-count : goal.returns-clause-count
-returns-clause-count c until k =
-    let short = queue_short c.args.dist.now c.args.queue.now c.args.seen.all c.requires.queue in
-    count_more until c.args.dist.now c.args.place c.args.level c.args.seen.wanted c.requires.place (omega (arith, c.requires.few, c.requires.level)) c.requires.unseen k
+pub returns-clause-arrived : goal.returns-clause-arrived
+returns-clause-arrived c =
+    let s = c.requires.search in let a = c.requires.arrival in
+    let short = queue_short c.args.dist.now c.args.queue.now c.args.progress.seen s.order in
+    let level = get_or-set_same c.args.dist.now c.args.arrival.place c.args.arrival.level 0 a.place in
+    record {
+      marked = omega (arith, s.few, a.level, level);
+      level = level;
+      half = get_or-set_same c.args.via.now c.args.arrival.place c.args.arrival.half 0 (omega (arith, a.place, s.via_size));
+      near = near_more c.args.dist.now c.args.arrival.place c.args.arrival.level c.args.arrival.level a.place (omega arith) a.near;
+    }

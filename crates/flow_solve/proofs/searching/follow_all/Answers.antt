@@ -1,72 +1,121 @@
-use Rattle.std.proofs.Common.{inl, inr, ap, ◌+◌, ◌≡◌, refl, ◌-◌, ◌≤◌, IsTrue, get_or, subst, sym, ◌∙◌, below_more, arith}
+use Rattle.std.proofs.Common.{ℕ, inl, inr, ap, ◌+◌, ◌≡◌, refl, ◌-◌, ◌≤◌, ◌<◌, IsTrue, get_or, subst, sym, ◌∙◌, below_more, arith}
 use Rattle.flow_net.specs.Flows.{Fits}
 use Rattle.flow_net.specs.Residual.{head_of, residual}
-use Rattle.flow_solve.specs.Searches.{crossed, IsMarked, HoldsMarked}
-use Rattle.flow_solve.proofs.Queues.{grown_on, grown_marked, come_on}
+use Rattle.flow_solve.specs.Searches.{crossed, IsMarked, IsCome}
+use Rattle.flow_solve.proofs.Queues.{queue_short, grown_on, grown_marked, come_on}
 use Rattle.flow_solve.proofs.Crossings.{come_new, closed_step}
+use Rattle.flow_solve.proofs.searching.follow_all.Goals.{in-Some, in_default}
 use Rattle.flow_solve.proofs.searching.follow_all.Goals as goal
+
+pub bounds-queue-progress : goal.bounds-queue-progress
+bounds-queue-progress c =
+    let s = c.requires.search in
+    omega (arith, c.requires.next, queue_short c.args.dist.now c.args.queue.now c.args.progress.seen s.order, s.queue_size)
+
+pub enter-progress-requires-clause-arrival : goal.enter-progress-requires-clause-arrival
+enter-progress-requires-clause-arrival c =
+    let old = c.loop-spot.invariant in let place = get_or c.args.queue.now c.args.progress.followed 0 in
+    let marked = c.requires.search.order.marks c.args.progress.followed c.requires.next in
+    let inside = c.requires.search.order.places c.args.progress.followed c.requires.next in
+    let low = old.search.order.levels place (omega (arith, inside, old.cells, c.requires.cells)) (grown_marked old.grown place marked) in
+    let kept = (old.grown.kept place marked).0 in let to = c.in-Some.ensures.some in let new = c.in-Some.ensures.unseen in
+    record {
+      place = new.0;
+      unseen = new.1;
+      level = omega (arith, low, kept, to.level);
+      near = λ p m. omega (arith, old.near p m, to.level);
+    }
 
 pub loop-spot-preserved : goal.loop-spot-preserved
 loop-spot-preserved c =
-    let old = c.loop-spot.invariant in let now = c.follow-seen.ensures in
-    let net = c.args.packed.net.now in let halves = c.args.packed.halves.now in let flows = c.args.flow.now.flows in let dir = c.args.direction in
-    let dist' = c.follow-seen.new.dist in let via' = c.follow-seen.new.via in
-    let half = get_or halves c.loop-spot.spot 0 in
-    let own = c.requires.packed.holds c.args.place c.loop-spot.spot c.requires.place old.begun c.loop-spot-test.true in
-    let begun = old.begun in
+    let old = c.loop-spot.invariant in let looks = c.arrive.ensures.looks in
+    let net = c.args.plan.packed.net.now in let halves = c.args.plan.packed.halves.now in let flows = c.args.flow.now.flows in let dir = c.args.plan.direction in
+    let place = get_or c.args.queue.now c.args.progress.followed 0 in let half = get_or halves c.loop-spot.spot 0 in
+    let marked = c.requires.search.order.marks c.args.progress.followed c.requires.next in
+    let inside : place < net.nodes = omega (arith, c.requires.search.order.places c.args.progress.followed c.requires.next, c.requires.cells) in
+    let own = c.requires.packed.holds place c.loop-spot.spot inside old.begun c.loop-spot-test.true in
     let room : residual net c.loop-spot.flow.flows (crossed dir half) ≡ residual net flows (crossed dir half) = ap (λ xs. residual net xs (crossed dir half)) old.flows in
-    let here : 1 ≤ residual net flows (crossed dir half) → IsMarked dist' (head_of net half - 1) = λ r. now.here (subst (λ k. 1 ≤ k) (sym room) r) in
-    let all_grown = grown_on c.args.dist.now c.args.via.now c.args.queue.now c.args.seen.all c.loop-spot.dist c.loop-spot.via c.loop-spot.queue c.loop-spot.seen.all dist' via' c.follow-seen.new.queue c.follow-seen.result.all old.grown now.grown in
-    let still : IsMarked dist' c.args.place = grown_marked c.args.dist.now c.args.via.now c.args.queue.now c.args.seen.all dist' via' c.follow-seen.new.queue c.follow-seen.result.all c.args.place all_grown c.requires.marked in
-    let level : get_or dist' c.args.place 0 ≡ get_or c.args.dist.now c.args.place 0 = (all_grown.kept c.args.place c.requires.marked).0 in
+    elim c.match-arrive.branch [
+      | in-Some w ↦
+          let now = w.enter-progress.ensures in let to = w.in-Some.ensures.some in let dist' = w.enter-progress.new.dist in let via' = w.enter-progress.new.via in
+          let there = w.in-Some.arrival.place in
+          let all_grown = grown_on old.grown now.grown in
+          let still : IsMarked dist' place = grown_marked all_grown place marked in
+          let level : get_or dist' place 0 ≡ get_or c.args.dist.now place 0 = (all_grown.kept place marked).0 in
+          let remains : 1 ≤ residual net flows (crossed dir half) = omega (arith, to.remains, room) in
+          let head : there ≡ head_of net half - 1 = omega (arith, to.head) in
+          rw (w.dist-is, w.via-is, w.queue-is, w.progress-is) (record {
+            fits = subst (Fits net) (sym looks.flows) old.fits;
+            flows = looks.flows ∙ old.flows;
+            cells = omega (arith, old.cells);
+            begun = omega (arith, old.begun);
+            here = refl;
+            level = refl;
+            near = λ p m. omega (arith, now.arrived.near p m, to.level);
+            search = now.search;
+            grown = all_grown;
+            followed = now.followed ∙ old.followed;
+            done = below_more (λ p. get_or c.args.plan.packed.first.now place 0 ≤ p → 1 ≤ residual net flows (crossed dir (get_or halves p 0)) → IsMarked dist' (head_of net (get_or halves p 0) - 1)) c.loop-spot.spot
+                (λ p l from r. grown_marked now.grown (head_of net (get_or halves p 0) - 1) (old.done p l from r))
+                (λ from r. subst (IsMarked dist') head now.arrived.marked);
+            come = λ p m. elim (now.come p m) [
+              | inl was ↦ elim (old.come p was) [
+                | inl first ↦ inl first
+                | inr came ↦ inr (come_on net flows dir p now.grown was came)
+              ]
+              | inr new ↦ inr (subst (λ q. IsCome net flows dir dist' via' q) (sym new)
+                  (come_new net flows dir dist' via' there half place c.nodes-place.ensures.is_net own.0 inside own.1 to.head remains still (omega (arith, now.arrived.level, to.level, level)) (now.arrived.half ∙ to.half)))
+            ];
+            next_level = λ p m. elim (now.come p m) [
+              | inl was ↦ elim (old.next_level p was) [
+                | inl first ↦ inl first
+                | inr on ↦ inr ((now.grown.kept p was).0 ∙ on)
+              ]
+              | inr new ↦ inr (ap (λ q. get_or dist' q 0) new ∙ now.arrived.level ∙ to.level)
+            ];
+            only = λ side closed in_side holds p l m. elim (now.come p m) [
+              | inl was ↦ old.only side closed in_side holds p l was
+              | inr new ↦ subst (λ q. IsTrue (side (q + 1))) (sym new)
+                  (subst (λ v. IsTrue (side v)) to.head (closed_step net flows dir side half place c.nodes-place.ensures.is_net own.0 inside own.1 closed in_side remains))
+            ];
+            never_lowered = omega (arith, old.never_lowered, looks.never_lowered);
+            steps = omega (arith, old.steps, looks.steps, old.begun);
+          })
+      | in_default w ↦
+          let none = w.in_default.ensures.none in
+          rw (w.dist-is, w.via-is, w.queue-is, w.progress-is) (record {
+            fits = subst (Fits net) (sym looks.flows) old.fits;
+            flows = looks.flows ∙ old.flows;
+            cells = old.cells;
+            begun = omega (arith, old.begun);
+            here = refl;
+            level = refl;
+            near = old.near;
+            search = old.search;
+            grown = old.grown;
+            followed = old.followed;
+            done = below_more (λ p. get_or c.args.plan.packed.first.now place 0 ≤ p → 1 ≤ residual net flows (crossed dir (get_or halves p 0)) → IsMarked c.loop-spot.dist (head_of net (get_or halves p 0) - 1)) c.loop-spot.spot
+                old.done
+                (λ from r. none (omega (arith, r, room)));
+            come = old.come;
+            next_level = old.next_level;
+            only = old.only;
+            never_lowered = omega (arith, old.never_lowered, looks.never_lowered);
+            steps = omega (arith, old.steps, looks.steps, old.begun);
+          })
+    ]
+
+pub returns-clause-followed : goal.returns-clause-followed
+returns-clause-followed c =
+    let old = c.loop-spot.invariant in let net = c.args.plan.packed.net.now in let place = get_or c.args.queue.now c.args.progress.followed 0 in
+    let inside : place < net.nodes = omega (arith, c.requires.search.order.places c.args.progress.followed c.requires.next, c.requires.cells) in
     record {
-      fits = subst (Fits net) (sym now.flows) old.fits;
-      flows = now.flows ∙ old.flows;
-      cells = now.grown.dist_size ∙ old.cells;
-      via_size = now.grown.via_size ∙ old.via_size ∙ sym now.grown.dist_size;
-      queue_size = now.grown.queue_size ∙ old.queue_size ∙ sym now.grown.dist_size;
-      begun = omega arith;
-      near = now.near;
-      level = refl;
-      queue = now.queue;
-      grown = all_grown;
-      wanted = now.wanted;
-      count = λ until k. now.count until (old.count until k);
-      done = below_more (λ p. get_or c.args.packed.first.now c.args.place 0 ≤ p → 1 ≤ residual net flows (crossed dir (get_or halves p 0)) → IsMarked dist' (head_of net (get_or halves p 0) - 1)) c.loop-spot.spot
-          (λ p l from r. grown_marked c.loop-spot.dist c.loop-spot.via c.loop-spot.queue c.loop-spot.seen.all dist' via' c.follow-seen.new.queue c.follow-seen.result.all (head_of net (get_or halves p 0) - 1) now.grown (old.done p l from r))
-          (λ from. here);
-      come = λ p m. elim (now.come p m) [
-        | inl was ↦ elim (old.come p was) [
-          | inl first ↦ inl first
-          | inr came ↦ inr (come_on net flows dir c.loop-spot.dist c.loop-spot.via c.loop-spot.queue c.loop-spot.seen.all dist' via' c.follow-seen.new.queue c.follow-seen.result.all p now.grown was came)
-        ]
-        | inr new ↦ inr (come_new net flows dir dist' via' p half c.args.place c.nodes-level.ensures.is_net own.0 c.requires.place own.1 new.0 (subst (λ k. 1 ≤ k) room new.1) still (new.2 ∙ sym (ap (λ d. d + 1) level)) new.3)
-      ];
-      next_level = λ p m. elim (now.come p m) [
-        | inl was ↦ elim (old.next_level p was) [
-          | inl first ↦ inl first
-          | inr there ↦ inr ((now.grown.kept p was).0 ∙ there)
-        ]
-        | inr new ↦ inr new.2
-      ];
-      only = λ side closed in_side holds.
-          let before = old.only side closed in_side holds in
-          let leads : 1 ≤ residual net c.loop-spot.flow.flows (crossed dir half) → IsTrue (side (head_of net half)) = λ r.
-          closed_step net flows dir side half c.args.place c.nodes-level.ensures.is_net own.0 c.requires.place own.1 closed in_side (subst (λ k. 1 ≤ k) room r) in
-          subst (λ n. HoldsMarked n dist' side) old.cells (now.only side leads (subst (λ n. HoldsMarked n c.loop-spot.dist side) (sym old.cells) before));
-      never_lowered = omega (arith, old.never_lowered, now.never_lowered);
-      steps = omega (arith, old.steps, now.steps);
+      near = old.near;
+      come = old.come;
+      next_level = old.next_level;
+      done = λ h l e r.
+          let at = c.requires.packed.stands place h inside l e in
+          subst (λ g. IsMarked c.loop-spot.dist (head_of net g - 1)) at.3
+          (old.done at.0 (omega (arith, at.2, c.loop-spot-test.false)) at.1 (subst (λ g. 1 ≤ residual net c.args.flow.now.flows (crossed c.args.plan.direction g)) (sym at.3) r));
+      only = old.only;
     }
-
-pub returns-clause-done : goal.returns-clause-done
-returns-clause-done c = λ h l e r.
-    let at = c.requires.packed.stands c.args.place h c.requires.place l e in
-    let old = c.loop-spot.invariant in let net = c.args.packed.net.now in
-    subst (λ g. IsMarked c.loop-spot.dist (head_of net g - 1)) at.3
-    (old.done at.0 (omega (arith, at.2, c.loop-spot-test.false)) at.1 (subst (λ g. 1 ≤ residual net c.args.flow.now.flows (crossed c.args.direction g)) (sym at.3) r))
-
-pub returns-clause-next_level : goal.returns-clause-next_level
-returns-clause-next_level c = λ p m. elim (c.loop-spot.invariant.next_level p m) [
-  | inl was ↦ inl was
-  | inr there ↦ inr (there ∙ c.loop-spot.invariant.level)
-]

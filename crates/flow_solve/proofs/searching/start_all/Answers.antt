@@ -8,35 +8,37 @@ use Rattle.flow_solve.proofs.searching.start_all.Goals as goal
 pub loop-node-init : goal.loop-node-init
 loop-node-init c = record {
   cells = refl;
-  via_size = c.requires.via_size;
-  queue_size = c.requires.queue_size;
-  queue = queue_none c.args.dist.now c.args.queue.now c.requires.unseen;
+  search = record {
+    via_size = c.requires.via_size;
+    queue_size = c.requires.queue_size;
+    few = c.requires.few;
+    order = queue_none c.args.dist.now c.args.queue.now c.requires.unseen;
+    wanted = omega arith;
+  };
   near = near_none c.args.dist.now c.requires.unseen;
   begun = λ i l. absurd (omega arith);
   come = λ p l m. absurd (omega (arith, c.requires.unseen p l));
   count = λ until k. k;
-  wanted = omega arith;
+  followed = refl;
 }
 
 pub loop-node-preserved : goal.loop-node-preserved
 loop-node-preserved c =
-    let old = c.loop-node.invariant in let now = c.start-seen.ensures in let starts = c.args.starts.now in
+    let old = c.loop-node.invariant in let now = c.start-progress.ensures in let starts = c.args.starts.now in
     let l : c.loop-node.node-index < length starts = omega arith in
     record {
-      cells = now.grown.dist_size ∙ old.cells;
-      via_size = now.grown.via_size ∙ old.via_size ∙ sym now.grown.dist_size;
-      queue_size = now.grown.queue_size ∙ old.queue_size ∙ sym now.grown.dist_size;
-      queue = now.queue;
+      cells = omega (arith, old.cells);
+      search = now.search;
       near = now.near;
-      begun = below_more (λ i. IsMarked c.start-seen.new.dist (get_or starts i 0 - 1)) c.loop-node.node-index
-          (λ i m. grown_marked c.loop-node.dist c.loop-node.via c.loop-node.queue c.loop-node.seen.all c.start-seen.new.dist c.start-seen.new.via c.start-seen.new.queue c.start-seen.result.all (get_or starts i 0 - 1) now.grown (old.begun i m))
+      begun = below_more (λ i. IsMarked c.start-progress.new.dist (get_or starts i 0 - 1)) c.loop-node.node-index
+          (λ i m. grown_marked now.grown (get_or starts i 0 - 1) (old.begun i m))
           now.here;
       come = λ p inside m. elim (now.come p m) [
         | inl was ↦ old.come p inside was
         | inr new ↦ subst (λ v. IsTrue (one_of starts v)) (sym new) (one_of-at starts c.loop-node.node-index l)
       ];
-      count = λ until k. now.count until (old.count until k);
-      wanted = now.wanted;
+      count = λ until k. now.grown.count until (old.count until k);
+      followed = now.followed ∙ old.followed;
     }
 
 pub returns-clause-begun : goal.returns-clause-begun

@@ -13,7 +13,7 @@ use Rattle.flow_net.specs.Paths.{IsPath, HasRoom, IsApart, push_all}
 use Rattle.flow_net.proofs.AugmentingPaths.{augmented}
 use Rattle.flow_net.proofs.Zips.{head_is_node, tail_is_node}
 use Rattle.flow_solve.specs.Packs.{IsPacked}
-use Rattle.flow_solve.specs.Levels.{cell_of, place_of, left, any, is_open, HasMoved, IsAdmissible, IsDead, IsBlocked, AreWithin, IsInPhase, AreSinks, IsOrdered, IsGentle, Descends}
+use Rattle.flow_solve.specs.Levels.{cell_of, place_of, left, any, is_open, HasMoved, IsAdmissible, IsDead, IsBlocked, AreWithin, IsInPhase, AreSinks, IsOrdered, IsGentle, Descends, IsLooked, IsFilling}
 use Rattle.flow_solve.proofs.Falls.{left_on, left_filled, pass_any, pass_open, unpassed, unpassed_on, unpassed_past, has_room, no_room}
 use Rattle.flow_solve.proofs.Places.{cell_at, standing, one_place, falls_apart}
 use Rattle.flow_solve.proofs.Descents.{path_length, path_above, descends_apart, rooms_less, rooms_at, path_take, path_more, all_take, all_at, all_made, all_whole, all_more, halves_at, path_end, take_nil, take_take, no_loops_descended}
@@ -71,24 +71,17 @@ walk_on net rank place now next xs u x hs o w = record {
 
 -- ---- an admissible half-arc was found
 
--- what the look-out leaves
-pub record IsLooked (net : Net) (t first halves rank now next xs : List ℕ) (x : ℕ) : Type 0 where
-  pub size : length next ≡ net.nodes
-  pub places : AreWithin net first (cell_of next)
-  pub moved : HasMoved (cell_of now) (cell_of next) x
-  pub blocked : IsBlocked net (one_of t) (cell_of rank) (place_of halves) (cell_of now) xs → IsBlocked net (one_of t) (cell_of rank) (place_of halves) (cell_of next) xs
-
-pub looked_phase : (net : Net) (s t first halves rank now next xs : List ℕ) (x k : ℕ) → IsLooked net t first halves rank now next xs x → IsInPhase net s t first halves rank now xs k → IsInPhase net s t first halves rank next xs k
+pub looked_phase : (net : Net) (s t first halves rank now next xs : List ℕ) (x k : ℕ) → IsLooked net first halves rank now next xs x → IsInPhase net s t first halves rank now xs k → IsInPhase net s t first halves rank next xs k
 looked_phase net s t first halves rank now next xs x k l p = record {
   feasible = p.feasible;
   value = p.value;
   no_loops = p.no_loops;
   size = l.size;
   places = l.places;
-  blocked = l.blocked p.blocked;
+  blocked = l.blocked (one_of t) p.blocked;
 }
 
-pub turning_advance : (net : Net) (s t first halves rank current current' path xs : List ℕ) (u x d k total steps steps' h : ℕ) → IsNet net → cell_of rank u < net.nodes → IsTurning net s t first halves rank current path xs u x d k total steps → IsLooked net t first halves rank current current' xs x → IsAdmissible net (cell_of rank) (place_of halves) (cell_of current') xs x h → steps' + left net (cell_of rank) (place_of halves) (cell_of current') any ≤ steps + left net (cell_of rank) (place_of halves) (cell_of current) any + 1 → IsTurning net s t first halves rank current' (set path d h) xs u (head_of net h) (d + 1) k total steps'
+pub turning_advance : (net : Net) (s t first halves rank current current' path xs : List ℕ) (u x d k total steps steps' h : ℕ) → IsNet net → cell_of rank u < net.nodes → IsTurning net s t first halves rank current path xs u x d k total steps → IsLooked net first halves rank current current' xs x → IsAdmissible net (cell_of rank) (place_of halves) (cell_of current') xs x h → steps' + left net (cell_of rank) (place_of halves) (cell_of current') any ≤ steps + left net (cell_of rank) (place_of halves) (cell_of current) any + 1 → IsTurning net s t first halves rank current' (set path d h) xs u (head_of net h) (d + 1) k total steps'
 turning_advance net s t first halves rank current current' path xs u x d k total steps steps' h n low w l a cost =
     let up = moved_up (cell_of current) (cell_of current') x l.moved in
     let more = take_more_set path d h (omega (arith, w.short, w.path_size)) in
@@ -156,7 +149,7 @@ back_to net rank place current path xs u x d i l m w =
     subst (λ hs. IsWalk net rank place current xs u (tail_of net (slice_index path i)) hs) (take_take i d path (omega arith))
     (subst (λ h. IsWalk net rank place current xs u (tail_of net h) (take i (take d path))) lead back)
 
-pub turning_retreat : (net : Net) (s t first halves rank current current' path xs : List ℕ) (u x d k total steps steps' i : ℕ) → d ≡ i + 1 → IsNet net → IsPacked net first halves → one_of t x ≡ false → IsTurning net s t first halves rank current path xs u x d k total steps → IsLooked net t first halves rank current current' xs x → cell_of current' x ≡ slice_index first x → steps' + left net (cell_of rank) (place_of halves) (cell_of current') any ≤ steps + left net (cell_of rank) (place_of halves) (cell_of current) any → IsTurning net s t first halves rank (set current' (tail_of net (slice_index path i) - 1) (cell_of current' (tail_of net (slice_index path i)) + 1)) path xs u (tail_of net (slice_index path i)) i k total steps'
+pub turning_retreat : (net : Net) (s t first halves rank current current' path xs : List ℕ) (u x d k total steps steps' i : ℕ) → d ≡ i + 1 → IsNet net → IsPacked net first halves → one_of t x ≡ false → IsTurning net s t first halves rank current path xs u x d k total steps → IsLooked net first halves rank current current' xs x → cell_of current' x ≡ slice_index first x → steps' + left net (cell_of rank) (place_of halves) (cell_of current') any ≤ steps + left net (cell_of rank) (place_of halves) (cell_of current) any → IsTurning net s t first halves rank (set current' (tail_of net (slice_index path i) - 1) (cell_of current' (tail_of net (slice_index path i)) + 1)) path xs u (tail_of net (slice_index path i)) i k total steps'
 turning_retreat net s t first halves rank current current' path xs u x d k total steps steps' i e n pk inner w l end cost =
     let h = slice_index path i in
     let m : d ≤ length path = omega (arith, w.short, w.path_size) in
@@ -238,13 +231,6 @@ augment_fills net rank place current xs u x hs b e size l q w =
       | inr n ↦ has_room net xs h (omega (arith, n))
     ]
 
--- what an augmentation tells of its path
-pub record IsFilling (net : Net) (xs hs : List ℕ) (e b : ℕ) : Type 0 where
-  pub place : e < length hs
-  pub amount : b ≡ residual net xs (slice_index hs e)
-  pub least : (i : ℕ) → i < length hs → b ≤ residual net xs (slice_index hs i)
-  pub first : (i : ℕ) → i < e → b < residual net xs (slice_index hs i)
-
 augment_blocked : (net : Net) (t : ℕ → Bool) (rank place current : ℕ → ℕ) (xs : List ℕ) (u x : ℕ) (hs : List ℕ) (b : ℕ) → length xs ≡ length net.arcs → IsWalk net rank place current xs u x hs → IsBlocked net t rank place current xs → IsBlocked net t rank place current (push_all xs hs b)
 augment_blocked net t rank place current xs u x hs b size w blocked g l p f = elim (blocked g l p f) [
   | inl z ↦ inl (omega (arith, z, rooms_less net rank xs u x hs b g size w.path w.descends f))
@@ -316,7 +302,7 @@ to_go_longer net halves rank current current' xs x d m s =
     plus : (a b y z : ℕ) → a ≤ b → y ≤ z → a + y ≤ b + z
     plus a b y z l k = omega arith
 
-pub to_go_pass : (net : Net) (s t first halves rank current current' path xs : List ℕ) (u x d k total steps i : ℕ) → d ≡ i + 1 → IsNet net → IsTurning net s t first halves rank current path xs u x d k total steps → IsLooked net t first halves rank current current' xs x → to_go net halves rank (set current' (tail_of net (slice_index path i) - 1) (cell_of current' (tail_of net (slice_index path i)) + 1)) xs i < to_go net halves rank current xs d
+pub to_go_pass : (net : Net) (s t first halves rank current current' path xs : List ℕ) (u x d k total steps i : ℕ) → d ≡ i + 1 → IsNet net → IsTurning net s t first halves rank current path xs u x d k total steps → IsLooked net first halves rank current current' xs x → to_go net halves rank (set current' (tail_of net (slice_index path i) - 1) (cell_of current' (tail_of net (slice_index path i)) + 1)) xs i < to_go net halves rank current xs d
 to_go_pass net s t first halves rank current current' path xs u x d k total steps i e n w l =
     let h = slice_index path i in
     let w1 = walk_on net (cell_of rank) (place_of halves) (cell_of current) (cell_of current') xs u x (take d path) l.moved.there w.walk in
@@ -352,7 +338,7 @@ no_sink_here net t dist x a i n = elim (cases_Bool (one_of t x)) [
 ]
 
 -- the walk's end
-pub turning_end : (net : Net) (s t first halves rank current current' path xs : List ℕ) (u x d k total steps steps' : ℕ) → d ≡ 0 → IsTurning net s t first halves rank current path xs u x d k total steps → IsLooked net t first halves rank current current' xs x → steps' + left net (cell_of rank) (place_of halves) (cell_of current') any ≤ steps + left net (cell_of rank) (place_of halves) (cell_of current) any → steps' + (3 * (net.nodes - 1) * left net (cell_of rank) (place_of halves) (cell_of current') (is_open net xs) + left net (cell_of rank) (place_of halves) (cell_of current') any) ≤ total
+pub turning_end : (net : Net) (s t first halves rank current current' path xs : List ℕ) (u x d k total steps steps' : ℕ) → d ≡ 0 → IsTurning net s t first halves rank current path xs u x d k total steps → IsLooked net first halves rank current current' xs x → steps' + left net (cell_of rank) (place_of halves) (cell_of current') any ≤ steps + left net (cell_of rank) (place_of halves) (cell_of current) any → steps' + (3 * (net.nodes - 1) * left net (cell_of rank) (place_of halves) (cell_of current') (is_open net xs) + left net (cell_of rank) (place_of halves) (cell_of current') any) ≤ total
 turning_end net s t first halves rank current current' path xs u x d k total steps steps' e w l cost =
     let live = left_on net (cell_of rank) (place_of halves) (cell_of current) (cell_of current') (is_open net xs) (moved_up (cell_of current) (cell_of current') x l.moved) in
     let m = mul-le-mul_left (3 * (net.nodes - 1)) live in

@@ -1,5 +1,5 @@
 -- How many cells the methods work in, and bounds on their steps.
-use Rattle.std.specs.Prelude.{ℕ, ◌+◌, ◌*◌, length, sum_by}
+use Rattle.std.specs.Prelude.{ℕ, ◌+◌, ◌-◌, ◌*◌, length, sum_by}
 use Rattle.flow_net.specs.Nets.{Net}
 
 -- how many cells a solver works in
@@ -13,6 +13,10 @@ capacities net = sum_by (λ a. a.cap) net.arcs
 -- how many steps the method by paths takes at most
 abbrev pub paths_bound : Net → ℕ
 paths_bound net = 4 * (capacities net + 1) * net.nodes * length net.arcs
+
+-- how many steps a phase takes at most, without its search
+abbrev pub phase_bound : Net → ℕ
+phase_bound net = 3 * (net.nodes - 1) * length net.arcs + length net.arcs
 
 -- how many steps the phases of the method by levels take at most, whatever feasible flow they start from
 abbrev pub phases_bound : Net → ℕ

@@ -1,11 +1,14 @@
 -- The method by levels (Dinitz 1970): the ranks that a search gives, places that only move on, and what a phase leaves.
 use Rattle.std.specs.Prelude.{◌≡◌, ◌≢◌, ℕ, zero, suc, ◌+◌, ◌-◌, ◌*◌, ◌≤◌, ◌<◌, ◌==◌, ◌⊎◌, ◌&&◌, nat_lt, Bool, true, false, not, IsTrue, IsFalse, List, [], ◌∷◌, length, slice_index, if◌then◌else◌}
 use Rattle.std.specs.List.{AllByRecursion}
-use Rattle.flow_net.specs.Nets.{Net, IsNode}
+use Rattle.flow_net.specs.Nets.{Net, IsNode, AreTerminals}
 use Rattle.flow_net.specs.NodeSets.{one_of}
 use Rattle.flow_net.specs.Flows.{IsFeasible, HasValue, HasNoLoops}
 use Rattle.flow_net.specs.Residual.{tail_of, head_of, residual}
+use Rattle.flow_solve.specs.declared.packing.Packed.{Packed}
 use Rattle.flow_solve.specs.declared.searching.Direction.TheVariants.{Backwards}
+use Rattle.flow_solve.specs.declared.walking.Phase.{Phase}
+use Rattle.flow_solve.specs.Packs.{IsPacked}
 use Rattle.flow_solve.specs.Searches.{seen, IsSearched}
 
 -- the cell of a node; 0 for no node
@@ -67,6 +70,25 @@ pub record HasMoved (now next : ℕ → ℕ) (x : ℕ) : Type 0 where
   pub up : now x ≤ next x
   pub there : (v : ℕ) → v ≢ x → next v ≡ now v
 
+-- the current places: a cell for each node, and each within the node's half-arcs or behind them
+pub record IsCurrent (net : Net) (first current : List ℕ) : Type 0 where
+  pub size : length current ≡ net.nodes
+  pub places : AreWithin net first (cell_of current)
+
+-- what a look for an admissible half-arc of a node does to the current places
+pub record IsLooked (net : Net) (first halves rank now next xs : List ℕ) (x : ℕ) : Type 0 where
+  pub size : length next ≡ net.nodes
+  pub places : AreWithin net first (cell_of next)
+  pub moved : HasMoved (cell_of now) (cell_of next) x
+  pub blocked : (t : ℕ → Bool) → IsBlocked net t (cell_of rank) (place_of halves) (cell_of now) xs → IsBlocked net t (cell_of rank) (place_of halves) (cell_of next) xs
+
+-- of the half-arcs of a path, the e-th is the first on which the least remains, and that is b
+pub record IsFilling (net : Net) (xs hs : List ℕ) (e b : ℕ) : Type 0 where
+  pub place : e < length hs
+  pub amount : b ≡ residual net xs (slice_index hs e)
+  pub least : (i : ℕ) → i < length hs → b ≤ residual net xs (slice_index hs i)
+  pub first : (i : ℕ) → i < e → b < residual net xs (slice_index hs i)
+
 -- the half-arc at a node's current place leads to a lower rank, and something remains on it
 pub record IsAdmissible (net : Net) (rank place current : ℕ → ℕ) (xs : List ℕ) (v h : ℕ) : Type 0 where
   pub half : h < 2 * length net.arcs
@@ -113,6 +135,14 @@ pub record AreLevels (net : Net) (s t xs dist rank : List ℕ) : Type 0 where
   pub ranked : (v : ℕ) → IsTrue (seen dist v) → cell_of rank v < net.nodes
   pub levels : (level : ℕ → ℕ) × IsLevelled net s t xs dist rank level
 
+-- what the walks of a phase go by: terminals, packed half-arcs, and a distance and a rank for each node
+pub record IsPhase (phase : Phase) : Type 0 where
+  pub terminals : AreTerminals phase.packed.net.now phase.s.now phase.t.now
+  pub packed : IsPacked phase.packed.net.now phase.packed.first.now phase.packed.halves.now
+  pub dist_size : length phase.dist.now ≡ phase.packed.net.now.nodes
+  pub rank_size : length phase.rank.now ≡ phase.packed.net.now.nodes
+  pub sinks : AreSinks phase.packed.net.now phase.t.now phase.dist.now
+
 -- after j phases: whatever a search backwards finds, it sees a source only at a distance above j
 abbrev pub IsFar : Net → List ℕ → List ℕ → List ℕ → ℕ → Type 0
 IsFar net s t xs j = (dist via : List ℕ) → IsSearched net xs Backwards t dist via → (v : ℕ) → IsTrue (one_of s v) → IsTrue (seen dist v) → j + 1 ≤ cell_of dist v
@@ -120,3 +150,33 @@ IsFar net s t xs j = (dist via : List ℕ) → IsSearched net xs Backwards t dis
 -- the ranks fall along a list of half-arcs
 abbrev pub Descends : Net → (ℕ → ℕ) → List ℕ → Type 0
 Descends net rank hs = AllByRecursion (λ h. rank (head_of net h) < rank (tail_of net h)) hs
+
+-- the same words, of a phase and of packed half-arcs as the code has them
+abbrev pub IsAt : Phase → List ℕ → List ℕ → ℕ → Type 0
+IsAt phase current xs k =
+    IsInPhase phase.packed.net.now phase.s.now phase.t.now phase.packed.first.now phase.packed.halves.now phase.rank.now current xs k
+
+abbrev pub owes : Phase → List ℕ → List ℕ → ℕ
+owes phase current xs = owed phase.packed.net.now phase.packed.halves.now phase.rank.now current xs
+
+abbrev pub IsDeadIn : Phase → List ℕ → ℕ → Type 0
+IsDeadIn phase current v = IsDead phase.packed.net.now (one_of phase.t.now) (place_of phase.packed.halves.now) (cell_of current) v
+
+abbrev pub KeepsGentle : Phase → List ℕ → List ℕ → Type 0
+KeepsGentle phase xs ys =
+    (level : ℕ → ℕ) → IsOrdered phase.packed.net.now level (cell_of phase.rank.now) → IsGentle phase.packed.net.now xs level → IsGentle phase.packed.net.now ys level
+
+abbrev pub AreLevelsOf : Phase → List ℕ → Type 0
+AreLevelsOf phase xs = AreLevels phase.packed.net.now phase.s.now phase.t.now xs phase.dist.now phase.rank.now
+
+abbrev pub IsFarIn : Phase → List ℕ → ℕ → Type 0
+IsFarIn phase xs j = IsFar phase.packed.net.now phase.s.now phase.t.now xs j
+
+abbrev pub HasLooked : Packed → List ℕ → List ℕ → List ℕ → List ℕ → ℕ → Type 0
+HasLooked packed rank now next xs v = IsLooked packed.net.now packed.first.now packed.halves.now rank now next xs v
+
+abbrev pub IsNext : Packed → List ℕ → List ℕ → List ℕ → ℕ → ℕ → Type 0
+IsNext packed rank current xs v h = IsAdmissible packed.net.now (cell_of rank) (place_of packed.halves.now) (cell_of current) xs v h
+
+abbrev pub left_in : Packed → List ℕ → List ℕ → ℕ
+left_in packed rank current = left packed.net.now (cell_of rank) (place_of packed.halves.now) (cell_of current) any

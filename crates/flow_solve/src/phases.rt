@@ -5,12 +5,12 @@ ghost use Rattle.flow_net.specs.Nets.{Net, IsNode, AreTerminals};
 ghost use Rattle.flow_net.specs.NodeSets.{one_of};
 ghost use Rattle.flow_net.specs.Flows.{Fits, IsGreatest};
 ghost use Rattle.flow_net.specs.Cuts.{IsLeastCapacity};
-ghost use Rattle.flow_solve.specs.Bounds.{phases_bound};
+ghost use Rattle.flow_solve.specs.Bounds.{phase_bound, phases_bound};
 ghost use Rattle.flow_solve.specs.Packs.{IsPacked};
 ghost use Rattle.flow_solve.specs.Raising.{IsFlow};
 ghost use Rattle.flow_solve.specs.Searches.{seen, AreCells, Misses};
 ghost use Rattle.flow_solve.specs.Steps.{OnlyLooks, TakesSteps};
-ghost use Rattle.flow_solve.specs.Levels.{cell_of, place_of, owed, IsDead, IsInPhase, AreSinks, IsOrdered, IsGentle, AreLevels, IsFar};
+ghost use Rattle.flow_solve.specs.Levels.{cell_of, AreLevels, AreLevelsOf, IsAt, IsDeadIn, IsFarIn, IsPhase, KeepsGentle, owes};
 
 use crate::packing::Packed;
 use crate::searching::{Direction, FAR, Plan, WANTED, search};
@@ -74,20 +74,15 @@ fn walk_all(
     path: &mut [u32],
     value: u128,
 ) -> u128
-    requires terminals { AreTerminals phase.packed.net.now phase.s.now phase.t.now }
-    requires packed { IsPacked phase.packed.net.now phase.packed.first.now phase.packed.halves.now }
-    requires dist_size { length phase.dist.now ≡ phase.packed.net.now.nodes }
-    requires rank_size { length phase.rank.now ≡ phase.packed.net.now.nodes }
+    requires run { IsPhase phase }
     requires path_size { length path.old ≡ phase.packed.net.now.nodes }
-    requires sinks { AreSinks phase.packed.net.now phase.t.now phase.dist.now }
     requires ranked { (v : ℕ) → IsTrue (seen phase.dist.now v) → cell_of phase.rank.now v < phase.packed.net.now.nodes }
-    requires phase { IsInPhase phase.packed.net.now phase.s.now phase.t.now phase.packed.first.now phase.packed.halves.now phase.rank.now current.old flow.old.flows value }
-    ensures path_size { length path.new ≡ phase.entry.packed.net.now.nodes }
-    ensures phase { IsInPhase phase.entry.packed.net.now phase.entry.s.now phase.entry.t.now phase.entry.packed.first.now phase.entry.packed.halves.now phase.entry.rank.now current.new flow.new.flows result }
-    ensures dead { (v : ℕ) → IsTrue (one_of phase.entry.s.now v) → IsTrue (seen phase.entry.dist.now v) → IsDead phase.entry.packed.net.now (one_of phase.entry.t.now) (place_of phase.entry.packed.halves.now) (cell_of current.new) v }
-    ensures gentle { (level : ℕ → ℕ) → IsOrdered phase.entry.packed.net.now level (cell_of phase.entry.rank.now) → IsGentle phase.entry.packed.net.now flow.old.flows level → IsGentle phase.entry.packed.net.now flow.new.flows level }
+    requires phase { IsAt phase current.old flow.old.flows value }
+    ensures phase { IsAt phase.entry current.new flow.new.flows result }
+    ensures dead { (v : ℕ) → IsTrue (one_of phase.entry.s.now v) → IsTrue (seen phase.entry.dist.now v) → IsDeadIn phase.entry current.new v }
+    ensures gentle { KeepsGentle phase.entry flow.old.flows flow.new.flows }
     ensures never_lowered { flow.old.steps ≤ flow.new.steps }
-    ensures steps { flow.new.steps + owed phase.entry.packed.net.now phase.entry.packed.halves.now phase.entry.rank.now current.new flow.new.flows ≤ flow.old.steps + owed phase.entry.packed.net.now phase.entry.packed.halves.now phase.entry.rank.now current.old flow.old.flows }
+    ensures steps { flow.new.steps + owes phase.entry current.new flow.new.flows ≤ flow.old.steps + owes phase.entry current.old flow.old.flows }
 {
     let mut raised = value;
     for source in phase.s {
@@ -106,21 +101,16 @@ fn run_phase(
     path: &mut [u32],
     value: u128,
 ) -> u128
-    requires terminals { AreTerminals phase.packed.net.now phase.s.now phase.t.now }
-    requires packed { IsPacked phase.packed.net.now phase.packed.first.now phase.packed.halves.now }
-    requires dist_size { length phase.dist.now ≡ phase.packed.net.now.nodes }
-    requires rank_size { length phase.rank.now ≡ phase.packed.net.now.nodes }
+    requires run { IsPhase phase }
     requires size { length current.old ≡ phase.packed.net.now.nodes }
     requires path_size { length path.old ≡ phase.packed.net.now.nodes }
-    requires levels { AreLevels phase.packed.net.now phase.s.now phase.t.now flow.old.flows phase.dist.now phase.rank.now }
+    requires levels { AreLevelsOf phase flow.old.flows }
     requires flow { IsFlow phase.packed.net.now phase.s.now phase.t.now flow.old.flows value }
-    ensures size { length current.new ≡ phase.entry.packed.net.now.nodes }
-    ensures path_size { length path.new ≡ phase.entry.packed.net.now.nodes }
     ensures flow { IsFlow phase.entry.packed.net.now phase.entry.s.now phase.entry.t.now flow.new.flows result }
-    ensures few { (j : ℕ) → IsFar phase.entry.packed.net.now phase.entry.s.now phase.entry.t.now flow.old.flows j → j + 1 < phase.entry.packed.net.now.nodes }
-    ensures far { (j : ℕ) → IsFar phase.entry.packed.net.now phase.entry.s.now phase.entry.t.now flow.old.flows j → IsFar phase.entry.packed.net.now phase.entry.s.now phase.entry.t.now flow.new.flows (j + 1) }
+    ensures few { (j : ℕ) → IsFarIn phase.entry flow.old.flows j → j + 1 < phase.entry.packed.net.now.nodes }
+    ensures far { (j : ℕ) → IsFarIn phase.entry flow.old.flows j → IsFarIn phase.entry flow.new.flows (j + 1) }
     ensures never_lowered { flow.old.steps ≤ flow.new.steps }
-    ensures steps { flow.new.steps ≤ flow.old.steps + 3 * (phase.entry.packed.net.now.nodes - 1) * length phase.entry.packed.net.now.arcs + length phase.entry.packed.net.now.arcs }
+    ensures steps { flow.new.steps ≤ flow.old.steps + phase_bound phase.entry.packed.net.now }
 {
     let n = phase.packed.net.nodes() as usize;
     current.copy_from_slice(&phase.packed.first[..n]);

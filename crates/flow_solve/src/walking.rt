@@ -7,7 +7,7 @@ ghost use Rattle.flow_net.specs.Flows.{Fits};
 ghost use Rattle.flow_net.specs.Residual.{tail_of, head_of, residual};
 ghost use Rattle.flow_net.specs.Paths.{IsApart, push_all};
 ghost use Rattle.flow_solve.specs.Packs.{IsPacked};
-ghost use Rattle.flow_solve.specs.Levels.{cell_of, place_of, left, any, owed, HasMoved, IsAdmissible, IsDead, IsBlocked, AreWithin, IsInPhase, AreSinks, IsOrdered, IsGentle};
+ghost use Rattle.flow_solve.specs.Levels.{cell_of, HasLooked, IsAt, IsCurrent, IsDeadIn, IsFilling, IsNext, IsPhase, KeepsGentle, left_in, owes};
 
 use crate::packing::Packed;
 use crate::searching::head;
@@ -29,10 +29,7 @@ fn least_on(net: &Network, flow: &mut FlowTable, path: &[u32]) -> (u32, u64)
     requires some { 1 ≤ length path.now }
     requires few { length path.now ≤ net.now.nodes }
     requires halves { All (λ h. h < 2 * length net.now.arcs) path.now }
-    ensures place { result.0 < length path.now }
-    ensures amount { result.1 ≡ residual net.now flow.old.flows (slice_index path.now result.0) }
-    ensures least { (i : ℕ) → i < length path.now → result.1 ≤ residual net.now flow.old.flows (slice_index path.now i) }
-    ensures first { (i : ℕ) → i < result.0 → result.1 < residual net.now flow.old.flows (slice_index path.now i) }
+    ensures filling { IsFilling net.now flow.old.flows path.now result.0 result.1 }
     ensures flows { flow.new.flows ≡ flow.old.flows }
     ensures steps { flow.new.steps ≡ flow.old.steps + length path.now }
 {
@@ -82,13 +79,10 @@ fn augment(net: &Network, flow: &mut FlowTable, path: &[u32]) -> Augmentation
     requires few { length path.now ≤ net.now.nodes }
     requires halves { All (λ h. h < 2 * length net.now.arcs) path.now }
     requires apart { IsApart path.now }
-    ensures on_path { result.depth < length path.now }
+    ensures filling { IsFilling net.now flow.old.flows path.now result.depth result.amount }
     ensures filled { residual net.now flow.new.flows (slice_index path.now result.depth) ≡ 0 }
     ensures open_before { (i : ℕ) → i < result.depth → 0 < residual net.now flow.new.flows (slice_index path.now i) }
     ensures tail { result.node ≡ tail_of net.now (slice_index path.now result.depth) }
-    ensures amount { result.amount ≡ residual net.now flow.old.flows (slice_index path.now result.depth) }
-    ensures least { (i : ℕ) → i < length path.now → result.amount ≤ residual net.now flow.old.flows (slice_index path.now i) }
-    ensures first { (i : ℕ) → i < result.depth → result.amount < residual net.now flow.old.flows (slice_index path.now i) }
     ensures flows { flow.new.flows ≡ push_all flow.old.flows path.now result.amount }
     ensures steps { flow.new.steps ≡ flow.old.steps + 2 * length path.now }
 {
@@ -113,19 +107,15 @@ fn admissible(
     requires fits { Fits packed.net.now flow.old.flows }
     requires packed { IsPacked packed.net.now packed.first.now packed.halves.now }
     requires rank_size { length rank.now ≡ packed.net.now.nodes }
-    requires size { length current.old ≡ packed.net.now.nodes }
-    requires places { AreWithin packed.net.now packed.first.now (cell_of current.old) }
+    requires current { IsCurrent packed.net.now packed.first.now current.old }
     requires node { IsNode packed.net.now node }
-    ensures size { length current.new ≡ packed.entry.net.now.nodes }
-    ensures places { AreWithin packed.entry.net.now packed.entry.first.now (cell_of current.new) }
-    ensures moved { HasMoved (cell_of current.old) (cell_of current.new) node }
-    ensures blocked { (t : ℕ → Bool) → IsBlocked packed.entry.net.now t (cell_of rank.now) (place_of packed.entry.halves.now) (cell_of current.old) flow.old.flows → IsBlocked packed.entry.net.now t (cell_of rank.now) (place_of packed.entry.halves.now) (cell_of current.new) flow.old.flows }
-    ensures some { IfSome result (λ h. IsAdmissible packed.entry.net.now (cell_of rank.now) (place_of packed.entry.halves.now) (cell_of current.new) flow.old.flows node h) }
+    ensures looked { HasLooked packed.entry rank.now current.old current.new flow.old.flows node }
+    ensures some { IfSome result (λ h. IsNext packed.entry rank.now current.new flow.old.flows node h) }
     ensures none { IfNone result (cell_of current.new node ≡ slice_index packed.entry.first.now node) }
     ensures flows { flow.new.flows ≡ flow.old.flows }
     ensures never_lowered { flow.old.steps ≤ flow.new.steps }
-    ensures steps_some { IfSome result (λ h. flow.new.steps + left packed.entry.net.now (cell_of rank.now) (place_of packed.entry.halves.now) (cell_of current.new) any ≤ flow.old.steps + left packed.entry.net.now (cell_of rank.now) (place_of packed.entry.halves.now) (cell_of current.old) any + 1) }
-    ensures steps_none { IfNone result (flow.new.steps + left packed.entry.net.now (cell_of rank.now) (place_of packed.entry.halves.now) (cell_of current.new) any ≤ flow.old.steps + left packed.entry.net.now (cell_of rank.now) (place_of packed.entry.halves.now) (cell_of current.old) any) }
+    ensures steps_some { IfSome result (λ h. flow.new.steps + left_in packed.entry rank.now current.new ≤ flow.old.steps + left_in packed.entry rank.now current.old + 1) }
+    ensures steps_none { IfNone result (flow.new.steps + left_in packed.entry rank.now current.new ≤ flow.old.steps + left_in packed.entry rank.now current.old) }
 {
     let _ = packed.net.nodes();
     let end = packed.first[node as usize];
@@ -171,23 +161,18 @@ pub(crate) fn walk(
     source: u32,
     value: u128,
 ) -> u128
-    requires terminals { AreTerminals phase.packed.net.now phase.s.now phase.t.now }
-    requires packed { IsPacked phase.packed.net.now phase.packed.first.now phase.packed.halves.now }
-    requires dist_size { length phase.dist.now ≡ phase.packed.net.now.nodes }
-    requires rank_size { length phase.rank.now ≡ phase.packed.net.now.nodes }
+    requires run { IsPhase phase }
     requires path_size { length path.old ≡ phase.packed.net.now.nodes }
-    requires sinks { AreSinks phase.packed.net.now phase.t.now phase.dist.now }
-    requires phase { IsInPhase phase.packed.net.now phase.s.now phase.t.now phase.packed.first.now phase.packed.halves.now phase.rank.now current.old flow.old.flows value }
+    requires phase { IsAt phase current.old flow.old.flows value }
     requires source { IsTrue (one_of phase.s.now source) }
     requires node { IsNode phase.packed.net.now source }
     requires ranked { cell_of phase.rank.now source < phase.packed.net.now.nodes }
-    ensures path_size { length path.new ≡ phase.entry.packed.net.now.nodes }
-    ensures phase { IsInPhase phase.entry.packed.net.now phase.entry.s.now phase.entry.t.now phase.entry.packed.first.now phase.entry.packed.halves.now phase.entry.rank.now current.new flow.new.flows result }
-    ensures dead { IsDead phase.entry.packed.net.now (one_of phase.entry.t.now) (place_of phase.entry.packed.halves.now) (cell_of current.new) source }
-    ensures gentle { (level : ℕ → ℕ) → IsOrdered phase.entry.packed.net.now level (cell_of phase.entry.rank.now) → IsGentle phase.entry.packed.net.now flow.old.flows level → IsGentle phase.entry.packed.net.now flow.new.flows level }
+    ensures phase { IsAt phase.entry current.new flow.new.flows result }
+    ensures dead { IsDeadIn phase.entry current.new source }
+    ensures gentle { KeepsGentle phase.entry flow.old.flows flow.new.flows }
     ensures risen { (v : ℕ) → cell_of current.old v ≤ cell_of current.new v }
     ensures never_lowered { flow.old.steps ≤ flow.new.steps }
-    ensures steps { flow.new.steps + owed phase.entry.packed.net.now phase.entry.packed.halves.now phase.entry.rank.now current.new flow.new.flows ≤ flow.old.steps + owed phase.entry.packed.net.now phase.entry.packed.halves.now phase.entry.rank.now current.old flow.old.flows }
+    ensures steps { flow.new.steps + owes phase.entry current.new flow.new.flows ≤ flow.old.steps + owes phase.entry current.old flow.old.flows }
 {
     let packed = phase.packed;
     let _ = packed.net.nodes();

@@ -1,4 +1,4 @@
-use Rattle.std.proofs.Common.{ℕ, ◌-◌, ◌*◌, length, take, ◌∙◌, ap}
+use Rattle.std.proofs.Common.{ℕ, ◌-◌, ◌*◌, length, take, ◌∙◌, ap, arith}
 use Rattle.flow_solve.specs.Levels.{cell_of, place_of, any, is_open}
 use Rattle.flow_solve.proofs.Falls.{left_most}
 use Rattle.flow_solve.proofs.Bounds.{phase_paid}
@@ -9,7 +9,7 @@ use Rattle.flow_solve.proofs.phases.run_phase.Goals as goal
 pub walk_all-requires-clause-phase : goal.walk_all-requires-clause-phase
 walk_all-requires-clause-phase c =
     fresh_phase c.args.phase.packed.net.now c.args.phase.s.now c.args.phase.t.now c.args.phase.packed.first.now c.args.phase.packed.halves.now c.args.phase.rank.now c.copy_from_slice.new.self c.args.flow.now.flows c.args.value
-    c.nodes-n.ensures.is_net c.requires.packed (c.copy_from_slice.ensures.after ∙ ap (λ (j : ℕ). take j c.args.phase.packed.first.now) c.nodes-n.ensures.nodes) c.requires.flow.feasible c.requires.flow.value c.requires.flow.no_loops
+    c.nodes-n.ensures.is_net c.requires.run.packed (c.copy_from_slice.ensures.after ∙ ap (λ (j : ℕ). take j c.args.phase.packed.first.now) c.nodes-n.ensures.nodes) c.requires.flow.feasible c.requires.flow.value c.requires.flow.no_loops
 
 pub returns-clause-few : goal.returns-clause-few
 returns-clause-few c = λ j far.
@@ -36,7 +36,8 @@ returns-clause-far c = λ j far.
 pub returns-clause-steps : goal.returns-clause-steps
 returns-clause-steps c =
     let net = c.args.phase.packed.net.now in let rank = c.args.phase.rank.now in let halves = c.args.phase.packed.halves.now in
-    phase_paid (length net.arcs) (3 * (net.nodes - 1)) c.args.flow.now.steps c.walk_all.new.flow.steps _ _ _
-    (left_most net (cell_of rank) (place_of halves) (cell_of c.copy_from_slice.new.self) (is_open net c.args.flow.now.flows))
-    (left_most net (cell_of rank) (place_of halves) (cell_of c.copy_from_slice.new.self) any)
-    c.walk_all.ensures.steps
+    let paid = phase_paid (length net.arcs) (3 * (net.nodes - 1)) c.args.flow.now.steps c.walk_all.new.flow.steps _ _ _
+        (left_most net (cell_of rank) (place_of halves) (cell_of c.copy_from_slice.new.self) (is_open net c.args.flow.now.flows))
+        (left_most net (cell_of rank) (place_of halves) (cell_of c.copy_from_slice.new.self) any)
+        c.walk_all.ensures.steps in
+    omega (arith, paid)

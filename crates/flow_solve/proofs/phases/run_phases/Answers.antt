@@ -42,3 +42,12 @@ pub returns-clause-steps : goal.returns-clause-steps
 returns-clause-steps c =
     let old = c.phases.invariant in let found = c.find_levels.ensures in let net = c.args.packed.net.now in
     run_paid net.nodes (length net.arcs) (net.nodes - 1) c.phases.phases c.args.flow.now.steps c.find_levels.new.flow.steps (omega (arith, old.few)) (omega (arith, c.nodes-n.ensures.is_net.nodes_least)) (omega (arith, old.few)) (omega (arith, old.steps, found.looks.steps))
+
+pub run_phase-value-requires-clause-run : goal.run_phase-value-requires-clause-run
+run_phase-value-requires-clause-run c = record {
+  terminals = c.requires.terminals;
+  packed = c.requires.packed;
+  dist_size = omega arith;
+  rank_size = omega arith;
+  sinks = (c.find_levels.ensures.levels c.phases-test.true).sinks;
+}

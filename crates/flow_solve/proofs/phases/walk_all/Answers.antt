@@ -15,21 +15,20 @@ walk-raised-requires-clause-source c = one_of-at c.args.phase.s.now c.loop-sourc
 pub walk-raised-requires-clause-ranked : goal.walk-raised-requires-clause-ranked
 walk-raised-requires-clause-ranked c =
     let source = get_or c.args.phase.s.now c.loop-source.source-index 0 in
-    let node = c.requires.terminals.sources_within c.loop-source.source-index 0 c.loop-source-test.true in
-    c.requires.ranked source (seen_marked c.args.phase.dist.now source node.0 (omega (arith, node, c.requires.dist_size)) c.if-phase-source-lt-WANTED.true)
+    let node = c.requires.run.terminals.sources_within c.loop-source.source-index 0 c.loop-source-test.true in
+    c.requires.ranked source (seen_marked c.args.phase.dist.now source node.0 (omega (arith, node, c.requires.run.dist_size)) c.if-phase-source-lt-WANTED.true)
 
 pub loop-source-preserved : goal.loop-source-preserved
 loop-source-preserved c =
     let old = c.loop-source.invariant in
     let net = c.args.phase.packed.net.now in let s = c.args.phase.s.now in let dist = c.args.phase.dist.now in
     let source = get_or s c.loop-source.source-index 0 in
-    let node = c.requires.terminals.sources_within c.loop-source.source-index 0 c.loop-source-test.true in
+    let node = c.requires.run.terminals.sources_within c.loop-source.source-index 0 c.loop-source-test.true in
     elim c.if-phase-source-lt-WANTED.branch [
       | then-phase-source-lt-WANTED w ↦
           let now = w.walk-raised.ensures in
-          rw (w.flow-is, w.current-is, w.path-is, w.raised-is) (record {
+          rw (w.flow-is, w.current-is, w.raised-is) (record {
             phase = now.phase;
-            path_size = now.path_size;
             dead = below_more (λ k. IsTrue (seen dist (slice_index s k)) → IsDead net (one_of c.args.phase.t.now) (place_of c.args.phase.packed.halves.now) (cell_of w.walk-raised.new.current) (slice_index s k)) c.loop-source.source-index
                 (λ k l i. dead_on net (one_of c.args.phase.t.now) (place_of c.args.phase.packed.halves.now) (cell_of c.loop-source.current) (cell_of w.walk-raised.new.current) (slice_index s k) now.risen (old.dead k l i))
                 (λ i. now.dead);
@@ -38,9 +37,8 @@ loop-source-preserved c =
             steps = omega (arith, old.steps, now.steps);
           })
       | else-phase-source-lt-WANTED w ↦
-          rw (w.flow-is, w.current-is, w.path-is, w.raised-is) (record {
+          rw (w.flow-is, w.current-is, w.raised-is) (record {
             phase = old.phase;
-            path_size = old.path_size;
             dead = below_more (λ k. IsTrue (seen dist (slice_index s k)) → IsDead net (one_of c.args.phase.t.now) (place_of c.args.phase.packed.halves.now) (cell_of c.loop-source.current) (slice_index s k)) c.loop-source.source-index
                 old.dead
                 (λ i. let out = unmarked_unseen dist source node.0 w.if-phase-source-lt-WANTED.false in absurd (cc));

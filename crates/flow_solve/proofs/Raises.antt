@@ -8,7 +8,7 @@ use Rattle.std.proofs.lemmas.List.Sums.{sum_by-cons}
 use Rattle.flow_net.specs.declared.networks.Arc.{Arc}
 use Rattle.flow_net.specs.Nets.{Net, IsNet, IsNode, IsArcWithin, AreTerminals}
 use Rattle.flow_net.specs.NodeSets.{one_of}
-use Rattle.flow_net.specs.Flows.{IsFeasible, HasValue, IsGreatest, HasNoLoops}
+use Rattle.flow_net.specs.Flows.{IsFeasible, HasValue, IsGreatest}
 use Rattle.flow_net.specs.Cuts.{leaves, cap_over, capacity, IsLeastCapacity}
 use Rattle.flow_net.specs.Paths.{HasRoom, push_all}
 use Rattle.flow_net.specs.Laws.{AreApart}

@@ -13,7 +13,7 @@ use Rattle.flow_net.specs.Paths.{IsPath, HasRoom, IsApart, push_all}
 use Rattle.flow_net.proofs.AugmentingPaths.{augmented}
 use Rattle.flow_net.proofs.Zips.{head_is_node, tail_is_node}
 use Rattle.flow_solve.specs.Packs.{IsPacked}
-use Rattle.flow_solve.specs.Levels.{cell_of, place_of, left, any, is_open, HasMoved, IsAdmissible, IsDead, IsBlocked, AreWithin, IsInPhase, AreSinks, IsOrdered, IsGentle, Descends, IsLooked, IsFilling}
+use Rattle.flow_solve.specs.Levels.{cell_of, place_of, left, any, is_open, HasMoved, IsAdmissible, IsDead, IsBlocked, IsInPhase, AreSinks, IsOrdered, IsGentle, Descends, IsLooked, IsFilling}
 use Rattle.flow_solve.proofs.Falls.{left_on, left_filled, pass_any, pass_open, unpassed, unpassed_on, unpassed_past, has_room, no_room}
 use Rattle.flow_solve.proofs.Places.{cell_at, standing, one_place, falls_apart}
 use Rattle.flow_solve.proofs.Descents.{path_length, path_above, descends_apart, rooms_less, rooms_at, path_take, path_more, all_take, all_at, all_made, all_whole, all_more, halves_at, path_end, take_nil, take_take, no_loops_descended}

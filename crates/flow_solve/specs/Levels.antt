@@ -4,9 +4,11 @@ use Rattle.std.specs.List.{AllByRecursion}
 use Rattle.flow_net.specs.Nets.{Net, IsNode, AreTerminals}
 use Rattle.flow_net.specs.NodeSets.{one_of}
 use Rattle.flow_net.specs.Flows.{IsFeasible, HasValue, HasNoLoops}
-use Rattle.flow_net.specs.Residual.{tail_of, head_of, residual}
+use Rattle.flow_net.specs.Residual.{Table, tail_of, head_of, residual}
 use Rattle.flow_solve.specs.declared.packing.Packed.{Packed}
 use Rattle.flow_solve.specs.declared.searching.Direction.TheVariants.{Backwards}
+use Rattle.flow_solve.specs.declared.searching.Plan.{Plan}
+use Rattle.flow_solve.specs.declared.searching.TheConstants.{FAR}
 use Rattle.flow_solve.specs.declared.walking.Phase.{Phase}
 use Rattle.flow_solve.specs.Packs.{IsPacked}
 use Rattle.flow_solve.specs.Searches.{seen, IsSearched}
@@ -156,8 +158,8 @@ abbrev pub IsAt : Phase → List ℕ → List ℕ → ℕ → Type 0
 IsAt phase current xs k =
     IsInPhase phase.packed.net.now phase.s.now phase.t.now phase.packed.first.now phase.packed.halves.now phase.rank.now current xs k
 
-abbrev pub owes : Phase → List ℕ → List ℕ → ℕ
-owes phase current xs = owed phase.packed.net.now phase.packed.halves.now phase.rank.now current xs
+abbrev pub owes : Phase → List ℕ → Table → ℕ
+owes phase current table = owed phase.packed.net.now phase.packed.halves.now phase.rank.now current table.flows
 
 abbrev pub IsDeadIn : Phase → List ℕ → ℕ → Type 0
 IsDeadIn phase current v = IsDead phase.packed.net.now (one_of phase.t.now) (place_of phase.packed.halves.now) (cell_of current) v
@@ -178,5 +180,22 @@ HasLooked packed rank now next xs v = IsLooked packed.net.now packed.first.now p
 abbrev pub IsNext : Packed → List ℕ → List ℕ → List ℕ → ℕ → ℕ → Type 0
 IsNext packed rank current xs v h = IsAdmissible packed.net.now (cell_of rank) (place_of packed.halves.now) (cell_of current) xs v h
 
-abbrev pub left_in : Packed → List ℕ → List ℕ → ℕ
-left_in packed rank current = left packed.net.now (cell_of rank) (place_of packed.halves.now) (cell_of current) any
+-- the looks for a node's next half-arc, but some, are paid by the half-arcs that they pass
+abbrev pub LooksOn : Packed → List ℕ → List ℕ → Table → List ℕ → Table → ℕ → Type 0
+LooksOn packed rank now before next after some =
+    after.steps + left packed.net.now (cell_of rank) (place_of packed.halves.now) (cell_of next) any ≤ before.steps + left packed.net.now (cell_of rank) (place_of packed.halves.now) (cell_of now) any + some
+
+abbrev pub AreLevelsBy : Plan → List ℕ → List ℕ → List ℕ → Type 0
+AreLevelsBy plan xs dist rank = AreLevels plan.packed.net.now plan.until.now plan.starts.now xs dist rank
+
+-- each source that was seen is dead; each node that was seen has a rank
+abbrev pub AreDead : Phase → List ℕ → Type 0
+AreDead phase current = (v : ℕ) → IsTrue (one_of phase.s.now v) → IsTrue (seen phase.dist.now v) → IsDeadIn phase current v
+
+abbrev pub AreRankedIn : Phase → Type 0
+AreRankedIn phase = (v : ℕ) → IsTrue (seen phase.dist.now v) → cell_of phase.rank.now v < phase.packed.net.now.nodes
+
+-- a place has no rank, or its rank is its number in the queue
+abbrev pub HasRank : List ℕ → ℕ → List ℕ → ℕ → Type 0
+HasRank queue all rank p =
+    (slice_index rank p ≡ FAR) ⊎ ((slice_index rank p < all) × (slice_index queue (slice_index rank p) ≡ p))

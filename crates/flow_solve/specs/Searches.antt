@@ -9,6 +9,7 @@ use Rattle.flow_solve.specs.declared.searching.TheConstants.{FAR, WANTED}
 use Rattle.flow_net.specs.declared.limits.TheConstants.{MOST_NODES}
 use Rattle.flow_solve.specs.declared.searching.Arrival.{Arrival}
 use Rattle.flow_solve.specs.declared.searching.Direction.{Direction}
+use Rattle.flow_solve.specs.declared.searching.Plan.{Plan}
 use Rattle.flow_solve.specs.declared.searching.Progress.{Progress}
 use Rattle.flow_solve.specs.declared.searching.Direction.TheVariants.{Forwards, Backwards}
 use Rattle.flow_solve.specs.Packs.{group_of}
@@ -195,3 +196,28 @@ pub record IsRoute (net : Net) (flows : List ℕ) (from to : ℕ → Bool) : Typ
 abbrev pub HasRoute : Direction → Net → List ℕ → List ℕ → List ℕ → Type 0
 HasRoute Forwards net flows starts until = IsRoute net flows (one_of starts) (one_of until)
 HasRoute Backwards net flows starts until = IsRoute net flows (one_of until) (one_of starts)
+
+-- the same words, of a plan as the code has it
+abbrev pub HasSearched : Plan → List ℕ → List ℕ → List ℕ → Type 0
+HasSearched plan flows dist via = IsSearched plan.packed.net.now flows plan.direction plan.starts.now dist via
+
+abbrev pub HasMissed : Plan → List ℕ → List ℕ → Type 0
+HasMissed plan flows dist = Misses plan.direction plan.packed.net.now flows plan.starts.now plan.until.now dist
+
+abbrev pub HasFollowed : Plan → List ℕ → ℕ → List ℕ → List ℕ → List ℕ → Type 0
+HasFollowed plan flows place dist dist' via' = IsFollowed plan.packed.net.now flows plan.direction place dist dist' via'
+
+abbrev pub Brings : Plan → List ℕ → ℕ → ℕ → Arrival → Type 0
+Brings plan flows h d arrival = LeadsTo plan.direction plan.packed.net.now flows h d arrival
+
+-- where a half-arc leads, and what remains on it for the search
+abbrev pub place_over : Plan → ℕ → ℕ
+place_over plan h = head_of plan.packed.net.now h - 1
+
+abbrev pub room_over : Plan → List ℕ → ℕ → ℕ
+room_over plan flows h = residual plan.packed.net.now flows (crossed plan.direction h)
+
+-- each marked place is done
+abbrev pub HasDone : Plan → List ℕ → List ℕ → Type 0
+HasDone plan flows dist =
+    (p : ℕ) → p < plan.packed.net.now.nodes → IsMarked dist p → IsDone plan.packed.net.now flows plan.direction dist p

@@ -10,22 +10,22 @@ ghost use Rattle.flow_net.specs.NodeSets.{one_of};
 ghost use Rattle.flow_net.specs.Flows.{Fits};
 ghost use Rattle.flow_net.specs.Paths.{HasRoom, push_all};
 ghost use Rattle.flow_solve.specs.Packs.{IsPacked};
-ghost use Rattle.flow_solve.specs.Searches.{AreCells, IsMarked, IsSearched, Misses, seen};
+ghost use Rattle.flow_solve.specs.Searches.{AreCells, HasMissed, HasSearched, IsMarked, seen};
 ghost use Rattle.flow_solve.specs.Bounds.{paths_bound};
 ghost use Rattle.flow_solve.specs.Steps.{OnlyLooks};
-ghost use Rattle.flow_solve.specs.Trails.{AreTrails, trail_from};
+ghost use Rattle.flow_solve.specs.Trails.{AreTrails, IsFirstSeen, IsMost, IsSeenOf, trail_from};
 
 use crate::method::Method;
 use crate::packing::Packed;
 use crate::raising::{Raise, solve};
 use crate::searching::{Direction, Plan, WANTED, head, search};
-use flow_net::{FlowTable, GREATEST_CAPACITY, Network};
+use flow_net::{FlowTable, Network};
 
 /// The first of some nodes that a search has seen.
 fn first_seen(nodes: &[u32], dist: &[u32]) -> Option<u32>
     requires { All (λ v. (1 ≤ v) × (v ≤ length dist.now)) nodes.now }
-    ensures some { IfSome result (λ v. IsTrue (one_of nodes.now v) × (1 ≤ v) × (v ≤ length dist.now) × IsMarked dist.now (v - 1)) }
-    ensures first { IfSome result (λ v. (i : ℕ) × (i < length nodes.now) × (slice_index nodes.now i ≡ v) × ((j : ℕ) → j < i → IsFalse (seen dist.now (slice_index nodes.now j)))) }
+    ensures some { IfSome result (IsSeenOf nodes.now dist.now) }
+    ensures first { IfSome result (IsFirstSeen nodes.now dist.now) }
     ensures none { IfNone result ((v : ℕ) → IsTrue (one_of nodes.now v) → IsFalse (seen dist.now v)) }
 {
     for node in nodes {
@@ -48,12 +48,11 @@ fn find_trail(
     requires packed { IsPacked plan.packed.net.now plan.packed.first.now plan.packed.halves.now }
     requires starts { All (IsNode plan.packed.net.now) plan.starts.now }
     requires until { All (IsNode plan.packed.net.now) plan.until.now }
-    requires backwards { plan.direction ≡ Direction.Backwards }
     requires enough { plan.enough ≡ 1 }
     requires cells { AreCells plan.packed.net.now dist.old via.old queue.old }
-    ensures some { IfSome result (λ v. IsTrue (one_of plan.entry.until.now v) × IsNode plan.entry.packed.net.now v × IsMarked dist.new (v - 1)) }
-    ensures searched { IsSearched plan.entry.packed.net.now flow.old.flows Direction.Backwards plan.entry.starts.now dist.new via.new }
-    ensures missed { IfNone result (Misses Direction.Backwards plan.entry.packed.net.now flow.old.flows plan.entry.starts.now plan.entry.until.now dist.new) }
+    ensures some { IfSome result (IsSeenOf plan.entry.until.now dist.new) }
+    ensures searched { HasSearched plan.entry flow.old.flows dist.new via.new }
+    ensures missed { IfNone result (HasMissed plan.entry flow.old.flows dist.new) }
     ensures looks { OnlyLooks flow.old flow.new (2 * length plan.entry.packed.net.now.arcs) }
 {
     let _ = plan.packed.net.nodes();
@@ -68,7 +67,7 @@ fn least_room(net: &Network, flow: &mut FlowTable, dist: &[u32], via: &[u32], so
     requires node { IsNode net.now source }
     requires marked { IsMarked dist.now (source - 1) }
     ensures room { HasRoom net.now flow.old.flows result (trail_from net.now dist.now via.now source) }
-    ensures most { (d : ℕ) → d ≤ GREATEST_CAPACITY → HasRoom net.now flow.old.flows d (trail_from net.now dist.now via.now source) → d ≤ result }
+    ensures most { IsMost net.now flow.old.flows (trail_from net.now dist.now via.now source) result }
     ensures positive { 1 ≤ result }
     ensures flows { flow.new.flows ≡ flow.old.flows }
     ensures steps { flow.new.steps ≡ flow.old.steps + slice_index dist.now (source - 1) }
@@ -116,7 +115,7 @@ fn augment(net: &Network, flow: &mut FlowTable, dist: &[u32], via: &[u32], sourc
     requires marked { IsMarked dist.now (source - 1) }
     ensures positive { 1 ≤ result }
     ensures room { HasRoom net.now flow.old.flows result (trail_from net.now dist.now via.now source) }
-    ensures most { (d : ℕ) → d ≤ GREATEST_CAPACITY → HasRoom net.now flow.old.flows d (trail_from net.now dist.now via.now source) → d ≤ result }
+    ensures most { IsMost net.now flow.old.flows (trail_from net.now dist.now via.now source) result }
     ensures flows { flow.new.flows ≡ push_all flow.old.flows (trail_from net.now dist.now via.now source) result }
     ensures never_lowered { flow.old.steps ≤ flow.new.steps }
     ensures steps { flow.new.steps ≤ flow.old.steps + 2 * net.now.nodes }

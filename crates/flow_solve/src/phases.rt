@@ -8,9 +8,9 @@ ghost use Rattle.flow_net.specs.Cuts.{IsLeastCapacity};
 ghost use Rattle.flow_solve.specs.Bounds.{phase_bound, phases_bound};
 ghost use Rattle.flow_solve.specs.Packs.{IsPacked};
 ghost use Rattle.flow_solve.specs.Raising.{IsFlow};
-ghost use Rattle.flow_solve.specs.Searches.{seen, AreCells, Misses};
+ghost use Rattle.flow_solve.specs.Searches.{AreCells, HasMissed};
 ghost use Rattle.flow_solve.specs.Steps.{OnlyLooks, TakesSteps};
-ghost use Rattle.flow_solve.specs.Levels.{cell_of, AreLevels, AreLevelsOf, IsAt, IsDeadIn, IsFarIn, IsPhase, KeepsGentle, owes};
+ghost use Rattle.flow_solve.specs.Levels.{AreDead, AreLevelsBy, AreLevelsOf, AreRankedIn, HasRank, IsAt, IsFarIn, IsPhase, KeepsGentle, owes};
 
 use crate::packing::Packed;
 use crate::searching::{Direction, FAR, Plan, WANTED, search};
@@ -23,7 +23,7 @@ fn rank_all(queue: &[u32], all: u32, rank: &mut [u32])
     requires places { (i : ℕ) → i < all → slice_index queue.now i < length rank.old }
     ensures size { length rank.new ≡ length rank.old }
     ensures ranked { (i : ℕ) → i < all → slice_index rank.new (slice_index queue.now i) < all }
-    ensures ranks { (p : ℕ) → p < length rank.old → (slice_index rank.new p ≡ FAR) ⊎ ((slice_index rank.new p < all) × (slice_index queue.now (slice_index rank.new p) ≡ p)) }
+    ensures ranks { (p : ℕ) → p < length rank.old → HasRank queue.now all rank.new p }
 {
     rank.fill(FAR);
     for i in 0..all {
@@ -53,8 +53,8 @@ fn find_levels(
     requires backwards { plan.direction ≡ Direction.Backwards }
     requires enough { plan.enough ≡ min (length plan.until.now) u32.MAX }
     requires cells { AreCells plan.packed.net.now dist.old rank.old queue.old }
-    ensures levels { result ≡ true → AreLevels plan.entry.packed.net.now plan.entry.until.now plan.entry.starts.now flow.old.flows dist.new rank.new }
-    ensures missed { result ≡ false → Misses Direction.Backwards plan.entry.packed.net.now flow.old.flows plan.entry.starts.now plan.entry.until.now dist.new }
+    ensures levels { result ≡ true → AreLevelsBy plan.entry flow.old.flows dist.new rank.new }
+    ensures missed { result ≡ false → HasMissed plan.entry flow.old.flows dist.new }
     ensures looks { OnlyLooks flow.old flow.new (2 * length plan.entry.packed.net.now.arcs) }
 {
     let _ = plan.packed.net.nodes();
@@ -76,13 +76,13 @@ fn walk_all(
 ) -> u128
     requires run { IsPhase phase }
     requires path_size { length path.old ≡ phase.packed.net.now.nodes }
-    requires ranked { (v : ℕ) → IsTrue (seen phase.dist.now v) → cell_of phase.rank.now v < phase.packed.net.now.nodes }
+    requires ranked { AreRankedIn phase }
     requires phase { IsAt phase current.old flow.old.flows value }
     ensures phase { IsAt phase.entry current.new flow.new.flows result }
-    ensures dead { (v : ℕ) → IsTrue (one_of phase.entry.s.now v) → IsTrue (seen phase.entry.dist.now v) → IsDeadIn phase.entry current.new v }
+    ensures dead { AreDead phase.entry current.new }
     ensures gentle { KeepsGentle phase.entry flow.old.flows flow.new.flows }
     ensures never_lowered { flow.old.steps ≤ flow.new.steps }
-    ensures steps { flow.new.steps + owes phase.entry current.new flow.new.flows ≤ flow.old.steps + owes phase.entry current.old flow.old.flows }
+    ensures steps { flow.new.steps + owes phase.entry current.new flow.new ≤ flow.old.steps + owes phase.entry current.old flow.old }
 {
     let mut raised = value;
     for source in phase.s {

@@ -11,10 +11,10 @@ ghost use Rattle.std.specs.List.{All};
 ghost use Rattle.flow_net.specs.Nets.{Net, IsNode};
 ghost use Rattle.flow_net.specs.NodeSets.{one_of};
 ghost use Rattle.flow_net.specs.Flows.{Fits};
-ghost use Rattle.flow_net.specs.Residual.{head_of, residual};
-ghost use Rattle.flow_solve.specs.Packs.{IsPacked, halves_at};
+ghost use Rattle.flow_net.specs.Residual.{head_of};
+ghost use Rattle.flow_solve.specs.Packs.{IsPacked, halves_of};
 ghost use Rattle.flow_solve.specs.Steps.{OnlyLooks};
-ghost use Rattle.flow_solve.specs.Searches.{twin_of, crossed, AreCells, IsMarked, IsNear, IsQueue, IsSearch, IsArrival, HasArrived, LeadsTo, HasGrown, IsFollowed, IsCount, IsDone, IsSearched, Misses, EndsWithWanted, unseen_cell};
+ghost use Rattle.flow_solve.specs.Searches.{twin_of, crossed, AreCells, Brings, EndsWithWanted, HasArrived, HasDone, HasFollowed, HasGrown, HasMissed, HasSearched, IsArrival, IsCount, IsMarked, IsNear, IsQueue, IsSearch, place_over, room_over, unseen_cell};
 
 use crate::packing::Packed;
 use flow_net::{FlowTable, MOST_NODES, Network};
@@ -139,11 +139,11 @@ fn arrive(
     requires fits { Fits plan.packed.net.now flow.old.flows }
     requires cells { length dist.now ≡ plan.packed.net.now.nodes }
     requires half { half < 2 * length plan.packed.net.now.arcs }
-    ensures some { IfSome result (λ arrival. LeadsTo plan.entry.direction plan.entry.packed.net.now flow.old.flows half level arrival) }
-    ensures unseen { IfSome result (λ arrival. (arrival.place < length dist.now) × (WANTED ≤ slice_index dist.now arrival.place)) }
-    ensures none { IfNone result (1 ≤ residual plan.entry.packed.net.now flow.old.flows (crossed plan.entry.direction half) → IsMarked dist.now (head_of plan.entry.packed.net.now half - 1)) }
+    ensures some { IfSome result (Brings plan.entry flow.old.flows half level) }
+    ensures unseen { IfSome result (λ a. (a.place < length dist.now) × (WANTED ≤ slice_index dist.now a.place)) }
+    ensures none { IfNone result (1 ≤ room_over plan.entry flow.old.flows half → IsMarked dist.now (place_over plan.entry half)) }
     ensures looks { OnlyLooks flow.old flow.new 1 }
-    ensures no_look { IsMarked dist.now (head_of plan.entry.packed.net.now half - 1) → flow.new.steps ≡ flow.old.steps }
+    ensures no_look { IsMarked dist.now (place_over plan.entry half) → flow.new.steps ≡ flow.old.steps }
 {
     let net = plan.packed.net;
     let _ = net.nodes();
@@ -181,9 +181,9 @@ fn follow_all(
     requires near { IsNear dist.old (slice_index dist.old (slice_index queue.old progress.followed) + 1) }
     ensures search { IsSearch dist.new via.new queue.new result }
     ensures grown { HasGrown dist.old via.old queue.old progress dist.new via.new queue.new result }
-    ensures followed { IsFollowed plan.entry.packed.net.now flow.old.flows plan.entry.direction (slice_index queue.old progress.followed) dist.old dist.new via.new }
+    ensures followed { HasFollowed plan.entry flow.old.flows (slice_index queue.old progress.followed) dist.old dist.new via.new }
     ensures next { result.followed ≡ progress.followed + 1 }
-    ensures looks { OnlyLooks flow.old flow.new (halves_at plan.entry.packed.first.now (slice_index queue.old progress.followed)) }
+    ensures looks { OnlyLooks flow.old flow.new (halves_of plan.entry.packed (slice_index queue.old progress.followed)) }
 {
     let Packed { net, first, halves } = plan.packed;
     let _ = net.nodes();
@@ -283,9 +283,9 @@ pub(crate) fn search(
     requires starts { All (IsNode plan.packed.net.now) plan.starts.now }
     requires until { All (IsNode plan.packed.net.now) plan.until.now }
     requires cells { AreCells plan.packed.net.now dist.old via.old queue.old }
-    ensures searched { IsSearched plan.entry.packed.net.now flow.old.flows plan.entry.direction plan.entry.starts.now dist.new via.new }
-    ensures whole { result.wanted < plan.entry.enough → (p : ℕ) → p < plan.entry.packed.net.now.nodes → IsMarked dist.new p → IsDone plan.entry.packed.net.now flow.old.flows plan.entry.direction dist.new p }
-    ensures missed { result.wanted ≡ 0 → 1 ≤ plan.entry.enough → Misses plan.entry.direction plan.entry.packed.net.now flow.old.flows plan.entry.starts.now plan.entry.until.now dist.new }
+    ensures searched { HasSearched plan.entry flow.old.flows dist.new via.new }
+    ensures whole { result.wanted < plan.entry.enough → HasDone plan.entry flow.old.flows dist.new }
+    ensures missed { result.wanted ≡ 0 → 1 ≤ plan.entry.enough → HasMissed plan.entry flow.old.flows dist.new }
     ensures soon { 1 ≤ plan.entry.enough → plan.entry.enough ≤ result.wanted → EndsWithWanted plan.entry.until.now dist.new }
     ensures count { IsCount plan.entry.until.now dist.new result.wanted }
     ensures queue { IsQueue dist.new queue.new result.seen }

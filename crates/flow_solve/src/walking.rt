@@ -7,7 +7,7 @@ ghost use Rattle.flow_net.specs.Flows.{Fits};
 ghost use Rattle.flow_net.specs.Residual.{tail_of, head_of, residual};
 ghost use Rattle.flow_net.specs.Paths.{IsApart, push_all};
 ghost use Rattle.flow_solve.specs.Packs.{IsPacked};
-ghost use Rattle.flow_solve.specs.Levels.{cell_of, HasLooked, IsAt, IsCurrent, IsDeadIn, IsFilling, IsNext, IsPhase, KeepsGentle, left_in, owes};
+ghost use Rattle.flow_solve.specs.Levels.{cell_of, HasLooked, IsAt, IsCurrent, IsDeadIn, IsFilling, IsNext, IsPhase, KeepsGentle, LooksOn, owes};
 
 use crate::packing::Packed;
 use crate::searching::head;
@@ -114,8 +114,8 @@ fn admissible(
     ensures none { IfNone result (cell_of current.new node ≡ slice_index packed.entry.first.now node) }
     ensures flows { flow.new.flows ≡ flow.old.flows }
     ensures never_lowered { flow.old.steps ≤ flow.new.steps }
-    ensures steps_some { IfSome result (λ h. flow.new.steps + left_in packed.entry rank.now current.new ≤ flow.old.steps + left_in packed.entry rank.now current.old + 1) }
-    ensures steps_none { IfNone result (flow.new.steps + left_in packed.entry rank.now current.new ≤ flow.old.steps + left_in packed.entry rank.now current.old) }
+    ensures steps_some { IfSome result (λ h. LooksOn packed.entry rank.now current.old flow.old current.new flow.new 1) }
+    ensures steps_none { IfNone result (LooksOn packed.entry rank.now current.old flow.old current.new flow.new 0) }
 {
     let _ = packed.net.nodes();
     let end = packed.first[node as usize];
@@ -172,7 +172,7 @@ pub(crate) fn walk(
     ensures gentle { KeepsGentle phase.entry flow.old.flows flow.new.flows }
     ensures risen { (v : ℕ) → cell_of current.old v ≤ cell_of current.new v }
     ensures never_lowered { flow.old.steps ≤ flow.new.steps }
-    ensures steps { flow.new.steps + owes phase.entry current.new flow.new.flows ≤ flow.old.steps + owes phase.entry current.old flow.old.flows }
+    ensures steps { flow.new.steps + owes phase.entry current.new flow.new ≤ flow.old.steps + owes phase.entry current.old flow.old }
 {
     let packed = phase.packed;
     let _ = packed.net.nodes();

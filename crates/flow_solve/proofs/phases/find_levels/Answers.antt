@@ -1,16 +1,14 @@
 use Rattle.std.proofs.Common.{ℕ, ◌<◌, subst, inl, inr, arith}
 use Rattle.std.proofs.lemmas.Bool.{cases_lt}
 use Rattle.flow_solve.specs.declared.searching.Direction.{Direction}
-use Rattle.flow_solve.specs.Searches.{IsMarked, IsDone, IsSearched, Misses}
+use Rattle.flow_solve.specs.Searches.{IsMarked, IsDone, IsSearched}
 use Rattle.flow_solve.proofs.Queues.{queue_short}
 use Rattle.flow_solve.proofs.Levelled.{levels_found}
 use Rattle.flow_solve.proofs.phases.find_levels.Goals as goal
 
 pub returns-then-progress-eq0-clause-missed : goal.returns-then-progress-eq0-clause-missed
 returns-then-progress-eq0-clause-missed c = λ e.
-    let plan = c.args.plan in
-    subst (λ (dir : Direction). Misses dir plan.packed.net.now c.args.flow.now.flows plan.starts.now plan.until.now c.search-progress.new.dist) c.requires.backwards
-    (c.search-progress.ensures.missed c.if-progress-eq0.true (omega (arith, c.requires.enough, c.requires.terminals.some_source)))
+    c.search-progress.ensures.missed c.if-progress-eq0.true (omega (arith, c.requires.enough, c.requires.terminals.some_source))
 
 pub rank_all-requires-clause-all : goal.rank_all-requires-clause-all
 rank_all-requires-clause-all c =

@@ -37,7 +37,7 @@ pub returns-clause-steps : goal.returns-clause-steps
 returns-clause-steps c =
     let net = c.args.phase.packed.net.now in let rank = c.args.phase.rank.now in let halves = c.args.phase.packed.halves.now in
     let paid = phase_paid (length net.arcs) (3 * (net.nodes - 1)) c.args.flow.now.steps c.walk_all.new.flow.steps _ _ _
-        (left_most net (cell_of rank) (place_of halves) (cell_of c.copy_from_slice.new.self) (is_open net c.args.flow.now.flows))
-        (left_most net (cell_of rank) (place_of halves) (cell_of c.copy_from_slice.new.self) any)
-        c.walk_all.ensures.steps in
+    (left_most net (cell_of rank) (place_of halves) (cell_of c.copy_from_slice.new.self) (is_open net c.args.flow.now.flows))
+    (left_most net (cell_of rank) (place_of halves) (cell_of c.copy_from_slice.new.self) any)
+    c.walk_all.ensures.steps in
     omega (arith, paid)

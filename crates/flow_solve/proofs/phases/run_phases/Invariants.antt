@@ -1,4 +1,4 @@
-use Rattle.std.proofs.Common.{◌≡◌, ◌+◌, ◌-◌, ◌*◌, ◌<◌, ◌≤◌, length}
+use Rattle.std.proofs.Common.{◌+◌, ◌-◌, ◌*◌, ◌<◌, ◌≤◌, length}
 use Rattle.flow_solve.specs.Levels.{IsFar}
 use Rattle.flow_solve.specs.Raising.{IsFlow}
 use Rattle.flow_solve.proofs.phases.run_phases.Given as goal

@@ -1,4 +1,4 @@
-use Rattle.std.proofs.Common.{get_or, set, length, length-set, get_or-set_same, get_or-set_other, ◌≡◌, ℕ, refl, arith}
+use Rattle.std.proofs.Common.{length-set, get_or-set_same, get_or-set_other, arith}
 use Rattle.flow_solve.proofs.Queues.{queue_short, queue_room, queue_more, count_more, near_more, unseen_other}
 use Rattle.flow_solve.proofs.searching.enter.Goals as goal
 

@@ -1,4 +1,4 @@
-use Rattle.std.proofs.Common.{ℕ, inl, inr, ap, ◌+◌, ◌≡◌, refl, ◌-◌, ◌≤◌, ◌<◌, IsTrue, get_or, subst, sym, ◌∙◌, below_more, arith}
+use Rattle.std.proofs.Common.{inl, inr, ap, ◌+◌, ◌≡◌, refl, ◌-◌, ◌≤◌, ◌<◌, IsTrue, get_or, subst, sym, ◌∙◌, below_more, arith}
 use Rattle.flow_net.specs.Flows.{Fits}
 use Rattle.flow_net.specs.Residual.{head_of, residual}
 use Rattle.flow_solve.specs.Searches.{crossed, IsMarked, IsCome}

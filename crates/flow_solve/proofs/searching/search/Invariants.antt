@@ -1,4 +1,4 @@
-use Rattle.std.proofs.Common.{◌≡◌, ◌-◌, ◌+◌, ◌≤◌, length}
+use Rattle.std.proofs.Common.{◌≡◌, ◌-◌, ◌+◌, ◌≤◌}
 use Rattle.flow_net.specs.Flows.{Fits}
 use Rattle.flow_solve.specs.Packs.{halves_at}
 use Rattle.flow_solve.specs.Searches.{IsSearch, IsCount, EndsWithWanted, queued}

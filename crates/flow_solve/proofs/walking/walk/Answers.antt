@@ -85,7 +85,7 @@ returns-then-depth-eq0-clause-gentle c = λ level o g. subst (λ (ys : List ℕ)
 pub returns-then-depth-eq0-clause-steps : goal.returns-then-depth-eq0-clause-steps
 returns-then-depth-eq0-clause-steps c =
     let net = c.args.phase.packed.net.now in let halves = c.args.phase.packed.halves.now in let rank = c.args.phase.rank.now in
-    let paid = turning_end _ _ _ _ _ _ _ c.admissible.new.current _ _ _ _ _ _ _ _ c.admissible.new.flow.steps c.if-depth-eq0.true c.turns.invariant.turning c.admissible.ensures.looked c.in_default.ensures.steps_none in
+    let paid = turning_end _ _ _ _ _ _ _ c.admissible.new.current _ _ _ _ _ _ _ _ c.admissible.new.flow.steps c.if-depth-eq0.true c.turns.invariant.turning c.admissible.ensures.looked (omega (arith, c.in_default.ensures.steps_none)) in
     subst (λ (ys : List ℕ). c.admissible.new.flow.steps + owed net halves rank c.admissible.new.current ys ≤ c.args.flow.now.steps + owed net halves rank c.args.current.now c.args.flow.now.flows) (sym c.admissible.ensures.flows) paid
 
 pub tail-node-requires : goal.tail-node-requires
@@ -110,7 +110,7 @@ pub turns-preserved : goal.turns-preserved
 turns-preserved c =
     let old = c.turns.invariant in let net = c.args.phase.packed.net.now in let found = c.admissible.ensures in
     let inner = no_sink_here net c.args.phase.t.now c.args.phase.dist.now c.turns.node c.requires.run.sinks old.turning.node c.if-phase-node-eq0.false in
-    let back = turning_retreat _ _ _ _ _ _ _ c.admissible.new.current _ _ _ _ c.turns.depth _ _ _ c.admissible.new.flow.steps (c.turns.depth - 1) (omega (arith, c.if-depth-eq0.false)) c.nodes.ensures.is_net c.requires.run.packed inner old.turning c.admissible.ensures.looked c.in_default.ensures.none c.in_default.ensures.steps_none in
+    let back = turning_retreat _ _ _ _ _ _ _ c.admissible.new.current _ _ _ _ c.turns.depth _ _ _ c.admissible.new.flow.steps (c.turns.depth - 1) (omega (arith, c.if-depth-eq0.false)) c.nodes.ensures.is_net c.requires.run.packed inner old.turning c.admissible.ensures.looked c.in_default.ensures.none (omega (arith, c.in_default.ensures.steps_none)) in
     let node = c.tail-node.ensures.node in
     let y = c.tail-node.result in
     let o = set_next c.admissible.new.current c.tail-node.result node.0 (omega (arith, node, found.looked.size)) in

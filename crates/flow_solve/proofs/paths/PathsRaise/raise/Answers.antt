@@ -15,7 +15,7 @@ pub overflow_add-raised : goal.overflow_add-raised
 overflow_add-raised c =
     let old = c.loop-source.invariant in let found = c.in-Some.ensures in let node = found.some in let net = c.args.packed.net.now in
     let now = raised_by net c.args.s.now c.args.t.now c.loop-source.flow.flows c.find_trail.new.dist c.find_trail.new.via c.loop-source.raised c.augment.result c.in-Some.source c.find_trail.new.flow.flows c.augment.new.flow.flows
-    c.requires.terminals old.flow (omega arith) found.searched node.0 node.1 node.2 found.looks.flows c.augment.ensures.room c.augment.ensures.flows in
+    c.requires.terminals old.flow (omega arith) found.searched node.0 (node.1, omega (arith, node.2)) node.3 found.looks.flows c.augment.ensures.room c.augment.ensures.flows in
     let most = value_most net (one_of c.args.s.now) (one_of c.args.t.now) c.augment.new.flow.flows (c.loop-source.raised + c.augment.result) c.nodes-n.ensures.is_net (terminals_apart net c.args.s.now c.args.t.now c.requires.terminals) now.feasible now.value in
     let fit = capacities_fit net c.nodes-n.ensures.is_net in
     omega (arith, most, fit, c.from-raised.ensures)
@@ -24,7 +24,7 @@ pub loop-source-smaller : goal.loop-source-smaller
 loop-source-smaller c =
     let old = c.loop-source.invariant in let found = c.in-Some.ensures in let node = found.some in let net = c.args.packed.net.now in
     let now = raised_by net c.args.s.now c.args.t.now c.loop-source.flow.flows c.find_trail.new.dist c.find_trail.new.via c.loop-source.raised c.augment.result c.in-Some.source c.find_trail.new.flow.flows c.augment.new.flow.flows
-    c.requires.terminals old.flow (omega arith) found.searched node.0 node.1 node.2 found.looks.flows c.augment.ensures.room c.augment.ensures.flows in
+    c.requires.terminals old.flow (omega arith) found.searched node.0 (node.1, omega (arith, node.2)) node.3 found.looks.flows c.augment.ensures.room c.augment.ensures.flows in
     let most = value_most net (one_of c.args.s.now) (one_of c.args.t.now) c.augment.new.flow.flows (c.loop-source.raised + c.augment.result) c.nodes-n.ensures.is_net (terminals_apart net c.args.s.now c.args.t.now c.requires.terminals) now.feasible now.value in
     let less : capacities net - (c.loop-source.raised + c.from-raised.result) < capacities net - c.loop-source.raised = omega (arith, most, c.augment.ensures.positive, c.from-raised.ensures) in less
 
@@ -32,7 +32,7 @@ pub loop-source-preserved : goal.loop-source-preserved
 loop-source-preserved c =
     let old = c.loop-source.invariant in let found = c.in-Some.ensures in let node = found.some in let net = c.args.packed.net.now in
     let now = raised_by net c.args.s.now c.args.t.now c.loop-source.flow.flows c.find_trail.new.dist c.find_trail.new.via c.loop-source.raised c.augment.result c.in-Some.source c.find_trail.new.flow.flows c.augment.new.flow.flows
-    c.requires.terminals old.flow (omega arith) found.searched node.0 node.1 node.2 found.looks.flows c.augment.ensures.room c.augment.ensures.flows in
+    c.requires.terminals old.flow (omega arith) found.searched node.0 (node.1, omega (arith, node.2)) node.3 found.looks.flows c.augment.ensures.room c.augment.ensures.flows in
     record {
       flow = rw c.from-raised.ensures now;
       never_lowered = omega (arith, old.never_lowered, found.looks.never_lowered, c.augment.ensures.never_lowered);

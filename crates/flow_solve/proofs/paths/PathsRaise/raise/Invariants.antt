@@ -1,5 +1,4 @@
-use Rattle.std.proofs.Common.{◌≡◌, ◌+◌, ◌-◌, ◌*◌, ◌≤◌, length}
-use Rattle.flow_net.specs.NodeSets.{one_of}
+use Rattle.std.proofs.Common.{◌+◌, ◌-◌, ◌*◌, ◌≤◌, length}
 use Rattle.flow_solve.specs.Bounds.{capacities}
 use Rattle.flow_solve.specs.Raising.{IsFlow}
 use Rattle.flow_solve.proofs.paths.PathsRaise.raise.Given as goal

@@ -24,6 +24,7 @@ use Rattle.flow_text.proofs.ProblemLemmas.{Adds-problem, of_problem, of_node, of
 use Rattle.flow_text.proofs.SolutionLemmas.{Adds-solution, of_solution, of_flow, of_unknown as of_unknown_solution}
 use Rattle.flow_text.proofs.TerminalLemmas.{AreDistinct-source, AreDistinct-sink}
 use Rattle.flow_text.proofs.WithinLemmas.{by_text, accepted-parts, passed, number-passed, ends-passed}
+use Rattle.flow_text.specs.declared.limits.TheConstants.{GREATEST_VALUE, MOST_FLOW_LINES}
 
 none_from : {A : Type 0} (o : Option A) → is_some o ≡ false → o ≡ None
 none_from None h = refl
@@ -66,8 +67,8 @@ sized k fields h p =
     let empty : InsideFrom None k.marks k.arcs = subst (λ o. InsideFrom o k.marks k.arcs) none p in
     let count = passed (not (length fields == 4)) WrongFields _ first.1 in
     let max = passed (not (bytes_eq (field_at fields 1) (codes "max"))) NotMax _ count.1 in
-    let n = number-passed (field_at fields 2) 2 1000000 NodesOutOfRange (number_tests (field_at fields 3) 0 4000000 ArcsOutOfRange) max.1 in
-    let m = number-passed (field_at fields 3) 0 4000000 ArcsOutOfRange [] n.others in
+    let n = number-passed (field_at fields 2) FEWEST_NODES MOST_NODES NodesOutOfRange (number_tests (field_at fields 3) 0 MOST_ARCS ArcsOutOfRange) max.1 in
+    let m = number-passed (field_at fields 3) 0 MOST_ARCS ArcsOutOfRange [] n.others in
     let n_from = n.from in let n_to = n.to in let m_to = m.to in
     rw (empty.0, empty.1) (record {
       nodes_least = omega arith;
@@ -204,14 +205,14 @@ keeps_solution k letter others fine p = elim (cases_Bool (bytes_eq letter (codes
       let of = of_solution k letter others is in
       let first = passed (is_some k.value) SecondSolutionLine (first_failed (value_tests (letter ∷ others))) (sym of.0 ∙ fine) in
       let count = passed (not (length (letter ∷ others) == 2)) WrongFields _ first.1 in
-      let value = number-passed (field_at (letter ∷ others) 1) 0 73786976294838206460000000 ValueOutOfRange [] count.1 in
+      let value = number-passed (field_at (letter ∷ others) 1) 0 GREATEST_VALUE ValueOutOfRange [] count.1 in
       subst IsInsideSolution (sym of.1) (record { value_most = value.to; lines_most = p.lines_most; lines_within = p.lines_within })
   | inr no_s ↦ elim (cases_Bool (bytes_eq letter (codes "f"))) [
     | inl is ↦
         let of = of_flow k letter others no_s is in
-        let some = passed (not (is_some k.value)) SolutionLineMissing (if nat_le 4000000 (length k.lines) then Some TooManyFlowLines else first_failed (ends_tests k.nodes FlowOutOfRange (letter ∷ others))) (sym of.0 ∙ fine) in
-        let few = passed (nat_le 4000000 (length k.lines)) TooManyFlowLines (first_failed (ends_tests k.nodes FlowOutOfRange (letter ∷ others))) some.1 in
-        let room : length k.lines < 4000000 = let f = few.0 in grind (arith, common_steps, f) in
+        let some = passed (not (is_some k.value)) SolutionLineMissing (if nat_le MOST_FLOW_LINES (length k.lines) then Some TooManyFlowLines else first_failed (ends_tests k.nodes FlowOutOfRange (letter ∷ others))) (sym of.0 ∙ fine) in
+        let few = passed (nat_le MOST_FLOW_LINES (length k.lines)) TooManyFlowLines (first_failed (ends_tests k.nodes FlowOutOfRange (letter ∷ others))) some.1 in
+        let room : length k.lines < MOST_FLOW_LINES = let f = few.0 in grind (arith, common_steps, f) in
         let fields = letter ∷ others in
         let e = ends-passed k.nodes FlowOutOfRange fields few.1 in
         let e_fits = e.fits in

@@ -13,6 +13,7 @@ use Rattle.flow_text.proofs.RuleLemmas.{of_long}
 use Rattle.flow_text.proofs.FaultLemmas.{first_fault-append, first_fault-push}
 use Rattle.flow_text.proofs.ReaderLemmas.{comment-append}
 use Rattle.flow_text.proofs.EndLemmas.{lines-some, lines-none, closes-fault}
+use Rattle.flow_text.specs.declared.limits.TheConstants.{LONGEST_LINE}
 
 -- what a line and more is cut into begins with the line
 pub record Begins (r x : List ℕ) : Type 0 where
@@ -31,26 +32,26 @@ begins (c ∷ r) x none =
     record { line = h.line; parts = h.parts; is = slice_split-cons_no is_end c (r ++ x) (All-head (λ c. is_end c ≡ false) c r none) ∙ ap (onto_first c) h.is }
 
 -- a line that is too long already stays so, whatever follows: it goes on, or it ends
-long-more : (r l : List ℕ) → is_comment r ≡ false → 200 < length r → (is_comment (r ++ l) ≡ false) × (200 < length (r ++ l))
+long-more : (r l : List ℕ) → is_comment r ≡ false → LONGEST_LINE < length r → (is_comment (r ++ l) ≡ false) × (LONGEST_LINE < length (r ++ l))
 long-more r l plain long = (comment-append r l (omega arith) ∙ plain, omega (arith, length-append r l))
 
-unended-long : (r : List ℕ) → is_comment r ≡ false → 200 < length r → unended_fault r ≡ Some LineTooLong
-unended-long r plain long = let is : nat_lt 200 (length r) ≡ true = search (std_rules, arith) in rw (plain, is) refl
+unended-long : (r : List ℕ) → is_comment r ≡ false → LONGEST_LINE < length r → unended_fault r ≡ Some LineTooLong
+unended-long r plain long = let is : nat_lt LONGEST_LINE (length r) ≡ true = search (std_rules, arith) in rw (plain, is) refl
 
-unended-is : (r : List ℕ) (code : FaultCode) → unended_fault r ≡ Some code → (is_comment r ≡ false) × (200 < length r) × (code ≡ LineTooLong)
+unended-is : (r : List ℕ) (code : FaultCode) → unended_fault r ≡ Some code → (is_comment r ≡ false) × (LONGEST_LINE < length r) × (code ≡ LineTooLong)
 unended-is r code h = elim (cases_Bool (is_comment r)) [
   | inl yes' ↦ let no' : ◌≡◌ {A = Option FaultCode} None (Some code) = rw (yes') at h in cc
-  | inr no' ↦ elim (cases_lt 200 (length r)) [
+  | inr no' ↦ elim (cases_lt LONGEST_LINE (length r)) [
     | inl long ↦ let e = sym (unended-long r no' long) ∙ h in (no', long, cc)
     | inr short ↦
-        let is : nat_lt 200 (length r) ≡ false = search (std_rules, arith) in
+        let is : nat_lt LONGEST_LINE (length r) ≡ false = search (std_rules, arith) in
         let none : ◌≡◌ {A = Option FaultCode} None (Some code) = rw (no', is) at h in cc
   ]
 ]
 
 -- the first fault of a text whose line is too long already
 too_long_in : {K : Type 0} (rules : Rules K) (known_of : List (List ℕ) → K) (b x l : List ℕ) (parts : List (List ℕ)) → slice_split is_end (rest b ++ x) ≡ (rest b ++ l) ∷ parts
-    → is_comment (rest b) ≡ false → 200 < length (rest b) → first_fault rules known_of [] (ended b) ≡ None
+    → is_comment (rest b) ≡ false → LONGEST_LINE < length (rest b) → first_fault rules known_of [] (ended b) ≡ None
     → early_fault rules known_of (b ++ x) ≡ Some (told (length (ended b) + 1), LineTooLong)
 unfolding early_fault first_fault ended rest
 too_long_in rules known_of b x l [] is plain long fine =
@@ -63,14 +64,14 @@ too_long_in rules known_of b x l (next ∷ parts) is plain long fine =
     let ended_is : ended (rest b ++ x) ≡ (rest b ++ l) ∷ front (next ∷ parts) = ap front is in
     rw (ended-append b x, ended_is, first_fault-append rules known_of [] (ended b) ((rest b ++ l) ∷ front (next ∷ parts)), fine, of_long rules (known_of (ended b)) (rest b ++ l) after.0 after.1) refl
 
-too_long : {K : Type 0} (rules : Rules K) (known_of : List (List ℕ) → K) (b x : List ℕ) → is_comment (rest b) ≡ false → 200 < length (rest b) → first_fault rules known_of [] (ended b) ≡ None
+too_long : {K : Type 0} (rules : Rules K) (known_of : List (List ℕ) → K) (b x : List ℕ) → is_comment (rest b) ≡ false → LONGEST_LINE < length (rest b) → first_fault rules known_of [] (ended b) ≡ None
     → early_fault rules known_of (b ++ x) ≡ Some (told (length (ended b) + 1), LineTooLong)
 too_long rules known_of b x plain long fine = let h = begins (rest b) x (rest_is b) in too_long_in rules known_of b x h.line h.parts h.is plain long fine
 
 -- where an early fault comes from
 pub record Unended (b : List ℕ) (fault : ℕ × FaultCode) : Type 0 where
   pub plain : is_comment (rest b) ≡ false
-  pub long : 200 < length (rest b)
+  pub long : LONGEST_LINE < length (rest b)
   pub is : (told (length (ended b) + 1), LineTooLong) ≡ fault
 
 unended_from : (b : List ℕ) (fault : ℕ × FaultCode) (u : Option FaultCode) → unended_fault (rest b) ≡ u → at_line (length (ended b) + 1) u ≡ Some fault → Unended b fault

@@ -10,6 +10,7 @@ use Rattle.flow_text.specs.declared.machine.Refusal.TheVariants.{Code, Memory}
 use Rattle.flow_text.proofs.LineLemmas.{ended_within, rest_within, ended_by, rest_by}
 use Rattle.flow_text.proofs.RuleLemmas.{of_comment}
 use Rattle.flow_text.proofs.FaultLemmas.{early-ended, early-fault, early-within}
+use Rattle.flow_text.specs.declared.limits.TheConstants.{LONGEST_LINE}
 
 -- a line begins as its front does
 pub comment-append : (held tail : List ℕ) → 0 < length held → is_comment (held ++ tail) ≡ is_comment held
@@ -65,12 +66,12 @@ Tells-ends rules known_of old new b tail more (Code code) none r h =
     let is : fault_of rules (known_of (ended b)) (rest b ++ tail) ≡ Some code = rw (← holds_plain rules known_of old b r h.plain, ← r.knows) h.tells in
     early-fault rules known_of b tail more code none r.fine is ∙ ap (λ (n : ℕ). Some (n, code)) (sym (told-more (length (ended b))) ∙ ap (λ (n : ℕ). told (n + 1)) (sym (h.counts ∙ r.counts)))
 
-within_limit : (line : List ℕ) (k : ℕ) → length (held_of line) ≤ 200 → at_line k (unended_fault line) ≡ None
+within_limit : (line : List ℕ) (k : ℕ) → length (held_of line) ≤ LONGEST_LINE → at_line k (unended_fault line) ≡ None
 within_limit line k short = elim (cases_Bool (is_comment line)) [
   | inl yes' ↦ rw yes' refl
   | inr no' ↦
-      let len : length line ≤ 200 = rw (held_of-plain line no') at short in
-      let not_long : nat_lt 200 (length line) ≡ false = search (std_rules, arith) in
+      let len : length line ≤ LONGEST_LINE = rw (held_of-plain line no') at short in
+      let not_long : nat_lt LONGEST_LINE (length line) ≡ false = search (std_rules, arith) in
       rw (no', not_long) refl
 ]
 
@@ -99,10 +100,10 @@ HasRead-holds rules known_of old new b tail none r e =
     }
 
 pub Tells-holds : {K : Type 0} (rules : Rules K) (known_of : List (List ℕ) → K) (old new : State K) (b tail : List ℕ) (refusal : Refusal) → HasNoEnd tail → HasRead rules known_of old b
-    → (old.comment ≡ false) × (new.count ≡ old.count) × (is_comment (old.held ++ tail) ≡ false) × (200 < length (old.held ++ tail)) × (refusal ≡ Code LineTooLong)
+    → (old.comment ≡ false) × (new.count ≡ old.count) × (is_comment (old.held ++ tail) ≡ false) × (LONGEST_LINE < length (old.held ++ tail)) × (refusal ≡ Code LineTooLong)
     → TellsAt new.count refusal (early_fault rules known_of (b ++ tail))
 Tells-holds rules known_of old new b tail refusal none r h =
     let plain : is_comment (rest b ++ tail) ≡ false = rw (← holds_plain rules known_of old b r h.0) h.2 in
-    let len : 200 < length (rest b ++ tail) = rw (← holds_plain rules known_of old b r h.0) h.3 in
-    let long : nat_lt 200 (length (rest b ++ tail)) ≡ true = search (std_rules, arith) in
+    let len : LONGEST_LINE < length (rest b ++ tail) = rw (← holds_plain rules known_of old b r h.0) h.3 in
+    let long : nat_lt LONGEST_LINE (length (rest b ++ tail)) ≡ true = search (std_rules, arith) in
     rw (h.4, early-within rules known_of b tail none r.fine, plain, long) (ap (λ (n : ℕ). Some (n, LineTooLong)) (sym (told-more (length (ended b))) ∙ ap (λ (n : ℕ). told (n + 1)) (sym (h.1 ∙ r.counts))))

@@ -15,6 +15,7 @@ use Rattle.flow_text.specs.UsualLines.{IsUsual}
 use Rattle.flow_text.proofs.RuleLemmas.{of_fields}
 use Rattle.flow_text.proofs.UsualLemmas.{ends-pass}
 use Rattle.flow_text.proofs.ProblemLemmas.{first-push, list-push}
+use Rattle.flow_text.specs.declared.limits.TheConstants.{MOST_FLOW_LINES}
 
 -- a line has one kind at most
 s_not_f : (kind : List ℕ) → bytes_eq kind (codes "s") ≡ true → bytes_eq kind (codes "f") ≡ false
@@ -78,7 +79,7 @@ Adds-solution nodes = λ before line fine.
     (by_kind (is_comment line) (fields_of line) (stated_of nodes before))
 
 -- a flow line of the usual form, with no fault
-pub of_usual : (old : Stated) (text : List ℕ) (flow : FlowLine) (at : ℕ) → IsUsual 102 text flow.src flow.dst flow.flow at → is_some old.value ≡ true → length old.lines < 4000000 → IsLineWithin old.nodes flow
+pub of_usual : (old : Stated) (text : List ℕ) (flow : FlowLine) (at : ℕ) → IsUsual 102 text flow.src flow.dst flow.flow at → is_some old.value ≡ true → length old.lines < MOST_FLOW_LINES → IsLineWithin old.nodes flow
     → (fault_of solution_rules old (take at text) ≡ None)
     × (record old { lines = old.lines ++ flow ∷ [] } ≡ with_line with_solution_record old (take at text))
 of_usual old text flow at u some room within =
@@ -86,7 +87,7 @@ of_usual old text flow at u some room within =
     let of = of_fields solution_rules with_solution_record old (take at text) (102 ∷ []) fields u.plain u.short u.fields in
     let as_flow = of_flow old (102 ∷ []) fields refl refl in
     let is : flow_of ((102 ∷ []) ∷ fields) ≡ flow = rw (u.src_value, u.dst_value, u.number_value) refl in
-    let few : nat_le 4000000 (length old.lines) ≡ false = search (std_rules, arith) in
+    let few : nat_le MOST_FLOW_LINES (length old.lines) ≡ false = search (std_rules, arith) in
     let fits = within.flow_fits in
     let passes : first_failed (flow_tests old ((102 ∷ []) ∷ fields)) ≡ None =
     rw (some, few) (ends-pass old.nodes FlowOutOfRange (102 ∷ []) u.src_field u.dst_field u.number_field

@@ -18,6 +18,7 @@ use Rattle.flow_text.specs.Tests.{first_failed, ends_tests}
 use Rattle.flow_text.specs.declared.faults.FaultCode.{FaultCode}
 use Rattle.flow_text.specs.UsualLines.{IsLeading, IsNumberUntil, IsLetter, IsUsual}
 use Rattle.flow_text.proofs.FieldLemmas.{fields_of-field, fields_of-blank, fields_of-last}
+use Rattle.flow_net.specs.declared.limits.TheConstants.{GREATEST_CAPACITY}
 
 -- one digit more
 step : (v d n w : ℕ) → v * 10 ^ suc n + (w * 10 + d) ≡ (v * 10 ^ n + w) * 10 + d
@@ -195,7 +196,7 @@ IsLeading-at text value start i low inside digit nine so =
 pub ends-pass : (nodes : ℕ) (code : FaultCode) (letter src dst number : List ℕ)
     → is_number src ≡ true → (1 ≤ value_of src) × (value_of src ≤ nodes)
     → is_number dst ≡ true → (1 ≤ value_of dst) × (value_of dst ≤ nodes)
-    → is_number number ≡ true → value_of number ≤ 18446744073709551615
+    → is_number number ≡ true → value_of number ≤ GREATEST_CAPACITY
     → first_failed (ends_tests nodes code (letter ∷ src ∷ dst ∷ number ∷ [])) ≡ None
 unfolding ends_tests
 ends-pass nodes code letter src dst number s s_in d d_in n n_in =
@@ -204,5 +205,5 @@ ends-pass nodes code letter src dst number s s_in d d_in n n_in =
     let d_least : nat_lt (value_of dst) 1 ≡ false = search (std_rules, arith) in
     let d_most : nat_lt nodes (value_of dst) ≡ false = search (std_rules, arith) in
     let n_least : nat_lt (value_of number) 0 ≡ false = search (std_rules, arith) in
-    let n_most : nat_lt 18446744073709551615 (value_of number) ≡ false = search (std_rules, arith) in
+    let n_most : nat_lt GREATEST_CAPACITY (value_of number) ≡ false = search (std_rules, arith) in
     simp (s, s_least, s_most, d, d_least, d_most, n, n_least, n_most)

@@ -14,6 +14,7 @@ use Rattle.flow_text.specs.Reading.{with_line, Adds}
 use Rattle.flow_text.specs.declared.faults.FaultCode.{FaultCode}
 use Rattle.flow_text.specs.declared.faults.FaultCode.TheVariants.{LineTooLong, WrongFields, BadNumber, NodeOutOfRange}
 use Rattle.flow_text.proofs.RuleLemmas.{of_comment, of_long, of_empty, of_fields}
+use Rattle.flow_text.specs.declared.limits.TheConstants.{LONGEST_LINE}
 
 or_parts : (a b : Option (ℕ × FaultCode)) → option_or a b ≡ None → (a ≡ None) × (b ≡ None)
 or_parts None b h = (refl, h)
@@ -26,7 +27,7 @@ at_none k (Some code) h = cc
 -- what holds of what is known, if each line without a fault keeps it
 module _ {K : Type 0} (rules : Rules K) (known_of : List (List ℕ) → K) (with_record : K → List (List ℕ) → K) (adds : Adds rules known_of with_record) (P : K → Type 0)
     (keeps : (k : K) (letter : List ℕ) (others : List (List ℕ)) → rules.record_fault k (letter ∷ others) ≡ None → P k → P (with_record k (letter ∷ others))) where
-  by_fields : (k : K) (line : List ℕ) (fields : List (List ℕ)) → fields_of line ≡ fields → is_comment line ≡ false → length line ≤ 200 → fault_of rules k line ≡ None → P k → P (with_line with_record k line)
+  by_fields : (k : K) (line : List ℕ) (fields : List (List ℕ)) → fields_of line ≡ fields → is_comment line ≡ false → length line ≤ LONGEST_LINE → fault_of rules k line ≡ None → P k → P (with_line with_record k line)
   by_fields k line [] is plain short fine p = subst P (of_empty rules with_record k line plain short is).1 p
   by_fields k line (letter ∷ others) is plain short fine p =
       let of = of_fields rules with_record k line letter others plain short is in
@@ -35,7 +36,7 @@ module _ {K : Type 0} (rules : Rules K) (known_of : List (List ℕ) → K) (with
   by_line : (k : K) (line : List ℕ) → fault_of rules k line ≡ None → P k → P (with_line with_record k line)
   by_line k line fine p = elim (cases_Bool (is_comment line)) [
     | inl comment ↦ subst P (of_comment rules with_record k line comment).1 p
-    | inr plain ↦ elim (cases_lt 200 (length line)) [
+    | inr plain ↦ elim (cases_lt LONGEST_LINE (length line)) [
       | inl long ↦ let no' : ◌≡◌ {A = Option FaultCode} None (Some LineTooLong) = sym fine ∙ of_long rules k line plain long in cc
       | inr short ↦ by_fields k line (fields_of line) refl plain (omega arith) fine p
     ]
@@ -94,10 +95,10 @@ pub record EndsInRange (nodes : ℕ) (fields : List (List ℕ)) : Type 0 where
 pub ends-passed : (nodes : ℕ) (code : FaultCode) (fields : List (List ℕ)) → first_failed (ends_tests nodes code fields) ≡ None → EndsInRange nodes fields
 unfolding ends_tests
 ends-passed nodes code fields h =
-    let last = number_tests (field_at fields 3) 0 18446744073709551615 code in
+    let last = number_tests (field_at fields 3) 0 GREATEST_CAPACITY code in
     let both = number_tests (field_at fields 2) 1 nodes NodeOutOfRange ++ last in
     let count = passed (not (length fields == 4)) WrongFields (first_failed (number_tests (field_at fields 1) 1 nodes NodeOutOfRange ++ both)) h in
     let src = number-passed (field_at fields 1) 1 nodes NodeOutOfRange both count.1 in
     let dst = number-passed (field_at fields 2) 1 nodes NodeOutOfRange last src.others in
-    let number = number-passed (field_at fields 3) 0 18446744073709551615 code [] dst.others in
+    let number = number-passed (field_at fields 3) 0 GREATEST_CAPACITY code [] dst.others in
     record { src_least = src.from; src_most = src.to; dst_least = dst.from; dst_most = dst.to; fits = number.to }

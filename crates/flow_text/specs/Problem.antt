@@ -13,6 +13,7 @@ use Rattle.flow_text.specs.Terminals.{Marks, is_marked}
 use Rattle.flow_text.specs.Rules.{Rules, names, is_kind, early_fault, whole_fault, accepted}
 use Rattle.flow_text.specs.declared.faults.FaultCode.{FaultCode}
 use Rattle.flow_text.specs.declared.faults.FaultCode.TheVariants.{UnknownLine, WrongFields, SecondProblemLine, ProblemLineMissing, NotMax, NodesOutOfRange, ArcsOutOfRange, NodeOutOfRange, NodeLineAfterArcLine, NotTerminal, TerminalsMissing, AlreadyTerminal, TooManyArcs, CapacityOutOfRange, TooFewArcs}
+use Rattle.flow_net.specs.declared.limits.TheConstants.{MOST_ARCS, MOST_NODES, FEWEST_NODES}
 
 -- NODES and ARCS of `p max NODES ARCS`
 abbrev pub size_of : List (List ℕ) → ℕ × ℕ
@@ -62,8 +63,8 @@ unfoldable pub size_tests : List (List ℕ) → List Test
 size_tests fields =
     (not (length fields == 4), WrongFields)
     ∷ (not (bytes_eq (field_at fields 1) (codes "max")), NotMax)
-    ∷ number_tests (field_at fields 2) 2 1000000 NodesOutOfRange
-    ++ number_tests (field_at fields 3) 0 4000000 ArcsOutOfRange
+    ∷ number_tests (field_at fields 2) FEWEST_NODES MOST_NODES NodesOutOfRange
+    ++ number_tests (field_at fields 3) 0 MOST_ARCS ArcsOutOfRange
 
 abbrev pub problem_tests : Known → List (List ℕ) → List Test
 problem_tests known fields = (is_some known.size, SecondProblemLine) ∷ size_tests fields

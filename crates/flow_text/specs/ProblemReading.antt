@@ -14,6 +14,7 @@ use Rattle.flow_text.specs.declared.faults.FaultCode.{FaultCode}
 use Rattle.flow_text.specs.declared.faults.ReadFault.{ReadFault}
 use Rattle.flow_text.specs.declared.machine.Refusal.{Refusal}
 use Rattle.flow_text.specs.declared.machine.Refusal.TheVariants.{Memory}
+use Rattle.flow_net.specs.declared.limits.TheConstants.{MOST_ARCS}
 
 -- the terminals after a node line with these fields
 abbrev pub with_node : Marks → List (List ℕ) → Marks
@@ -54,7 +55,7 @@ KeepsArc old arc (Err refusal) new = refusal ≡ Memory
 
 -- what a problem line declares is kept: at most as many arcs, at most 4,000,000, and terminals that are nodes
 pub record IsKept (net : Net) (declared : ℕ) (marks : Marks) : Type 0 where
-  pub declared_most : declared ≤ 4000000
+  pub declared_most : declared ≤ MOST_ARCS
   pub arcs_most : length net.arcs ≤ declared
   pub sources_within : All (IsNode net) marks.sources
   pub sinks_within : All (IsNode net) marks.sinks

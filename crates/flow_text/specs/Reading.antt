@@ -10,6 +10,7 @@ use Rattle.flow_text.specs.declared.faults.ReadFault.{ReadFault}
 use Rattle.flow_text.specs.declared.faults.ReadFault.TheVariants.{Fault, OutOfMemory}
 use Rattle.flow_text.specs.declared.machine.Refusal.{Refusal}
 use Rattle.flow_text.specs.declared.machine.Refusal.TheVariants.{Code, Memory}
+use Rattle.flow_text.specs.declared.limits.TheConstants.{LONGEST_LINE}
 
 -- what a reader keeps: its refusal, how many lines have ended, what they say, whether the line that goes on is a comment, and
 -- the bytes of that line
@@ -120,11 +121,11 @@ pub record Holds {K : Type 0} (old : State K) (tail : List ℕ) (new : State K) 
   pub skipped : old.comment ≡ true → (new.comment ≡ true) × (new.held ≡ old.held)
   pub in_comment : old.comment ≡ false → new.comment ≡ is_comment (old.held ++ tail)
   pub holds : old.comment ≡ false → new.held ≡ held_of (old.held ++ tail)
-  pub short : length new.held ≤ 200
+  pub short : length new.held ≤ LONGEST_LINE
 
 abbrev pub HoldsTail : {K : Type 0} → State K → List ℕ → Result (Unit {0}) Refusal → State K → Type 0
 HoldsTail old tail (Ok done) new = Holds old tail new
-HoldsTail old tail (Err refusal) new = (old.comment ≡ false) × (new.count ≡ old.count) × (is_comment (old.held ++ tail) ≡ false) × (200 < length (old.held ++ tail)) × (refusal ≡ Code LineTooLong)
+HoldsTail old tail (Err refusal) new = (old.comment ≡ false) × (new.count ≡ old.count) × (is_comment (old.held ++ tail) ≡ false) × (LONGEST_LINE < length (old.held ++ tail)) × (refusal ≡ Code LineTooLong)
 
 -- what a refusal says of the first fault, where so many lines have ended
 abbrev pub TellsAt : ℕ → Refusal → Option (ℕ × FaultCode) → Type 0

@@ -6,6 +6,7 @@ use Rattle.flow_text.specs.Lines.{ended, rest, lines}
 use Rattle.flow_text.specs.Fields.{fields_of, field_at}
 use Rattle.flow_text.specs.declared.faults.FaultCode.{FaultCode}
 use Rattle.flow_text.specs.declared.faults.FaultCode.TheVariants.{LineTooLong}
+use Rattle.flow_text.specs.declared.limits.TheConstants.{LONGEST_LINE, GREATEST_LINE_NUMBER}
 
 -- The rules of a kind of file: the fault of a line with these fields by what the lines before it say, and the fault of the
 -- end of input by what all lines say.
@@ -26,17 +27,17 @@ names letter fields = bytes_eq (field_at fields 0) letter
 abbrev pub is_kind : List ℕ → List ℕ → Bool
 is_kind letter line = not (is_comment line) && names letter (fields_of line)
 
--- the fault of a line: a comment has none, any other line has at most 200 bytes, and a line without fields is ignored
+-- the fault of a line: a comment has none, any other line isn't too long, and a line without fields is ignored
 unfoldable pub fault_of : {K : Type 0} → Rules K → K → List ℕ → Option FaultCode
 fault_of rules known line =
     if is_comment line then None
-    else if nat_lt 200 (length line) then Some LineTooLong
+    else if nat_lt LONGEST_LINE (length line) then Some LineTooLong
     else if not (nat_lt 0 (length (fields_of line))) then None
     else rules.record_fault known (fields_of line)
 
 -- a line number as it is told
 abbrev pub told : ℕ → ℕ
-told k = min k 18446744073709551615
+told k = min k GREATEST_LINE_NUMBER
 
 -- a fault with its line, if there is one
 abbrev pub at_line : ℕ → Option FaultCode → Option (ℕ × FaultCode)
@@ -50,7 +51,7 @@ first_fault rules known_of before (line ∷ after) =
 
 -- a line that goes on can be too long already
 abbrev pub unended_fault : List ℕ → Option FaultCode
-unended_fault line = if not (is_comment line) && nat_lt 200 (length line) then Some LineTooLong else None
+unended_fault line = if not (is_comment line) && nat_lt LONGEST_LINE (length line) then Some LineTooLong else None
 
 -- the early fault of a text that may go on: that of its ended lines, else that of the line which goes on
 unfoldable pub early_fault : {K : Type 0} → Rules K → (List (List ℕ) → K) → List ℕ → Option (ℕ × FaultCode)

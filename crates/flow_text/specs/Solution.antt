@@ -10,6 +10,7 @@ use Rattle.flow_text.specs.Rules.{Rules, names, is_kind, early_fault, whole_faul
 use Rattle.flow_text.specs.declared.faults.FaultCode.{FaultCode}
 use Rattle.flow_text.specs.declared.faults.FaultCode.TheVariants.{UnknownLine, WrongFields, SecondSolutionLine, SolutionLineMissing, TooManyFlowLines, FlowOutOfRange, ValueOutOfRange}
 use Rattle.flow_text.specs.declared.solutions.FlowLine.{FlowLine}
+use Rattle.flow_text.specs.declared.limits.TheConstants.{GREATEST_VALUE, MOST_FLOW_LINES}
 
 -- VALUE of `s VALUE`
 abbrev pub given_of : List (List ℕ) → ℕ
@@ -35,7 +36,7 @@ stated_of nodes before = record {
 
 -- the tests of a solution line, after that of a second one
 unfoldable pub value_tests : List (List ℕ) → List Test
-value_tests fields = (not (length fields == 2), WrongFields) ∷ number_tests (field_at fields 1) 0 73786976294838206460000000 ValueOutOfRange
+value_tests fields = (not (length fields == 2), WrongFields) ∷ number_tests (field_at fields 1) 0 GREATEST_VALUE ValueOutOfRange
 
 abbrev pub solution_tests : Stated → List (List ℕ) → List Test
 solution_tests stated fields = (is_some stated.value, SecondSolutionLine) ∷ value_tests fields
@@ -44,7 +45,7 @@ solution_tests stated fields = (is_some stated.value, SecondSolutionLine) ∷ va
 abbrev pub flow_tests : Stated → List (List ℕ) → List Test
 flow_tests stated fields =
     (not (is_some stated.value), SolutionLineMissing)
-    ∷ (nat_le 4000000 (length stated.lines), TooManyFlowLines)
+    ∷ (nat_le MOST_FLOW_LINES (length stated.lines), TooManyFlowLines)
     ∷ ends_tests stated.nodes FlowOutOfRange fields
 
 -- the fault of a line with these fields

@@ -10,6 +10,7 @@ use Rattle.flow_text.specs.declared.machine.Refusal.{Refusal}
 use Rattle.flow_text.specs.declared.machine.Refusal.TheVariants.{Memory}
 use Rattle.flow_text.specs.declared.solutions.FlowLine.{FlowLine}
 use Rattle.flow_text.specs.declared.solutions.Solution.{Solution}
+use Rattle.flow_text.specs.declared.limits.TheConstants.{GREATEST_VALUE, MOST_FLOW_LINES}
 
 -- what is known after a line with these fields
 unfoldable pub with_solution_record : Stated → List (List ℕ) → Stated
@@ -30,14 +31,14 @@ pub record IsLineWithin (nodes : ℕ) (line : FlowLine) : Type 0 where
 -- what the keeper of a flow line answers: whether the line has no fault and is kept
 abbrev pub KeepsLine : Stated → FlowLine → Result Bool Refusal → Stated → Type 0
 KeepsLine old line (Ok true) new =
-    (is_some old.value ≡ true) × (length old.lines < 4000000) × IsLineWithin old.nodes line × (new ≡ record old { lines = old.lines ++ line ∷ [] })
+    (is_some old.value ≡ true) × (length old.lines < MOST_FLOW_LINES) × IsLineWithin old.nodes line × (new ≡ record old { lines = old.lines ++ line ∷ [] })
 KeepsLine old line (Ok false) new = new ≡ old
 KeepsLine old line (Err refusal) new = refusal ≡ Memory
 
 -- the limits of a solution: VALUE, how many flow lines, and each of them
 pub record IsWithinLimits (nodes : ℕ) (written : Written) : Type 0 where
-  pub value_most : written.value ≤ 73786976294838206460000000
-  pub lines_most : length written.lines ≤ 4000000
+  pub value_most : written.value ≤ GREATEST_VALUE
+  pub lines_most : length written.lines ≤ MOST_FLOW_LINES
   pub lines_within : All (IsLineWithin nodes) written.lines
 
 -- what a solution's fields say

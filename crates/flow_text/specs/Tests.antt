@@ -4,6 +4,7 @@ use Rattle.flow_text.specs.Fields.{field_at}
 use Rattle.flow_text.specs.Digits.{is_number, value_of}
 use Rattle.flow_text.specs.declared.faults.FaultCode.{FaultCode}
 use Rattle.flow_text.specs.declared.faults.FaultCode.TheVariants.{WrongFields, BadNumber, NodeOutOfRange}
+use Rattle.flow_net.specs.declared.limits.TheConstants.{GREATEST_CAPACITY}
 
 -- whether a test fails, and the fault that it tells
 abbrev pub Test : Type 0
@@ -26,4 +27,4 @@ ends_tests nodes code fields =
     (not (length fields == 4), WrongFields)
     ∷ number_tests (field_at fields 1) 1 nodes NodeOutOfRange
     ++ number_tests (field_at fields 2) 1 nodes NodeOutOfRange
-    ++ number_tests (field_at fields 3) 0 18446744073709551615 code
+    ++ number_tests (field_at fields 3) 0 GREATEST_CAPACITY code

@@ -6,6 +6,7 @@ use Rattle.flow_text.specs.Lines.{is_end}
 use Rattle.flow_text.specs.Fields.{fields_of, is_blank}
 use Rattle.flow_text.specs.Digits.{value_of, is_number}
 use Rattle.flow_text.specs.Rules.{is_comment}
+use Rattle.flow_text.specs.declared.limits.TheConstants.{LONGEST_LINE}
 
 -- the first bytes, so many, are digits of this value
 pub record IsLeading (text : List ℕ) (value count : ℕ) : Type 0 where
@@ -30,7 +31,7 @@ pub record IsLetter (letter : ℕ) : Type 0 where
 -- the text begins with a line whose fields are the letter and numbers of these values, and which ends at this place
 pub record IsUsual (letter : ℕ) (text : List ℕ) (src dst number at : ℕ) : Type 0 where
   pub first : IsFirstByte (is_byte 10) text (Some at)
-  pub short : length (take at text) ≤ 200
+  pub short : length (take at text) ≤ LONGEST_LINE
   pub plain : is_comment (take at text) ≡ false
   pub src_field : List ℕ
   pub dst_field : List ℕ

@@ -13,7 +13,7 @@ mod tests;
 /// one that its order of tests meets first. A fault of the whole text is told at the line after the last.
 #[derive(Clone, Copy, Debug, PartialEq, Eq)]
 pub enum FaultCode {
-    /// A line that is no comment has more than 200 bytes, its byte 10 not counted.
+    /// A line that is no comment has more than `LONGEST_LINE` bytes, its byte 10 not counted.
     LineTooLong,
     /// A line has fields and is no comment, but its first field is none of the letters of the file: `p`, `n`, `a` in a
     /// problem, `s`, `f` in a solution.

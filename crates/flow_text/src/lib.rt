@@ -3,6 +3,7 @@
 
 mod faults;
 mod laws;
+mod limits;
 mod line_fields;
 mod machine;
 mod numbers;
@@ -23,6 +24,7 @@ pub use laws::{
     accepted_problem_is_within, accepted_solution_is_within, early_fault_stays,
     early_solution_fault_stays, lines_are_cut, lines_are_cut_one_way,
 };
+pub use limits::{GREATEST_LINE_NUMBER, GREATEST_VALUE, LONGEST_LINE, MOST_FLOW_LINES};
 pub use line_fields::Fields;
 pub use numbers::Number;
 pub use output::{

@@ -1,11 +1,12 @@
 //! The machine under both readers. It cuts a text that comes in pieces into lines and has each line judged, and keeps at most
-//! 200 bytes of the line that goes on, of a comment none.
+//! so many bytes of the line that goes on as a line may have, of a comment none.
 ghost use Rattle.std.specs.Prelude.{◌≡◌, ◌+◌, ◌++◌, ◌∷◌, [], List, ℕ, None, Some, Err, false, IsErrOf, IfOk, is_some, true, MatchOption};
 ghost use Rattle.flow_text.specs.Rules.{Rules, is_comment, fault_of, told};
 ghost use Rattle.flow_text.specs.Reading.{Adds, HasRead, Refuses, FeedsBy, ClosesBy, Judges, JudgesFirst, with_line, EndsLine, EndsFirst, HoldsTail, Takes, Finals, fault_from};
 ghost use Rattle.flow_text.specs.declared.faults.ReadFault.{ReadFault};
 
 use crate::faults::{FaultCode, ReadFault};
+use crate::limits::LONGEST_LINE;
 use crate::line_fields::Fields;
 use crate::scan::fields;
 use arrayvec::ArrayVec;
@@ -48,19 +49,20 @@ pub(crate) struct Machine<J> {
     count: u64,
     judge: J,
     comment: bool,
-    held: ArrayVec<u8, 200>,
+    held: ArrayVec<u8, LONGEST_LINE>,
 }
 
 impl<J> Model for Machine<J> {
     ghost use Rattle.std.specs.Prelude.{◌≡◌, ◌≤◌, length, true, false, []};
     ghost use Rattle.flow_text.specs.Rules.{is_comment};
+    ghost use Rattle.flow_text.specs.declared.limits.TheConstants.{LONGEST_LINE};
     ghost use Rattle.flow_text.specs.Reading.{State};
 
     ghost Value = { State J };
 
     ghost view = { λ m. record { refused = m.refused; count = m.count; known = m.judge; comment = m.comment; held = m.held.items } };
 
-    ghost invariant = { λ m. record { plain : is_comment m.held.items ≡ false; short : length m.held.items ≤ 200; empty : m.comment ≡ true → m.held.items ≡ [] } };
+    ghost invariant = { λ m. record { plain : is_comment m.held.items ≡ false; short : length m.held.items ≤ LONGEST_LINE; empty : m.comment ≡ true → m.held.items ≡ [] } };
 }
 
 // Whether a line is a comment, by its first byte.
@@ -94,7 +96,7 @@ fn judge_line<J: Judge>(judge: &mut J, line: &[u8]) -> Result<(), Refusal>
     if begins_comment(line) {
         return Ok(());
     }
-    if line.len() > 200 {
+    if line.len() > LONGEST_LINE {
         return Err(Refusal::Code(FaultCode::LineTooLong));
     }
     let mut others = fields(line);

@@ -1,5 +1,5 @@
 //! The judge of the lines of a problem.
-ghost use Rattle.std.specs.Prelude.{◌≡◌, ◌≤◌, [], ◌∷◌, ◌++◌, List, ℕ, Some, None, true, false, IfOk, MatchOption, MatchResult};
+ghost use Rattle.std.specs.Prelude.{◌≡◌, ◌≤◌, [], ◌∷◌, ◌++◌, List, ℕ, Some, None, true, false, length, IfOk, IfSome, MatchOption, MatchResult};
 ghost use Rattle.flow_text.specs.Tests.{first_failed};
 ghost use Rattle.flow_text.specs.Terminals.{is_marked, with_mark};
 ghost use Rattle.flow_text.specs.Problem.{Known, known_of, size_of, size_tests, problem_tests, node_of, mark_tests, node_tests, arc_of, arc_tests, end_tests, problem_rules, instance_of};
@@ -12,7 +12,7 @@ use crate::machine::{Judge, Refusal};
 use crate::records::{ends_in, number_in, three, two};
 use crate::terminals::Terminals;
 use crate::usual_lines::usual_line;
-use flow_net::{Arc, Network, Problem};
+use flow_net::{Arc, FEWEST_NODES, MOST_ARCS, MOST_NODES, Network, Problem};
 use std::alloc::Global;
 use std::marker::Model;
 
@@ -22,9 +22,9 @@ fn size_in(others: Fields<'_>) -> Result<(u32, u32), FaultCode>
     ensures tests { (kind : List ℕ) → MatchResult result
         (λ size. (first_failed (size_tests (kind ∷ others.entry)) ≡ None) × (size ≡ size_of (kind ∷ others.entry)))
         (λ e. first_failed (size_tests (kind ∷ others.entry)) ≡ Some e) }
-    ensures nodes_least { IfOk result (λ size. 2 ≤ size.0) }
-    ensures nodes_most { IfOk result (λ size. size.0 ≤ 1000000) }
-    ensures arcs_most { IfOk result (λ size. size.1 ≤ 4000000) }
+    ensures nodes_least { IfOk result (λ size. FEWEST_NODES ≤ size.0) }
+    ensures nodes_most { IfOk result (λ size. size.0 ≤ MOST_NODES) }
+    ensures arcs_most { IfOk result (λ size. size.1 ≤ MOST_ARCS) }
 {
     let Some((max, nodes, arcs)) = three(others) else {
         return Err(FaultCode::WrongFields);
@@ -32,8 +32,13 @@ fn size_in(others: Fields<'_>) -> Result<(u32, u32), FaultCode>
     if max != b"max".as_slice() {
         return Err(FaultCode::NotMax);
     }
-    let nodes = number_in(nodes, 2, 1_000_000, FaultCode::NodesOutOfRange)?;
-    let arcs = number_in(arcs, 0, 4_000_000, FaultCode::ArcsOutOfRange)?;
+    let nodes = number_in(
+        nodes,
+        FEWEST_NODES as u128,
+        MOST_NODES as u128,
+        FaultCode::NodesOutOfRange,
+    )?;
+    let arcs = number_in(arcs, 0, MOST_ARCS as u128, FaultCode::ArcsOutOfRange)?;
     Ok((nodes as u32, arcs as u32))
 }
 
@@ -83,9 +88,9 @@ impl Model for Declared {
 
 impl Declared {
     fn new(alloc: Global, nodes: u32, arcs: u32) -> Declared
-        requires nodes_least { 2 ≤ nodes }
-        requires nodes_most { nodes ≤ 1000000 }
-        requires arcs_most { arcs ≤ 4000000 }
+        requires nodes_least { FEWEST_NODES ≤ nodes }
+        requires nodes_most { nodes ≤ MOST_NODES }
+        requires arcs_most { arcs ≤ MOST_ARCS }
         ensures { result ≡ record { nodes = nodes; declared = arcs; marks = record { sources = []; sinks = [] }; arcs = [] } }
     {
         Declared {
@@ -96,7 +101,8 @@ impl Declared {
     }
 
     fn net(&self) -> &Network
-        ensures { known_net (known_with self.now) ≡ Some result.now }
+        ensures known { known_net (known_with self.now) ≡ Some result.now }
+        ensures most { length result.now.arcs ≤ MOST_ARCS }
     {
         &self.net
     }
@@ -258,7 +264,8 @@ impl ProblemLines {
 
     /// The network so far, if a problem line has ended.
     pub(crate) fn net(&self) -> Option<&Network>
-        ensures { MatchOption result (known_net self.now ≡ None) (λ net. known_net self.now ≡ Some net.now) }
+        ensures known { MatchOption result (known_net self.now ≡ None) (λ net. known_net self.now ≡ Some net.now) }
+        ensures most { IfSome result (λ net. length net.now.arcs ≤ MOST_ARCS) }
     {
         match &self.declared {
             None => None,

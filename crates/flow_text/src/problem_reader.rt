@@ -1,5 +1,5 @@
 //! The reader of problems.
-ghost use Rattle.std.specs.Prelude.{◌≡◌, ◌++◌, [], List, ℕ, Some, None, Err, IsErrOf, MatchOption};
+ghost use Rattle.std.specs.Prelude.{◌≡◌, ◌++◌, [], List, ℕ, Some, None, Err, IsErrOf, MatchOption, IfSome, length, ◌≤◌};
 ghost use Rattle.flow_text.specs.Lines.{ended};
 ghost use Rattle.flow_text.specs.Problem.{known_of, problem};
 ghost use Rattle.flow_text.specs.Reading.{Refuses};
@@ -9,13 +9,13 @@ ghost use Rattle.flow_text.specs.declared.faults.ReadFault.{ReadFault};
 use crate::faults::ReadFault;
 use crate::machine::Machine;
 use crate::problem_lines::ProblemLines;
-use flow_net::{Network, Problem};
+use flow_net::{MOST_ARCS, Network, Problem};
 use std::alloc::Global;
 use std::marker::Model;
 
 /// Reads a maximum flow problem of the DIMACS format (1990) from the pieces of its text, however it is cut.
 ///
-/// Of the line that goes on it keeps at most 200 bytes, of a comment none. It keeps one arc for each arc line and at most two
+/// Of the line that goes on it keeps at most `LONGEST_LINE` bytes, of a comment none. It keeps one arc for each arc line and at most two
 /// records for each node line. What a problem line declares takes no memory.
 #[derive(Drop)]
 pub struct ProblemReader {
@@ -71,9 +71,10 @@ impl ProblemReader {
     }
 
     /// The network so far: the nodes that the problem line declares, and the arcs of the arc lines that have ended. There is
-    /// none before a problem line has ended, and none after an error. It takes no memory.
+    /// none before a problem line has ended, and none after an error. It has at most `MOST_ARCS` arcs, and takes no memory.
     pub fn net(&self) -> Option<&Network>
         ensures lent { MatchOption result (lent_net self.now ≡ None) (λ net. lent_net self.now ≡ Some net.now) }
+        ensures most { IfSome result (λ net. length net.now.arcs ≤ MOST_ARCS) }
         ensures ended { (b : List ℕ) → Reads self.now b → MatchOption result (known_net (known_of (ended b)) ≡ None) (λ net. known_net (known_of (ended b)) ≡ Some net.now) }
     {
         match self.machine.judge() {

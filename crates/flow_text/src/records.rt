@@ -8,6 +8,7 @@ use crate::faults::FaultCode;
 use crate::line_fields::Fields;
 use crate::numbers::Number;
 use crate::scan::number;
+use flow_net::GREATEST_CAPACITY;
 
 /// The three fields that are left, if there are as many.
 pub(crate) fn three<'a>(mut fields: Fields<'a>) -> Option<(&'a [u8], &'a [u8], &'a [u8])>
@@ -87,6 +88,6 @@ pub(crate) fn ends_in(
     };
     let src = number_in(src, 1, nodes as u128, FaultCode::NodeOutOfRange)?;
     let dst = number_in(dst, 1, nodes as u128, FaultCode::NodeOutOfRange)?;
-    let number = number_in(number, 0, u64::MAX as u128, code)?;
+    let number = number_in(number, 0, GREATEST_CAPACITY as u128, code)?;
     Ok((src as u32, dst as u32, number as u64))
 }

@@ -1,11 +1,12 @@
 //! The judge of the lines of a solution.
-ghost use Rattle.std.specs.Prelude.{◌≡◌, ◌≤◌, [], ◌∷◌, ◌++◌, List, ℕ, Some, None, is_some, true, IfOk, MatchResult};
+ghost use Rattle.std.specs.Prelude.{◌≡◌, ◌≤◌, [], ◌∷◌, ◌++◌, List, ℕ, Some, None, is_some, true, length, IfOk, MatchResult};
 ghost use Rattle.flow_text.specs.Tests.{first_failed};
 ghost use Rattle.flow_text.specs.Solution.{stated_of, given_of, value_tests, solution_tests, flow_of, flow_tests, solution_rules, written_of};
 ghost use Rattle.flow_text.specs.Reading.{Judges};
 ghost use Rattle.flow_text.specs.SolutionReading.{KeepsLine, with_solution_record, written_in, IsWithinLimits};
 
 use crate::faults::FaultCode;
+use crate::limits::{GREATEST_VALUE, MOST_FLOW_LINES};
 use crate::line_fields::Fields;
 use crate::machine::{Judge, Refusal};
 use crate::records::{ends_in, number_in, one};
@@ -14,24 +15,18 @@ use crate::usual_lines::usual_line;
 use std::alloc::Global;
 use std::marker::Model;
 
-// The greatest value of a solution: 4,000,000 flow lines of 18,446,744,073,709,551,615 each.
-const MAX_VALUE: u128 = 73_786_976_294_838_206_460_000_000;
-
-// The greatest number of flow lines.
-const MAX_LINES: usize = 4_000_000;
-
 // What `s VALUE` says behind its letter.
 #[tactic(auto, unfolding(crate::specs::Solution::value_tests))]
 fn value_in(others: Fields<'_>) -> Result<u128, FaultCode>
     ensures tests { (kind : List ℕ) → MatchResult result
         (λ value. (first_failed (value_tests (kind ∷ others.entry)) ≡ None) × (value ≡ given_of (kind ∷ others.entry)))
         (λ e. first_failed (value_tests (kind ∷ others.entry)) ≡ Some e) }
-    ensures most { IfOk result (λ value. value ≤ MAX_VALUE) }
+    ensures most { IfOk result (λ value. value ≤ GREATEST_VALUE) }
 {
     let Some(value) = one(others) else {
         return Err(FaultCode::WrongFields);
     };
-    number_in(value, 0, MAX_VALUE, FaultCode::ValueOutOfRange)
+    number_in(value, 0, GREATEST_VALUE, FaultCode::ValueOutOfRange)
 }
 
 /// The judge of the lines of a solution to a problem of so many nodes.
@@ -91,7 +86,7 @@ impl SolutionLines {
         if self.value.is_none() {
             return Err(Refusal::Code(FaultCode::SolutionLineMissing));
         }
-        if self.lines.len() >= MAX_LINES {
+        if self.lines.len() >= MOST_FLOW_LINES {
             return Err(Refusal::Code(FaultCode::TooManyFlowLines));
         }
         match ends_in(others, self.nodes, FaultCode::FlowOutOfRange) {
@@ -112,7 +107,7 @@ impl SolutionLines {
         if src < 1 || nodes < src || dst < 1 || nodes < dst {
             return Ok(false);
         }
-        if self.value.is_none() || self.lines.len() >= MAX_LINES {
+        if self.value.is_none() || self.lines.len() >= MOST_FLOW_LINES {
             return Ok(false);
         }
         let line = FlowLine {
@@ -129,7 +124,8 @@ impl SolutionLines {
 
     /// The flow lines so far.
     pub(crate) fn lines(&self) -> &[FlowLine]
-        ensures { result.now ≡ self.now.lines }
+        ensures lines { result.now ≡ self.now.lines }
+        ensures most { length result.now ≤ MOST_FLOW_LINES }
     {
         self.lines.as_slice()
     }

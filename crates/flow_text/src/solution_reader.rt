@@ -1,5 +1,5 @@
 //! The reader of solutions.
-ghost use Rattle.std.specs.Prelude.{◌≡◌, ◌++◌, [], List, ℕ, Some, None, Err, IsErrOf, IfOk};
+ghost use Rattle.std.specs.Prelude.{◌≡◌, ◌++◌, [], List, ℕ, Some, None, Err, IsErrOf, IfOk, length, ◌≤◌};
 ghost use Rattle.flow_text.specs.Lines.{ended};
 ghost use Rattle.flow_text.specs.Solution.{stated_of, solution};
 ghost use Rattle.flow_text.specs.Reading.{Refuses};
@@ -7,6 +7,7 @@ ghost use Rattle.flow_text.specs.SolutionReading.{ReadsSolution, FeedsSolution, 
 ghost use Rattle.flow_text.specs.declared.faults.ReadFault.{ReadFault};
 
 use crate::faults::ReadFault;
+use crate::limits::MOST_FLOW_LINES;
 use crate::machine::Machine;
 use crate::solution_lines::SolutionLines;
 use crate::solutions::{FlowLine, Solution};
@@ -15,7 +16,7 @@ use std::marker::Model;
 
 /// Reads a solution of the DIMACS maximum flow format (1990) from the pieces of its text, however it is cut.
 ///
-/// Of the line that goes on it keeps at most 200 bytes, of a comment none. It keeps one record for each flow line.
+/// Of the line that goes on it keeps at most `LONGEST_LINE` bytes, of a comment none. It keeps one record for each flow line.
 #[derive(Drop)]
 pub struct SolutionReader {
     machine: Machine<SolutionLines>,
@@ -70,9 +71,10 @@ impl SolutionReader {
         }
     }
 
-    /// The flow lines that have ended, none after an error. It takes no memory.
+    /// The flow lines that have ended, at most `MOST_FLOW_LINES`, none after an error. It takes no memory.
     pub fn lines(&self) -> &[FlowLine]
         ensures lent { result.now ≡ lent_lines self.now }
+        ensures most { length result.now ≤ MOST_FLOW_LINES }
         ensures ended { (nodes : ℕ) (b : List ℕ) → ReadsSolution nodes self.now b → result.now ≡ (stated_of nodes (ended b)).lines }
     {
         match self.machine.judge() {

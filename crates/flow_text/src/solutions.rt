@@ -11,8 +11,8 @@ pub struct FlowLine {
     pub flow: u64,
 }
 
-/// A solution: the value of its solution line, at most 73,786,976,294,838,206,460,000,000, and its flow lines in order, at
-/// most 4,000,000.
+/// A solution: the value of its solution line, at most `GREATEST_VALUE`, and its flow lines in order, at most
+/// `MOST_FLOW_LINES`.
 #[derive(Debug, Drop)]
 pub struct Solution {
     /// The value of the flow, as the text claims it.

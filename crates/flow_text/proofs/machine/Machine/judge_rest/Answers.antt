@@ -3,6 +3,7 @@ use Rattle.std.proofs.lemmas.Bool.{cases_lt}
 use Rattle.flow_text.proofs.ReaderLemmas.{comment-append}
 use Rattle.flow_text.proofs.RuleLemmas.{of_long}
 use Rattle.flow_text.proofs.machine.Machine.judge_rest.Goals as goal
+use Rattle.flow_text.specs.declared.limits.TheConstants.{LONGEST_LINE}
 
 -- a list that isn't empty
 some : (n : ℕ) → false ≡ (n == 0) → 0 < n
@@ -13,7 +14,7 @@ above n m h = elim (cases_lt m n) [ inl lt ↦ lt | inr le ↦ absurd (true≢fa
 
 pub returns-in-Err : goal.returns-in-Err
 returns-in-Err g c =
-    let long : 200 < length c.self.inside.held.items + length c.args.tail.now = above _ 200 c.in-Err.ensures.variant.1 in
+    let long : LONGEST_LINE < length c.self.inside.held.items + length c.args.tail.now = above _ LONGEST_LINE c.in-Err.ensures.variant.1 in
     rw (← c.self.view_is) (record {
       plain = c.if-self.false;
       counts = refl;

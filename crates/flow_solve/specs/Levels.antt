@@ -181,8 +181,8 @@ abbrev pub IsNext : Packed → List ℕ → List ℕ → List ℕ → ℕ → �
 IsNext packed rank current xs v h = IsAdmissible packed.net.now (cell_of rank) (place_of packed.halves.now) (cell_of current) xs v h
 
 -- the looks for a node's next half-arc, but some, are paid by the half-arcs that they pass
-abbrev pub LooksOn : Packed → List ℕ → List ℕ → Table → List ℕ → Table → ℕ → Type 0
-LooksOn packed rank now before next after some =
+abbrev pub Looks : Packed → List ℕ → List ℕ → Table → List ℕ → Table → ℕ → Type 0
+Looks packed rank now before next after some =
     after.steps + left packed.net.now (cell_of rank) (place_of packed.halves.now) (cell_of next) any ≤ before.steps + left packed.net.now (cell_of rank) (place_of packed.halves.now) (cell_of now) any + some
 
 abbrev pub AreLevelsBy : Plan → List ℕ → List ℕ → List ℕ → Type 0
@@ -199,3 +199,7 @@ AreRankedIn phase = (v : ℕ) → IsTrue (seen phase.dist.now v) → cell_of pha
 abbrev pub HasRank : List ℕ → ℕ → List ℕ → ℕ → Type 0
 HasRank queue all rank p =
     (slice_index rank p ≡ FAR) ⊎ ((slice_index rank p < all) × (slice_index queue (slice_index rank p) ≡ p))
+
+-- the steps of a walk are paid by what the phase owes less after it
+abbrev pub Pays : Phase → List ℕ → Table → List ℕ → Table → Type 0
+Pays phase now before next after = after.steps + owes phase next after ≤ before.steps + owes phase now before

@@ -217,7 +217,19 @@ place_over plan h = head_of plan.packed.net.now h - 1
 abbrev pub room_over : Plan → List ℕ → ℕ → ℕ
 room_over plan flows h = residual plan.packed.net.now flows (crossed plan.direction h)
 
+-- it leads to a seen place, or nothing remains on it
+abbrev pub IsNoArrival : Plan → List ℕ → ℕ → List ℕ → Type 0
+IsNoArrival plan flows h dist = 1 ≤ room_over plan flows h → IsMarked dist (place_over plan h)
+
 -- each marked place is done
 abbrev pub HasDone : Plan → List ℕ → List ℕ → Type 0
 HasDone plan flows dist =
     (p : ℕ) → p < plan.packed.net.now.nodes → IsMarked dist p → IsDone plan.packed.net.now flows plan.direction dist p
+
+-- where enough were seen, the farthest place is one that the search looks out for
+abbrev pub EndsSoon : Plan → ℕ → List ℕ → Type 0
+EndsSoon plan wanted dist = 1 ≤ plan.enough → plan.enough ≤ wanted → EndsWithWanted plan.until.now dist
+
+-- the place in the queue whose half-arcs are followed next
+abbrev pub next_in : List ℕ → Progress → ℕ
+next_in queue progress = slice_index queue progress.followed

@@ -1,16 +1,16 @@
 //! Maximum flows and minimum cuts.
 //!
-//! Given a network with sources and sinks, a [`Method`] leaves a feasible flow of the greatest value in a table; after it
-//! [`reach`] and [`reach_back`] tell the least source side and the least sink side of the minimum cuts. By the theorem of
-//! Ford and Fulkerson (1956) the greatest value of a flow is the least capacity of a cut, and a flow has it where no path
-//! of the residual network leads from a source to a sink.
+//! Given a network with sources and sinks, a [`Method`] leaves a feasible flow of the greatest value in a table; after
+//! it [`reach`] and [`reach_back`] tell the least source side and the least sink side of the minimum cuts. By the
+//! theorem of Ford and Fulkerson (1956) the greatest value of a flow is the least capacity of a cut, and a flow has it
+//! where no path of the residual network leads from a source to a sink.
 //!
-//! Everything here goes over *half-arcs*: half-arc `2·i` runs along arc `i` and half-arc `2·i + 1` against it, where flow
-//! can be taken back. A solver gets at flows by the looks and pushes of [`flow_net::FlowTable`] alone, and each of these is
-//! a counted step; the ends of arcs it may read freely.
+//! Everything here goes over *half-arcs*: half-arc `2·i` runs along arc `i` and half-arc `2·i + 1` against it, where
+//! flow can be taken back. A solver gets at flows by the looks and pushes of [`flow_net::FlowTable`] alone, and each
+//! of these is a counted step; the ends of arcs it may read freely.
 //!
-//! No call takes memory or refuses: all work is done in the first [`work_len`] cells of a slice that the caller lends. A
-//! cell holds a half-arc, a place, a distance or a rank. With `n` nodes and `m` arcs there are, in this order:
+//! No call takes memory or refuses: all work is done in the first [`work_len`] cells of a slice that the caller lends.
+//! A cell holds a half-arc, a place, a distance or a rank. With `n` nodes and `m` arcs there are, in this order:
 //!
 //! | Cells | What they hold |
 //! |---|---|

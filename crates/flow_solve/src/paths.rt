@@ -1,8 +1,8 @@
 //! Augmentation along residual paths (Ford and Fulkerson 1956).
 //!
-//! A search backwards from the sinks gives each node that it sees the half-arc over which it came. These half-arcs lead on
-//! from any such node to a sink, each to a node nearer by one: the node's *trail*. So a path needs no cells of its own. It
-//! is walked twice, once to find the least residual capacity and once to push so much.
+//! A search backwards from the sinks gives each node that it sees the half-arc over which it came. These half-arcs
+//! lead on from any such node to a sink, each to a node nearer by one: the node's *trail*. So a path needs no cells of
+//! its own. It is walked twice, once to find the least residual capacity and once to push so much.
 ghost use Rattle.std.specs.Prelude.{◌≡◌, ℕ, ◌+◌, ◌-◌, ◌*◌, ◌<◌, ◌≤◌, IsTrue, IsFalse, IfSome, IfNone, length, slice_index, sum_by};
 ghost use Rattle.std.specs.List.{All};
 ghost use Rattle.flow_net.specs.Nets.{Net, IsNode};
@@ -128,8 +128,9 @@ fn augment(net: &Network, flow: &mut FlowTable, dist: &[u32], via: &[u32], sourc
 
 /// Augments along a residual path as long as there is one, with a search for each.
 ///
-/// It takes at most `4·(C + 1)·n·m` steps, `C` being the sum of the capacities: that is what is proved. As its paths are
-/// shortest ones, it takes no more than some `n·m` searches either (Edmonds and Karp 1972). It suits small networks.
+/// It takes at most `4·(C + 1)·n·m` steps, `C` being the sum of the capacities: that is what is proved. As its paths
+/// are shortest ones, it takes no more than some `n·m` searches either (Edmonds and Karp 1972). It suits small
+/// networks.
 pub struct Paths;
 
 impl Raise for Paths {

@@ -10,7 +10,7 @@ ghost use Rattle.flow_solve.specs.Packs.{IsPacked};
 ghost use Rattle.flow_solve.specs.Raising.{IsFlow};
 ghost use Rattle.flow_solve.specs.Searches.{AreCells, HasMissed};
 ghost use Rattle.flow_solve.specs.Steps.{OnlyLooks, TakesSteps};
-ghost use Rattle.flow_solve.specs.Levels.{AreDead, AreLevelsBy, AreLevelsOf, AreRankedIn, HasRank, IsAt, IsFarIn, IsPhase, KeepsGentle, owes};
+ghost use Rattle.flow_solve.specs.Levels.{AreDead, AreLevelsBy, AreLevelsOf, AreRankedIn, HasRank, IsAt, IsFarIn, IsPhase, KeepsGentle, Pays};
 
 use crate::packing::Packed;
 use crate::searching::{Direction, FAR, Plan, WANTED, search};
@@ -82,7 +82,7 @@ fn walk_all(
     ensures dead { AreDead phase.entry current.new }
     ensures gentle { KeepsGentle phase.entry flow.old.flows flow.new.flows }
     ensures never_lowered { flow.old.steps ≤ flow.new.steps }
-    ensures steps { flow.new.steps + owes phase.entry current.new flow.new ≤ flow.old.steps + owes phase.entry current.old flow.old }
+    ensures steps { Pays phase.entry current.old flow.old current.new flow.new }
 {
     let mut raised = value;
     for source in phase.s {
@@ -93,7 +93,8 @@ fn walk_all(
     raised
 }
 
-/// A phase after its search: every node begins at its first half-arc again, and each source walks. Answers the flow's value.
+/// A phase after its search: every node begins at its first half-arc again, and each source walks. Answers the flow's
+/// value.
 fn run_phase(
     phase: Phase<'_>,
     flow: &mut FlowTable,
@@ -117,8 +118,9 @@ fn run_phase(
     walk_all(phase, flow, current, path, value)
 }
 
-/// Raises a feasible flow by phases until a search backwards from the sinks sees no source, and answers its value, which
-/// is the greatest. `value` is the flow's value before. It takes at most `3·n²·m` steps, whatever flow it starts from.
+/// Raises a feasible flow by phases until a search backwards from the sinks sees no source, and answers its value,
+/// which is the greatest. `value` is the flow's value before. It takes at most `3·n²·m` steps, whatever flow it starts
+/// from.
 pub(crate) fn run_phases(
     packed: Packed<'_>,
     s: &[u32],

@@ -17,7 +17,8 @@ pub(crate) trait Raise {
     /// How many steps it takes at most, for each network.
     ghost steps_bound: { Net → ℕ };
 
-    /// Raises a flow of some value, whichever feasible flow it is, and answers the greatest value. It works in `5·n` cells.
+    /// Raises a flow of some value, whichever feasible flow it is, and answers the greatest value. It works in `5·n`
+    /// cells.
     fn raise(
         packed: Packed<'_>,
         s: &[u32],
@@ -37,7 +38,8 @@ pub(crate) trait Raise {
         ensures steps { flow.new.steps ≤ flow.old.steps + steps_bound packed.entry.net.now };
 }
 
-/// Packs the half-arcs behind the first `5·n` cells, and raises the flow that carries nothing. Answers the greatest value.
+/// Packs the half-arcs behind the first `5·n` cells, and raises the flow that carries nothing. Answers the greatest
+/// value.
 fn pack_and_raise<R: Raise>(
     net: &Network,
     s: &[u32],

@@ -70,8 +70,8 @@ fn comes_to<'a>(
     false
 }
 
-/// Whether the residual network of a feasible flow leads from a source to a sink, so that a flow of greater value exists.
-/// If not, `side` marks the nodes that lie in the source side of every minimum cut, cell `v - 1` for node `v`.
+/// Whether the residual network of a feasible flow leads from a source to a sink, so that a flow of greater value
+/// exists. If not, `side` marks the nodes that lie in the source side of every minimum cut, cell `v - 1` for node `v`.
 ///
 /// The flow stays. At most `2·m` steps; the cells of `work` past the first [`work_len`] stay.
 pub fn reach(
@@ -99,8 +99,8 @@ pub fn reach(
     comes_to(net, flow, Direction::Forwards, s, t, cells, side)
 }
 
-/// As [`reach`], from the sinks backwards: if it answers false, `side` marks the nodes that lie outside the source side of
-/// every minimum cut, and the other nodes are the source side of one.
+/// As [`reach`], from the sinks backwards: if it answers false, `side` marks the nodes that lie outside the source
+/// side of every minimum cut, and the other nodes are the source side of one.
 pub fn reach_back(
     net: &Network,
     s: &[u32],

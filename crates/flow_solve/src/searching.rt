@@ -1,11 +1,11 @@
 //! Breadth-first searches of the residual network: forwards from sources, or backwards from sinks.
 //!
 //! There is one loop for both directions. It walks the half-arcs that leave a node. Forwards it may go over such a
-//! half-arc, and backwards over its twin, which runs towards the node; in both cases to the node at the other end. It reads
-//! that end first, which is no step, and looks only if the node is unseen.
+//! half-arc, and backwards over its twin, which runs towards the node; in both cases to the node at the other end. It
+//! reads that end first, which is no step, and looks only if the node is unseen.
 //!
-//! A search can stop early: the nodes that it looks out for have a distance of their own while they are unseen, so that it
-//! counts them as it enters them.
+//! A search can stop early: the nodes that it looks out for have a distance of their own while they are unseen, so
+//! that it counts them as it enters them.
 ghost use Rattle.std.specs.Prelude.{◌⊎◌, ◌≡◌, ℕ, List, IsTrue, IfSome, IfNone, ◌+◌, ◌-◌, ◌*◌, ◌<◌, ◌≤◌, length, slice_index};
 ghost use Rattle.std.specs.List.{All};
 ghost use Rattle.flow_net.specs.Nets.{Net, IsNode};
@@ -14,7 +14,7 @@ ghost use Rattle.flow_net.specs.Flows.{Fits};
 ghost use Rattle.flow_net.specs.Residual.{head_of};
 ghost use Rattle.flow_solve.specs.Packs.{IsPacked, halves_of};
 ghost use Rattle.flow_solve.specs.Steps.{OnlyLooks};
-ghost use Rattle.flow_solve.specs.Searches.{twin_of, crossed, AreCells, Brings, EndsWithWanted, HasArrived, HasDone, HasFollowed, HasGrown, HasMissed, HasSearched, IsArrival, IsCount, IsMarked, IsNear, IsQueue, IsSearch, place_over, room_over, unseen_cell};
+ghost use Rattle.flow_solve.specs.Searches.{twin_of, crossed, AreCells, Brings, EndsSoon, HasArrived, HasDone, HasFollowed, HasGrown, HasMissed, HasSearched, IsArrival, IsCount, IsMarked, IsNear, IsNoArrival, IsQueue, IsSearch, next_in, place_over, unseen_cell};
 
 use crate::packing::Packed;
 use flow_net::{FlowTable, MOST_NODES, Network};
@@ -141,7 +141,7 @@ fn arrive(
     requires half { half < 2 * length plan.packed.net.now.arcs }
     ensures some { IfSome result (Brings plan.entry flow.old.flows half level) }
     ensures unseen { IfSome result (λ a. (a.place < length dist.now) × (WANTED ≤ slice_index dist.now a.place)) }
-    ensures none { IfNone result (1 ≤ room_over plan.entry flow.old.flows half → IsMarked dist.now (place_over plan.entry half)) }
+    ensures none { IfNone result (IsNoArrival plan.entry flow.old.flows half dist.now) }
     ensures looks { OnlyLooks flow.old flow.new 1 }
     ensures no_look { IsMarked dist.now (place_over plan.entry half) → flow.new.steps ≡ flow.old.steps }
 {
@@ -178,12 +178,12 @@ fn follow_all(
     requires cells { length dist.old ≡ plan.packed.net.now.nodes }
     requires search { IsSearch dist.old via.old queue.old progress }
     requires next { progress.followed < progress.seen }
-    requires near { IsNear dist.old (slice_index dist.old (slice_index queue.old progress.followed) + 1) }
+    requires near { IsNear dist.old (slice_index dist.old (next_in queue.old progress) + 1) }
     ensures search { IsSearch dist.new via.new queue.new result }
     ensures grown { HasGrown dist.old via.old queue.old progress dist.new via.new queue.new result }
-    ensures followed { HasFollowed plan.entry flow.old.flows (slice_index queue.old progress.followed) dist.old dist.new via.new }
+    ensures followed { HasFollowed plan.entry flow.old.flows (next_in queue.old progress) dist.old dist.new via.new }
     ensures next { result.followed ≡ progress.followed + 1 }
-    ensures looks { OnlyLooks flow.old flow.new (halves_of plan.entry.packed (slice_index queue.old progress.followed)) }
+    ensures looks { OnlyLooks flow.old flow.new (halves_of plan.entry.packed (next_in queue.old progress)) }
 {
     let Packed { net, first, halves } = plan.packed;
     let _ = net.nodes();
@@ -268,9 +268,9 @@ fn start_all(starts: &[u32], dist: &mut [u32], via: &mut [u32], queue: &mut [u32
     progress
 }
 
-/// Searches from the starts, over half-arcs with a residual capacity, until so many of the nodes to look out for are seen
-/// or no further node can be. Each node that is seen gets its distance, in half-arcs, and the half-arc over which the
-/// search came to it; `queue` has their places, the nearest first. At most one look at each half-arc.
+/// Searches from the starts, over half-arcs with a residual capacity, until so many of the nodes to look out for are
+/// seen or no further node can be. Each node that is seen gets its distance, in half-arcs, and the half-arc over which
+/// the search came to it; `queue` has their places, the nearest first. At most one look at each half-arc.
 pub(crate) fn search(
     plan: Plan<'_>,
     flow: &mut FlowTable,
@@ -286,7 +286,7 @@ pub(crate) fn search(
     ensures searched { HasSearched plan.entry flow.old.flows dist.new via.new }
     ensures whole { result.wanted < plan.entry.enough → HasDone plan.entry flow.old.flows dist.new }
     ensures missed { result.wanted ≡ 0 → 1 ≤ plan.entry.enough → HasMissed plan.entry flow.old.flows dist.new }
-    ensures soon { 1 ≤ plan.entry.enough → plan.entry.enough ≤ result.wanted → EndsWithWanted plan.entry.until.now dist.new }
+    ensures soon { EndsSoon plan.entry result.wanted dist.new }
     ensures count { IsCount plan.entry.until.now dist.new result.wanted }
     ensures queue { IsQueue dist.new queue.new result.seen }
     ensures looks { OnlyLooks flow.old flow.new (2 * length plan.entry.packed.net.now.arcs) }

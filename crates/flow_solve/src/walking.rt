@@ -7,7 +7,7 @@ ghost use Rattle.flow_net.specs.Flows.{Fits};
 ghost use Rattle.flow_net.specs.Residual.{tail_of, head_of, residual};
 ghost use Rattle.flow_net.specs.Paths.{IsApart, push_all};
 ghost use Rattle.flow_solve.specs.Packs.{IsPacked};
-ghost use Rattle.flow_solve.specs.Levels.{cell_of, HasLooked, IsAt, IsCurrent, IsDeadIn, IsFilling, IsNext, IsPhase, KeepsGentle, LooksOn, owes};
+ghost use Rattle.flow_solve.specs.Levels.{cell_of, HasLooked, IsAt, IsCurrent, IsDeadIn, IsFilling, IsNext, IsPhase, KeepsGentle, Looks, Pays};
 
 use crate::packing::Packed;
 use crate::searching::head;
@@ -71,8 +71,8 @@ struct Augmentation {
     node: u32,
 }
 
-/// Pushes along a path as much as remains on each of its half-arcs, and retreats to the first half-arc that this fills: the
-/// walk goes on from the node that it leaves, and keeps the half-arcs before it.
+/// Pushes along a path as much as remains on each of its half-arcs, and retreats to the first half-arc that this
+/// fills: the walk goes on from the node that it leaves, and keeps the half-arcs before it.
 fn augment(net: &Network, flow: &mut FlowTable, path: &[u32]) -> Augmentation
     requires fits { Fits net.now flow.old.flows }
     requires some { 1 ≤ length path.now }
@@ -114,8 +114,8 @@ fn admissible(
     ensures none { IfNone result (cell_of current.new node ≡ slice_index packed.entry.first.now node) }
     ensures flows { flow.new.flows ≡ flow.old.flows }
     ensures never_lowered { flow.old.steps ≤ flow.new.steps }
-    ensures steps_some { IfSome result (λ h. LooksOn packed.entry rank.now current.old flow.old current.new flow.new 1) }
-    ensures steps_none { IfNone result (LooksOn packed.entry rank.now current.old flow.old current.new flow.new 0) }
+    ensures steps_some { IfSome result (λ h. Looks packed.entry rank.now current.old flow.old current.new flow.new 1) }
+    ensures steps_none { IfNone result (Looks packed.entry rank.now current.old flow.old current.new flow.new 0) }
 {
     let _ = packed.net.nodes();
     let end = packed.first[node as usize];
@@ -172,7 +172,7 @@ pub(crate) fn walk(
     ensures gentle { KeepsGentle phase.entry flow.old.flows flow.new.flows }
     ensures risen { (v : ℕ) → cell_of current.old v ≤ cell_of current.new v }
     ensures never_lowered { flow.old.steps ≤ flow.new.steps }
-    ensures steps { flow.new.steps + owes phase.entry current.new flow.new ≤ flow.old.steps + owes phase.entry current.old flow.old }
+    ensures steps { Pays phase.entry current.old flow.old current.new flow.new }
 {
     let packed = phase.packed;
     let _ = packed.net.nodes();

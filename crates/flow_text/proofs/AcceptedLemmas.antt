@@ -20,15 +20,12 @@ use Rattle.flow_text.specs.Solution.{Stated, Written, stated_of, solution, solut
 use Rattle.flow_text.specs.SolutionReading.{with_solution_record, IsLineWithin, IsWithinLimits}
 use Rattle.flow_text.specs.declared.faults.FaultCode.{FaultCode}
 use Rattle.flow_text.specs.declared.faults.FaultCode.TheVariants.{UnknownLine, WrongFields, NotMax, NotTerminal, AlreadyTerminal, SecondProblemLine, TerminalsMissing, TooManyArcs, TooFewArcs, NodeLineAfterArcLine, SecondSolutionLine, SolutionLineMissing, TooManyFlowLines, NodesOutOfRange, ArcsOutOfRange, NodeOutOfRange, CapacityOutOfRange, FlowOutOfRange, ValueOutOfRange}
+use Rattle.flow_text.proofs.KindLemmas.{none_from}
 use Rattle.flow_text.proofs.ProblemLemmas.{Adds-problem, of_problem, of_node, of_arc, of_unknown}
 use Rattle.flow_text.proofs.SolutionLemmas.{Adds-solution, of_solution, of_flow, of_unknown as of_unknown_solution}
 use Rattle.flow_text.proofs.TerminalLemmas.{AreDistinct-source, AreDistinct-sink}
 use Rattle.flow_text.proofs.WithinLemmas.{by_text, accepted-parts, passed, number-passed, ends-passed}
 use Rattle.flow_text.specs.declared.limits.TheConstants.{GREATEST_VALUE, MOST_FLOW_LINES}
-
-none_from : {A : Type 0} (o : Option A) → is_some o ≡ false → o ≡ None
-none_from None h = refl
-none_from (Some x) h = cc
 
 right_of : (a b : Bool) → not (a || b) ≡ false → a ≡ false → b ≡ true
 right_of a true h is = refl

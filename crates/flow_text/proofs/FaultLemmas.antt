@@ -30,7 +30,7 @@ first_fault-push rules known_of ls l =
     first_fault-append rules known_of [] ls (l ∷ []) ∙ ap (option_or (first_fault rules known_of [] ls)) (or_none (at_line (length ls + 1) (fault_of rules (known_of ls) l)))
 
 -- the parts of an early fault
-or_parts : (a b : Option (ℕ × FaultCode)) → option_or a b ≡ None → (a ≡ None) × (b ≡ None)
+pub or_parts : (a b : Option (ℕ × FaultCode)) → option_or a b ≡ None → (a ≡ None) × (b ≡ None)
 or_parts None b h = (refl, h)
 or_parts (Some x) b h = cc
 

@@ -1,14 +1,9 @@
 -- The fault of a problem's line and what it adds, by its fields.
-use Rattle.std.proofs.Common.{◌≡◌, ◌<◌, ℕ, Bool, true, false, cond, not, ◌&&◌, ◌||◌, List, [], ◌∷◌, ◌++◌, length, refl, ap, ◌∙◌, sym, arith, Option, Some, None, inl, inr, nat_lt, nat_le, take, is_some, rules as std_rules, map, filter, append-nil}
+use Rattle.std.proofs.Common.{◌≡◌, ◌<◌, ℕ, Bool, true, false, cond, not, ◌&&◌, ◌||◌, List, [], ◌∷◌, ◌++◌, length, refl, ap, ◌∙◌, sym, arith, Option, Some, None, nat_lt, nat_le, take, rules as std_rules}
 use Rattle.std.proofs.lemmas.Grind.{common_steps}
 use Rattle.std.specs.Str.{bytes_eq}
 use Rattle.std.specs.Prelude.{codes}
-use Rattle.std.specs.List.{find}
-use Rattle.std.specs.Option.{option_map, option_or}
-use Rattle.std.proofs.lemmas.Bool.{cases_Bool}
-use Rattle.std.proofs.lemmas.List.{map-append}
-use Rattle.std.proofs.lemmas.List.Folds.{find-append}
-use Rattle.std.proofs.lemmas.List.Elements.{filter-append, All-append, All-cons}
+use Rattle.std.proofs.lemmas.List.Elements.{All-append, All-cons}
 use Rattle.flow_net.specs.Nets.{Net, IsNode, IsArcWithin}
 use Rattle.flow_net.specs.declared.networks.Arc.{Arc}
 use Rattle.flow_text.specs.Fields.{fields_of, field_at}
@@ -23,6 +18,7 @@ use Rattle.flow_text.specs.declared.machine.Refusal.{Refusal}
 use Rattle.flow_text.specs.declared.faults.FaultCode.{FaultCode}
 use Rattle.flow_text.specs.declared.faults.FaultCode.TheVariants.{UnknownLine, CapacityOutOfRange}
 use Rattle.flow_text.specs.UsualLines.{IsUsual}
+use Rattle.flow_text.proofs.KindLemmas.{both, none_from, has_field, first-push, list-push}
 use Rattle.flow_text.proofs.RuleLemmas.{of_fields}
 use Rattle.flow_text.proofs.UsualLemmas.{ends-pass}
 
@@ -79,55 +75,13 @@ pub Judges-with : (fault : Option FaultCode) (after new : Sized) (r : Result (Un
 Judges-with fault after new (Ok done) h = (h.0, ap known_with h.1)
 Judges-with fault after new (Err refusal) h = h
 
-both : (x y : Bool) → (not x && y) ≡ true → (x ≡ false) × (y ≡ true)
-both true y h = cc
-both false y h = (refl, h)
-
-none_from : (o : Option (ℕ × ℕ)) → is_some o ≡ false → o ≡ None
-none_from None h = refl
-none_from (Some x) h = cc
-
-has_field : (fields : List (List ℕ)) → names (codes "p") fields ≡ true → nat_lt 0 (length fields) ≡ true
-has_field [] h = cc
-has_field (f ∷ fields) h = search std_rules
-
 -- a second problem line has a fault
 no_size : (k : Known) (line : List ℕ) → is_kind (codes "p") line ≡ true → fault_of problem_rules k line ≡ None → k.size ≡ None
 unfolding fault_of problem_record_fault
 no_size k line is fine =
     let parts = both (is_comment line) (names (codes "p") (fields_of line)) is in
-    let has = has_field (fields_of line) parts.1 in
+    let has = has_field 112 (fields_of line) parts.1 in
     none_from k.size (grind (arith, common_steps, parts.0, parts.1, has, is, fine))
-
-or_none : (o : Option (List ℕ)) → option_or o None ≡ o
-or_none None = refl
-or_none (Some x) = refl
-
-find-push : (p : List ℕ → Bool) (before : List (List ℕ)) (line : List ℕ) → p line ≡ false → find p (before ++ line ∷ []) ≡ find p before
-find-push p before line h = find-append p before (line ∷ []) ∙ rw h (or_none (find p before))
-
-find-push-first : (p : List ℕ → Bool) (before : List (List ℕ)) (line : List ℕ) → p line ≡ true → find p before ≡ None → find p (before ++ line ∷ []) ≡ Some line
-find-push-first p before line h none = find-append p before (line ∷ []) ∙ rw (none, h) refl
-
-map_none : {A : Type 0} (f : List ℕ → A) (o : Option (List ℕ)) → option_map f o ≡ None → o ≡ None
-map_none f None h = refl
-map_none f (Some x) h = cc
-
--- what the first line of a kind says, with one line more, where a second of that kind isn't there
-pub first-push : {A : Type 0} (f : List ℕ → A) (p : List ℕ → Bool) (before : List (List ℕ)) (line : List ℕ) → (p line ≡ true → option_map f (find p before) ≡ None)
-    → option_map f (find p (before ++ line ∷ [])) ≡ cond (p line) (Some (f line)) (option_map f (find p before))
-first-push f p before line only = elim (cases_Bool (p line)) [
-  | inl is ↦ rw (find-push-first p before line is (map_none f (find p before) (only is)), is) refl
-  | inr isnt ↦ rw (find-push p before line isnt, isnt) refl
-]
-
--- what the lines of a kind say, with one line more
-pub list-push : {A : Type 0} (f : List ℕ → A) (q : List ℕ → Bool) (before : List (List ℕ)) (line : List ℕ)
-    → map f (filter q (before ++ line ∷ [])) ≡ cond (q line) (map f (filter q before) ++ f line ∷ []) (map f (filter q before))
-list-push f q before line = elim (cases_Bool (q line)) [
-  | inl is ↦ rw (filter-append q before (line ∷ []), is) (map-append f (filter q before) (line ∷ []))
-  | inr is ↦ rw (filter-append q before (line ∷ []), is) (ap (map f) (append-nil (filter q before)))
-]
 
 marks-push : (n s t : Bool) (x : ℕ) (sources sinks : List ℕ)
     → ◌≡◌ {A = Marks} (record { sources = cond (n && s) (sources ++ x ∷ []) sources; sinks = cond (n && t) (sinks ++ x ∷ []) sinks })

@@ -1,5 +1,5 @@
 -- The fault of a solution's line and what it adds, by its fields.
-use Rattle.std.proofs.Common.{◌≡◌, ℕ, Bool, true, false, cond, not, ◌&&◌, ◌||◌, List, [], ◌∷◌, ◌++◌, length, take, refl, ap, ◌∙◌, sym, ◌<◌, arith, Option, Some, None, nat_lt, nat_le, is_some, rules as std_rules}
+use Rattle.std.proofs.Common.{◌≡◌, ℕ, Bool, true, false, cond, not, ◌&&◌, ◌||◌, List, [], ◌∷◌, ◌++◌, length, take, refl, ap, ◌∙◌, sym, ◌<◌, arith, Some, None, nat_lt, nat_le, is_some, rules as std_rules}
 use Rattle.std.proofs.lemmas.Grind.{common_steps}
 use Rattle.std.specs.Str.{bytes_eq}
 use Rattle.std.specs.Prelude.{codes}
@@ -14,7 +14,7 @@ use Rattle.flow_text.specs.declared.faults.FaultCode.TheVariants.{UnknownLine, F
 use Rattle.flow_text.specs.UsualLines.{IsUsual}
 use Rattle.flow_text.proofs.RuleLemmas.{of_fields}
 use Rattle.flow_text.proofs.UsualLemmas.{ends-pass}
-use Rattle.flow_text.proofs.ProblemLemmas.{first-push, list-push}
+use Rattle.flow_text.proofs.KindLemmas.{both, none_from, has_field, first-push, list-push}
 use Rattle.flow_text.specs.declared.limits.TheConstants.{MOST_FLOW_LINES}
 
 -- a line has one kind at most
@@ -37,24 +37,12 @@ pub of_unknown : (k : Stated) (kind : List ℕ) (others : List (List ℕ)) → b
 unfolding solution_record_fault
 of_unknown k kind others s f = simp (s, f)
 
-both : (x y : Bool) → (not x && y) ≡ true → (x ≡ false) × (y ≡ true)
-both true y h = cc
-both false y h = (refl, h)
-
-none_from : (o : Option ℕ) → is_some o ≡ false → o ≡ None
-none_from None h = refl
-none_from (Some x) h = cc
-
-has_field : (fields : List (List ℕ)) → names (codes "s") fields ≡ true → nat_lt 0 (length fields) ≡ true
-has_field [] h = cc
-has_field (f ∷ fields) h = search std_rules
-
 -- a second solution line has a fault
 no_value : (k : Stated) (line : List ℕ) → is_kind (codes "s") line ≡ true → fault_of solution_rules k line ≡ None → k.value ≡ None
 unfolding fault_of solution_record_fault
 no_value k line is fine =
     let parts = both (is_comment line) (names (codes "s") (fields_of line)) is in
-    let has = has_field (fields_of line) parts.1 in
+    let has = has_field 115 (fields_of line) parts.1 in
     none_from k.value (grind (arith, common_steps, parts.0, parts.1, has, is, fine))
 
 -- what fields add, where a comment adds nothing

@@ -1,7 +1,6 @@
 -- What an accepted text says keeps the limits: each line without a fault keeps them.
 use Rattle.std.proofs.Common.{◌≡◌, ◌≤◌, ℕ, ◌==◌, Bool, true, false, not, ◌||◌, List, [], ◌∷◌, ◌++◌, length, refl, ◌∙◌, sym, subst, arith, inl, inr, append_assoc, append-nil, Option, Some, None, Ok, nat_lt}
 use Rattle.std.specs.Prelude.{if◌then◌else◌}
-use Rattle.std.specs.Option.{option_or}
 use Rattle.std.proofs.lemmas.Bool.{cases_Bool, cases_lt}
 use Rattle.std.proofs.lemmas.Grind.{common_steps}
 use Rattle.flow_net.specs.declared.limits.TheConstants.{GREATEST_CAPACITY}
@@ -13,12 +12,9 @@ use Rattle.flow_text.specs.Rules.{Rules, is_comment, fault_of, first_fault, whol
 use Rattle.flow_text.specs.Reading.{with_line, Adds}
 use Rattle.flow_text.specs.declared.faults.FaultCode.{FaultCode}
 use Rattle.flow_text.specs.declared.faults.FaultCode.TheVariants.{LineTooLong, WrongFields, BadNumber, NodeOutOfRange}
+use Rattle.flow_text.proofs.FaultLemmas.{or_parts}
 use Rattle.flow_text.proofs.RuleLemmas.{of_comment, of_long, of_empty, of_fields}
 use Rattle.flow_text.specs.declared.limits.TheConstants.{LONGEST_LINE}
-
-or_parts : (a b : Option (ℕ × FaultCode)) → option_or a b ≡ None → (a ≡ None) × (b ≡ None)
-or_parts None b h = (refl, h)
-or_parts (Some x) b h = cc
 
 at_none : (k : ℕ) (o : Option FaultCode) → at_line k o ≡ None → o ≡ None
 at_none k None h = refl

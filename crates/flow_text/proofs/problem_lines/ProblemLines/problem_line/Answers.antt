@@ -1,11 +1,8 @@
-use Rattle.std.proofs.Common.{sym, ◌∙◌, ◌≡◌, ap, ℕ, Some, None, false, Option, is_some, refl}
+use Rattle.std.proofs.Common.{sym, ◌∙◌, ◌≡◌, ap, ℕ, Some, None}
 use Rattle.flow_text.specs.Problem.{Known}
-use Rattle.flow_text.specs.ProblemReading.{Sized, known_from}
+use Rattle.flow_text.specs.ProblemReading.{known_from}
+use Rattle.flow_text.proofs.KindLemmas.{none_from}
 use Rattle.flow_text.proofs.problem_lines.ProblemLines.problem_line.Goals as goal
-
-none_from : (o : Option Sized) → is_some o ≡ false → o ≡ None
-none_from None h = refl
-none_from (Some sized) h = cc
 
 pub returns-in-Ok : goal.returns-in-Ok
 returns-in-Ok c = λ kind.

@@ -29,27 +29,40 @@ def written(path, *parts):
     return path
 
 
+def read_problem(flow, folder, lines):
+    """The instructions for each byte of these arc lines, of which the second half makes the difference.
+
+    A line that no problem has ends the run when all before it has been read, and nothing else been done.
+    """
+    start = f'p max {NODES} {len(lines)}\nn 1 s\nn {NODES} t\n'
+    half, whole = ''.join(lines[:len(lines) // 2]), ''.join(lines)
+    shorter, longer = (written(folder / name, start, text, 'x\n') for name, text in (('shorter', half), ('longer', whole)))
+    return (instructions(folder, flow, 'solve', longer) - instructions(folder, flow, 'solve', shorter)) / (len(whole) - len(half))
+
+
+def read_solution(flow, folder, lines):
+    """The same of flow lines."""
+    empty = written(folder / 'empty', f'p max {NODES} 0\nn 1 s\nn {NODES} t\n')
+    half, whole = ''.join(lines[:len(lines) // 2]), ''.join(lines)
+    shorter, longer = (written(folder / name, 's 1\n', text, 'x\n') for name, text in (('shorter', half), ('longer', whole)))
+    return (instructions(folder, flow, 'check', empty, longer) - instructions(folder, flow, 'check', empty, shorter)) / (len(whole) - len(half))
+
+
 def rows(flow, folder):
     """What is counted, and the figure."""
     rand = random.Random(1)
     arcs = [(rand.randint(1, NODES), rand.randint(1, NODES), rand.randint(1, 1000000)) for _ in range(2 * ARCS)]
-    lines = [f'a {tail} {head} {capacity}\n' for tail, head, capacity in arcs]
-    flows = [f'f {tail} {head} {capacity}\n' for tail, head, capacity in arcs]
-    half, whole = ''.join(lines[:ARCS]), ''.join(lines)
-    start = f'p max {NODES} {2 * ARCS}\nn 1 s\nn {NODES} t\n'
+    yield 'reading arc lines', read_problem(flow, folder, [f'a {tail} {head} {capacity}\n' for tail, head, capacity in arcs])
+    yield 'reading flow lines of a solution', read_solution(flow, folder, [f'f {tail} {head} {amount}\n' for tail, head, amount in arcs])
 
-    # A line that no problem has ends the run when all before it has been read, and nothing else been done.
-    shorter = written(folder / 'shorter', start, half, 'x\n')
-    longer = written(folder / 'longer', start, whole, 'x\n')
-    read = instructions(folder, flow, 'solve', longer) - instructions(folder, flow, 'solve', shorter)
-    yield 'reading arc lines', read / (len(whole) - len(half))
-
-    empty = written(folder / 'empty', f'p max {NODES} 0\nn 1 s\nn {NODES} t\n')
-    half, whole = ''.join(flows[:ARCS]), ''.join(flows)
-    shorter = written(folder / 'shorter', 's 1\n', half, 'x\n')
-    longer = written(folder / 'longer', 's 1\n', whole, 'x\n')
-    read = instructions(folder, flow, 'check', empty, longer) - instructions(folder, flow, 'check', empty, shorter)
-    yield 'reading flow lines of a solution', read / (len(whole) - len(half))
+    # What is read the general way.
+    for what, form in (
+        ('with two blanks between', 'a  {}  {}  {}\n'),
+        ('that end with bytes 13 and 10', 'a {} {} {}\r\n'),
+        ('with capacities of 30 digits', 'a {} {} {:030d}\n'),
+    ):
+        yield f'reading arc lines {what}', read_problem(flow, folder, [form.format(*arc) for arc in arcs])
+    yield 'reading comments', read_problem(flow, folder, ['c an arc follows\n'] * (2 * ARCS))
 
     # A fan from the source by way of each node to the sink, so that every arc is full.
     fan = [(1, node, rand.randint(1, 1000000)) for node in range(2, NODES)]
@@ -59,6 +72,19 @@ def rows(flow, folder):
     put = len(''.join(f'f {tail} {head} {capacity}\n' for tail, head, capacity in fan))
     more = instructions(folder, flow, 'solve', problem) - instructions(folder, flow, 'solve', '--value', problem)
     yield 'writing flow lines', more / put
+
+    # Without arcs the cut nearest the sources has one node on its source side, and the one nearest the sinks all but one.
+    empty = written(folder / 'empty', f'p max {NODES} 0\nn 1 s\nn {NODES} t\n')
+    nodes = len(''.join(f'n {node}\n' for node in range(2, NODES)))
+    yield 'writing node lines', (instructions(folder, flow, 'cut', '--sink', empty) - instructions(folder, flow, 'cut', empty)) / nodes
+
+    # The arcs into the sink are the narrower ones, so that they are the cut.
+    wide = [(1, node, 2000000) for node in range(2, NODES)]
+    narrow = [(node, NODES, rand.randint(1, 1000000)) for node in range(2, NODES)]
+    problem = written(folder / 'wide', f'p max {NODES} {2 * len(wide)}\nn 1 s\nn {NODES} t\n',
+                      ''.join(f'a {tail} {head} {capacity}\n' for tail, head, capacity in wide + narrow))
+    leaving = len(''.join(f'a {tail} {head} {capacity}\n' for tail, head, capacity in narrow))
+    yield 'writing arc lines', (instructions(folder, flow, 'cut', '--arcs', problem) - instructions(folder, flow, 'cut', problem)) / leaving
 
 
 def main():

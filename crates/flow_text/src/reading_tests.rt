@@ -5,6 +5,7 @@ use super::*;
 use crate::tests::{read_problem, read_solution};
 use std::alloc::Global;
 use std::process::Abort;
+use std::test::Fail;
 
 // Problems of two nodes without arcs, whose source is node 1 and whose sink is node 2.
 const PROBLEMS: [&str; 4] = [
@@ -111,4 +112,48 @@ fn what_was_read_is_lent(rt: HostRuntime) {
         }]
         .as_slice()
     );
+}
+
+// Arcs of a problem whose lines have the usual form or nearly so, with the longest numbers that such lines have.
+const ARCS: [(&str, u64); 8] = [
+    ("a 1 2 7\n", 7),
+    ("a 2 1 18446744073709551615\n", u64::MAX),
+    (
+        "a 0000000000000000001 0000000000000000002 9999999999999999999\n",
+        9_999_999_999_999_999_999,
+    ),
+    ("a 00000000000000000001 2 3\n", 3),
+    ("a  1 2 4\n", 4),
+    ("a 1 2 5 \n", 5),
+    ("a 1 2 6\r\n", 6),
+    ("a\t1 2 8\n", 8),
+];
+
+// A problem whose arc lines are these, then as many of the first.
+fn problem_of_arcs(alloc: Global) -> Result<String, Fail> {
+    let mut text = String::new(alloc);
+    text.push_str("p max 2 16\nn 1 s\nn 2 t\n")?;
+    for (line, _) in ARCS {
+        text.push_str(line)?;
+    }
+    for _ in 0..8 {
+        text.push_str(ARCS[0].0)?;
+    }
+    Ok(text)
+}
+
+#[test]
+fn arc_lines_usual_and_not(rt: HostRuntime) -> Result<(), Fail> {
+    let text = problem_of_arcs(rt.alloc())?;
+    for first in 0..text.len() + 1 {
+        let problem = read_problem(&rt, rt.alloc(), text.as_bytes(), first, 4096).expect(
+            &rt,
+            "a problem",
+        );
+        assert_eq!(&rt; problem.net().len(), 16);
+        for i in 0..8 {
+            assert_eq!(&rt; problem.net().arc(i).cap, ARCS[i as usize].1);
+        }
+    }
+    Ok(())
 }

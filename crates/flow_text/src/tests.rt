@@ -58,7 +58,7 @@ const SOLUTION_FAULTS: [(&str, u64, &str); 10] = [
 ];
 
 const TOO_MANY_FLOW_LINES: ReadFault = ReadFault::Fault {
-    line: 4_000_002,
+    line: MOST_FLOW_LINES as u64 + 2,
     code: FaultCode::TooManyFlowLines,
 };
 
@@ -183,26 +183,29 @@ fn solution_faults(rt: HostRuntime) {
 }
 
 #[test]
-fn lines_of_two_hundred_bytes(rt: HostRuntime) {
+fn lines_of_the_greatest_length(rt: HostRuntime) {
     for (more, code) in [
         (b"x".as_slice(), FaultCode::LineTooLong),
         (b"\n".as_slice(), FaultCode::UnknownLine),
     ] {
         let fault = ReadFault::Fault { line: 1, code };
         let mut problem = ProblemReader::new(rt.alloc());
-        assert_eq!(&rt; problem.feed(&[b'x'; 200]), Ok(()));
+        assert_eq!(&rt; problem.feed(&[b'x'; LONGEST_LINE]), Ok(()));
         assert_eq!(&rt; problem.feed(more), Err(fault));
         let mut solution = SolutionReader::new(rt.alloc(), 2);
-        assert_eq!(&rt; solution.feed(&[b'x'; 200]), Ok(()));
+        assert_eq!(&rt; solution.feed(&[b'x'; LONGEST_LINE]), Ok(()));
         assert_eq!(&rt; solution.feed(more), Err(fault));
     }
 }
 
-// A solution of one flow line more than there may be: 4 bytes, and 8 for each of 4,000,001 flow lines.
+// The bytes of a solution of one flow line more than there may be: 4, and 8 for each flow line.
+const TOO_MANY_BYTES: usize = 4 + 8 * (MOST_FLOW_LINES + 1);
+
+// Such a solution.
 fn too_long_solution(alloc: Global) -> Result<Vec<u8>, Fail> {
-    let mut text = Vec::with_capacity(alloc, 32_000_012)?;
+    let mut text = Vec::with_capacity(alloc, TOO_MANY_BYTES)?;
     text.extend_from_slice(b"s 0\n")?;
-    for _ in 0..4_000_001 {
+    for _ in 0..MOST_FLOW_LINES + 1 {
         text.extend_from_slice(b"f 1 2 0\n")?;
     }
     Ok(text)
@@ -235,14 +238,14 @@ fn first_refused(
 fn too_many_flow_lines_at_once(rt: HostRuntime) -> Result<(), Fail> {
     let text = too_long_solution(rt.alloc())?;
     let text = text.as_slice();
-    assert_eq!(&rt; text.len(), 32_000_012);
-    let refused = first_refused(&rt, rt.alloc(), text, 32_000_012);
+    assert_eq!(&rt; text.len(), TOO_MANY_BYTES);
+    let refused = first_refused(&rt, rt.alloc(), text, TOO_MANY_BYTES);
     assert_eq!(&rt; refused, Some((0, 0, TOO_MANY_FLOW_LINES)));
     // All but the last line are taken and kept.
     let (allowed, last) = text.split_at(text.len().saturating_sub(8));
     let mut reader = SolutionReader::new(rt.alloc(), 2);
     assert_eq!(&rt; reader.feed(allowed), Ok(()));
-    assert_eq!(&rt; reader.lines().len(), 4_000_000);
+    assert_eq!(&rt; reader.lines().len(), MOST_FLOW_LINES);
     assert_eq!(&rt; reader.feed(last), Err(TOO_MANY_FLOW_LINES));
     Ok(())
 }
@@ -252,17 +255,23 @@ fn too_many_flow_lines_at_once(rt: HostRuntime) -> Result<(), Fail> {
 fn too_many_flow_lines_byte_by_byte(rt: HostRuntime) -> Result<(), Fail> {
     let text = too_long_solution(rt.alloc())?;
     let refused = first_refused(&rt, rt.alloc(), text.as_slice(), 1);
-    assert_eq!(&rt; refused, Some((32_000_011, 4_000_000, TOO_MANY_FLOW_LINES)));
+    assert_eq!(&rt;
+        refused,
+        Some((TOO_MANY_BYTES - 1, MOST_FLOW_LINES, TOO_MANY_FLOW_LINES))
+    );
     Ok(())
 }
 
-// Pieces of 7 bytes cut lines of 8 bytes at each of their places: of 4,571,430 whole pieces and 2 bytes, these 2 are refused.
+// Pieces of 7 bytes cut lines of 8 bytes at each of their places: of the whole pieces and 2 bytes, these 2 are refused.
 // Two pieces cut at every place of the text would be 32 million readings of it, which is out of reach.
 #[test]
 fn too_many_flow_lines_in_pieces(rt: HostRuntime) -> Result<(), Fail> {
     let text = too_long_solution(rt.alloc())?;
     let refused = first_refused(&rt, rt.alloc(), text.as_slice(), 7);
-    assert_eq!(&rt; refused, Some((4_571_430, 4_000_000, TOO_MANY_FLOW_LINES)));
+    assert_eq!(&rt;
+        refused,
+        Some((TOO_MANY_BYTES / 7, MOST_FLOW_LINES, TOO_MANY_FLOW_LINES))
+    );
     Ok(())
 }
 

@@ -1,10 +1,11 @@
 -- How far a message was taken where a put of one of its parts failed.
-use Rattle.std.proofs.Common.{Result, Ok, Err, OnErr, ℕ, List, [], ◌∷◌, ◌++◌, refl, sym, ap, ◌∙◌, append_assoc, Option}
+use Rattle.std.proofs.Common.{Result, Ok, Err, OnOk, OnErr, ◌≡◌, Bool, ℕ, List, [], ◌∷◌, ◌++◌, refl, sym, ap, ◌∙◌, append_assoc, Option}
 use Rattle.std.specs.Prelude.{codes}
 use Rattle.std.specs.Io.KnownBytes.{Appends}
 use Rattle.std.proofs.KnownBytes.{Appends-trans}
-use Rattle.flow_tools.specs.Streams.{Stops}
-use Rattle.flow_tools.proofs.SendLemmas.{stops_early}
+use Rattle.flow_tools.specs.Streams.{IsPut, Stops}
+use Rattle.flow_tools.proofs.SendLemmas.{flags_on, stops_early}
+use Rattle.flow_tools.proofs.StreamParts.{stream}
 use Rattle.flow.specs.Messages.{cannot_open}
 
 -- a stream fails behind what it took
@@ -25,8 +26,23 @@ stops_in_name a b c name p s =
     stops_behind a b c (codes "flow: cannot open ") (name ++ 10 ∷ []) p (stops_early b c name (10 ∷ []) (name ++ 10 ∷ []) s refl)
 
 -- at the line's end
-pub stops_behind_name : {E : Type 0} (a b c d : Option (List ℕ)) (name : List ℕ) (r : Result (Unit {0}) E) → Appends a b (codes "flow: cannot open ") → Appends b c name
+stops_behind_name : {E : Type 0} (a b c d : Option (List ℕ)) (name : List ℕ) (r : Result (Unit {0}) E) → Appends a b (codes "flow: cannot open ") → Appends b c name
     → OnErr r (Stops c d (10 ∷ [])) → OnErr r (Stops a d (cannot_open name))
 stops_behind_name a b c d name (Ok x) p q s = tt
 stops_behind_name a b c d name (Err e) p q s =
     stops_behind a b d (codes "flow: cannot open ") (name ++ 10 ∷ []) p (stops_behind b c d name (10 ∷ []) q s)
+
+-- the whole line is put
+whole_put : {E : Type 0} (a b c d : Option (List ℕ)) (name : List ℕ) (r : Result (Unit {0}) E) → Appends a b (codes "flow: cannot open ") → Appends b c name
+    → OnOk r (Appends c d (10 ∷ [])) → OnOk r (Appends a d (cannot_open name))
+whole_put a b c d name (Ok x) p q s =
+    Appends-trans a b d (codes "flow: cannot open ") (name ++ 10 ∷ []) p (Appends-trans b c d name (10 ∷ []) q s)
+whole_put a b c d name (Err e) p q s = tt
+
+pub put_whole : {E : Type 0} (a b c d : Option (List ℕ)) (f g h : Bool) (name : List ℕ) (r : Result (Unit {0}) E) → Appends a b (codes "flow: cannot open ") → Appends b c name → g ≡ f
+    → IsPut (10 ∷ []) (stream c d g h) r → IsPut (cannot_open name) (stream a d f h) r
+put_whole a b c d f g h name r p q kept put = record {
+  ok = whole_put a b c d name r p q put.ok;
+  err = stops_behind_name a b c d name r p q put.err;
+  flag = flags_on f g h r kept put.flag;
+}

@@ -38,7 +38,7 @@ fn main(rt: HostRuntime) -> ExitCode {
     }
     let mut source = FileSystem::new(&rt);
     let status = program(alloc, texts.as_slice(), &mut source, &mut out, &mut err);
-    if status != 4 && out.inner.flush().is_err() {
+    if status != 4 && out.into_inner().flush().is_err() {
         let _ = put_all(&mut err, b"flow: write failed\n");
         return ExitCode::from(4);
     }

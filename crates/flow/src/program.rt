@@ -1,8 +1,7 @@
 //! The program over any files and streams.
 
-ghost use Rattle.std.specs.Prelude.{◌≡◌, OnOk, OnErr};
-ghost use Rattle.std.specs.Io.KnownBytes.{Appends};
-ghost use Rattle.flow_tools.specs.Streams.{Flags, Stops, over};
+ghost use Rattle.std.specs.Prelude.{◌≡◌};
+ghost use Rattle.flow_tools.specs.Streams.{IsPut, over};
 ghost use Rattle.flow_tools.specs.Exits.{IsTold};
 ghost use Rattle.flow.specs.Messages.{cannot_open, given_name};
 
@@ -73,7 +72,7 @@ fn run_files<S: Source, O: Output, E: Output>(
 // Tells that a file can't be opened, its name as it was given.
 fn refuse_file<E: Output>(name: Option<&str>, err: &mut E) -> u8
     ensures status { result ≡ 4 }
-    ensures told { IsTold (over (E.taken err.old) (E.taken err.new) (E.has_failed err.old) (E.has_failed err.new)) (cannot_open (given_name name.entry)) }
+    ensures told { IsTold (over (E.state err.old) (E.state err.new)) (cannot_open (given_name name.entry)) }
 {
     let name = name.unwrap_or("").as_bytes();
     let _ = put_cannot_open(err, name);
@@ -82,9 +81,7 @@ fn refuse_file<E: Output>(name: Option<&str>, err: &mut E) -> u8
 
 // Puts the line of a file that can't be opened, or a beginning of it.
 fn put_cannot_open<E: Output>(err: &mut E, name: &[u8]) -> Result<(), Failed>
-    ensures ok { OnOk result (Appends (E.taken err.old) (E.taken err.new) (cannot_open name.now)) }
-    ensures err { OnErr result (Stops (E.taken err.old) (E.taken err.new) (cannot_open name.now)) }
-    ensures flag { Flags (E.has_failed err.old) (E.has_failed err.new) result }
+    ensures { IsPut (cannot_open name.now) (over (E.state err.old) (E.state err.new)) result }
 {
     put_all(err, b"flow: cannot open ")?;
     put_all(err, name)?;
@@ -126,7 +123,7 @@ fn put_refusal<E: Output>(err: &mut E, text: &str) -> Result<(), Failed> {
 // Puts a message, as far as it is taken, and answers the status of a device or memory that failed.
 fn tell<E: Output>(err: &mut E, message: &[u8]) -> u8
     ensures status { result ≡ 4 }
-    ensures told { IsTold (over (E.taken err.old) (E.taken err.new) (E.has_failed err.old) (E.has_failed err.new)) message.now }
+    ensures told { IsTold (over (E.state err.old) (E.state err.new)) message.now }
 {
     let _ = put_all(err, message);
     4

@@ -1,7 +1,7 @@
 //! The program over files in memory: what words, files and refusals lead to.
 use crate::program::{Source, program};
 use flow_tools::Output;
-use flow_tools::memory::{Held, Script};
+use flow_tools::memory::{Collector, Script};
 use std::test::Fail;
 
 const NET_A: &[u8] = b"p max 4 5\nn 1 s\nn 4 t\na 1 2 3\na 1 3 2\na 2 3 1\na 2 4 2\na 3 4 3\n";
@@ -93,8 +93,8 @@ const WORDS: [Row; 16] = [
 #[test]
 fn words_lead_to_jobs_and_files(rt: HostRuntime) -> Result<(), Fail> {
     for (words, text, message, wanted) in WORDS {
-        let mut out: Held<4096> = Held::new(7, 4096);
-        let mut err: Held<4096> = Held::new(7, 4096);
+        let mut out: Collector<4096> = Collector::new(7, 4096);
+        let mut err: Collector<4096> = Collector::new(7, 4096);
         let status = program(rt.alloc(), words, &mut Memory, &mut out, &mut err);
         assert_eq!(rt; out.bytes(), text);
         assert_eq!(rt; err.bytes(), message);
@@ -113,8 +113,8 @@ fn refused_words_are_told(rt: HostRuntime) -> Result<(), Fail> {
         &["flow", "cut", "--sink=2"],
     ];
     for words in rows {
-        let mut out: Held<4096> = Held::new(7, 4096);
-        let mut err: Held<4096> = Held::new(7, 4096);
+        let mut out: Collector<4096> = Collector::new(7, 4096);
+        let mut err: Collector<4096> = Collector::new(7, 4096);
         let status = program(rt.alloc(), words, &mut Memory, &mut out, &mut err);
         assert_eq!(rt; status, 2);
         assert_eq!(rt; out.bytes(), b"".as_slice());
@@ -132,13 +132,13 @@ fn help_is_printed(rt: HostRuntime) -> Result<(), Fail> {
         &["flow", "--version"],
     ];
     for words in rows {
-        let mut out: Held<4096> = Held::new(7, 4096);
-        let mut err: Held<4096> = Held::new(7, 4096);
+        let mut out: Collector<4096> = Collector::new(7, 4096);
+        let mut err: Collector<4096> = Collector::new(7, 4096);
         let status = program(rt.alloc(), words, &mut Memory, &mut out, &mut err);
         assert_eq!(rt; status, 0);
         assert!(rt; !out.bytes().is_empty());
         assert_eq!(rt; err.bytes(), b"".as_slice());
-        let mut full: Held<4096> = Held::new(7, 3);
+        let mut full: Collector<4096> = Collector::new(7, 3);
         let status = program(rt.alloc(), words, &mut Memory, &mut full, &mut err);
         assert_eq!(rt; status, 4);
         assert!(rt; full.failed());
@@ -334,8 +334,8 @@ const MALICIOUS: [Malicious; 9] = [
 #[test]
 fn malicious_problems(rt: HostRuntime) -> Result<(), Fail> {
     for (command, text, answer, message, wanted) in MALICIOUS {
-        let mut out: Held<64> = Held::new(7, 64);
-        let mut err: Held<64> = Held::new(7, 64);
+        let mut out: Collector<64> = Collector::new(7, 64);
+        let mut err: Collector<64> = Collector::new(7, 64);
         let words = ["flow", command];
         let status = program(rt.alloc(), &words, &mut Given { text }, &mut out, &mut err);
         assert_eq!(rt; out.bytes(), answer);
@@ -353,8 +353,8 @@ fn a_comment_of_a_million_bytes(rt: HostRuntime) -> Result<(), Fail> {
     for _ in 0..1_000_000 {
         text.push(255)?;
     }
-    let mut out: Held<64> = Held::new(7, 64);
-    let mut err: Held<64> = Held::new(7, 64);
+    let mut out: Collector<64> = Collector::new(7, 64);
+    let mut err: Collector<64> = Collector::new(7, 64);
     let mut unended = Given {
         text: text.as_slice(),
     };
@@ -369,7 +369,7 @@ fn a_comment_of_a_million_bytes(rt: HostRuntime) -> Result<(), Fail> {
 
     text.push(b'\n')?;
     text.extend_from_slice(NET_A)?;
-    let mut silent: Held<64> = Held::new(7, 64);
+    let mut silent: Collector<64> = Collector::new(7, 64);
     let mut before = Given {
         text: text.as_slice(),
     };

@@ -8,7 +8,8 @@ use Rattle.flow_net.specs.Flows.{HasValue}
 use Rattle.flow_net.specs.Cuts.{IsMinimumCut, capacity, IsInLeastSourceSide, IsInLeastSinkSide}
 use Rattle.flow_text.specs.Problem.{early, problem}
 use Rattle.flow_text.specs.Solution.{early_solution, solution}
-use Rattle.flow_tools.specs.Streams.{Stream, over, Stops}
+use Rattle.flow_tools.specs.Streams.{Stream, Stops}
+use Rattle.flow_tools.proofs.StreamParts.{stream}
 use Rattle.flow_tools.specs.Reading.{IsRead}
 use Rattle.flow_tools.specs.Answers.{IsAnswer, IsFlowOf, IsCutOf}
 use Rattle.flow_tools.specs.Exits.{Puts, PutsAt, Runs, EndsAt, IsDoneWith, Checks, ChecksAt}
@@ -19,11 +20,11 @@ use Rattle.flow_tools.specs.declared.jobs.Stop.TheVariants.{Fault, ReadFailed, W
 
 module _ (job : Job) (p : Instance) (before after : Option (List ℕ)) (fb fa : Bool) (text : List ℕ) (answers : IsAnswer job p [] text 0) where
   -- the whole answer was put
-  pub puts_all : Appends before after text → fa ≡ fb → Puts job p [] (over before after fb fa) (Ok 0)
+  pub puts_all : Appends before after text → fa ≡ fb → Puts job p [] (stream before after fb fa) (Ok 0)
   puts_all put kept = record { o = text; put_o = put; exit = (kept, answers) }
 
   -- a put failed
-  pub puts_some : Stops before after text → fa ≡ true → Puts job p [] (over before after fb fa) (Err WriteFailed)
+  pub puts_some : Stops before after text → fa ≡ true → Puts job p [] (stream before after fb fa) (Err WriteFailed)
   puts_some put failed = record { o = put.sent; put_o = put.taken; exit = (failed, (text, 0, answers, put.part)) }
 
 module _ (p : Instance) (value : ℕ) (flows : List ℕ) (flow : IsFlowOf p value flows) (cells : List Bool) where
@@ -47,7 +48,7 @@ module _ (p : Instance) (value : ℕ) (flows : List ℕ) (flow : IsFlowOf p valu
 module _ (source : Stream) (q : Option (List ℕ)) (qf : Bool) (job : Job) where
   -- the problem is refused, or can't be read
   pub problem_stops : (w : Option (List ℕ)) (wf : Bool) (stop : Stop) → IsRead {T = Instance} early (λ b fault. problem b ≡ Err fault) (λ b p. problem b ≡ Ok p) source false (Err stop)
-      → Runs job source (over q q qf qf) (over w w wf wf) (Err stop)
+      → Runs job source (stream q q qf qf) (stream w w wf wf) (Err stop)
   problem_stops w wf stop r = record {
     p = r.text;
     q = [];
@@ -59,7 +60,7 @@ module _ (source : Stream) (q : Option (List ℕ)) (qf : Bool) (job : Job) where
     solution_read = inl (refl, refl);
     exit = exit_of stop r;
   } where
-    exit_of : (stop : Stop) (r : IsRead {T = Instance} early (λ b fault. problem b ≡ Err fault) (λ b p. problem b ≡ Ok p) source false (Err stop)) → EndsAt job source (over q q qf qf) (over w w wf wf) r.text [] [] (Err stop)
+    exit_of : (stop : Stop) (r : IsRead {T = Instance} early (λ b fault. problem b ≡ Err fault) (λ b p. problem b ≡ Ok p) source false (Err stop)) → EndsAt job source (stream q q qf qf) (stream w w wf wf) r.text [] [] (Err stop)
     exit_of (Fault true line code) r = absurd (true≢false r.judged.1)
     exit_of (Fault false line code) r = (r.judged.0, refl, refl, refl, refl, r.judged.2)
     exit_of ReadFailed r = (refl, refl, inl (r.judged.0, refl, refl, r.judged.1))
@@ -67,8 +68,8 @@ module _ (source : Stream) (q : Option (List ℕ)) (qf : Bool) (job : Job) where
     exit_of OutOfMemory r = (r.judged, refl, refl, refl)
 
   -- the problem is answered
-  pub answered : (out : Stream) (instance : Instance) (end : Result ℕ Stop) → IsDoneWith job (over q q qf qf) → IsRead {T = Instance} early (λ b fault. problem b ≡ Err fault) (λ b p. problem b ≡ Ok p) source false (Ok instance)
-      → Puts job instance [] out end → Runs job source (over q q qf qf) out end
+  pub answered : (out : Stream) (instance : Instance) (end : Result ℕ Stop) → IsDoneWith job (stream q q qf qf) → IsRead {T = Instance} early (λ b fault. problem b ≡ Err fault) (λ b p. problem b ≡ Ok p) source false (Ok instance)
+      → Puts job instance [] out end → Runs job source (stream q q qf qf) out end
   answered out instance end done r a = record {
     p = r.text;
     q = [];
@@ -80,7 +81,7 @@ module _ (source : Stream) (q : Option (List ℕ)) (qf : Bool) (job : Job) where
     solution_read = inl (refl, refl);
     exit = exit_of end a.o a.exit;
   } where
-    exit_of : (end : Result ℕ Stop) (o : List ℕ) → PutsAt job instance [] out o end → EndsAt job source (over q q qf qf) out r.text [] o end
+    exit_of : (end : Result ℕ Stop) (o : List ℕ) → PutsAt job instance [] out o end → EndsAt job source (stream q q qf qf) out r.text [] o end
     exit_of (Ok status) o x = (r.judged.0, done, x.0, (instance, r.judged.1, x.1))
     exit_of (Err (Fault told line code)) o x = absurd x
     exit_of (Err ReadFailed) o x = absurd x
@@ -113,7 +114,7 @@ module _ (source given out : Stream) (feasible_only : Bool) (instance : Instance
 module _ (feasible_only : Bool) (instance : Instance) (given : Stream) (w : Option (List ℕ)) (wf : Bool) where
   -- the solution is refused, or can't be read
   pub solution_stops : {T : Type 0} (accepts : List ℕ → T → Type 0) (stop : Stop) → IsRead {T = T} (λ b. early_solution b instance.net.nodes) (λ b fault. solution b instance.net.nodes ≡ Err fault) accepts given true (Err stop)
-      → Checks feasible_only instance given (over w w wf wf) (Err stop)
+      → Checks feasible_only instance given (stream w w wf wf) (Err stop)
   solution_stops accepts stop r = record {
     q = r.text;
     o = [];
@@ -122,7 +123,7 @@ module _ (feasible_only : Bool) (instance : Instance) (given : Stream) (w : Opti
     one_pass = r.one_pass;
     exit = exit_of stop r;
   } where
-    exit_of : (stop : Stop) (r : IsRead (λ b. early_solution b instance.net.nodes) (λ b fault. solution b instance.net.nodes ≡ Err fault) accepts given true (Err stop)) → ChecksAt feasible_only instance given (over w w wf wf) r.text [] (Err stop)
+    exit_of : (stop : Stop) (r : IsRead (λ b. early_solution b instance.net.nodes) (λ b fault. solution b instance.net.nodes ≡ Err fault) accepts given true (Err stop)) → ChecksAt feasible_only instance given (stream w w wf wf) r.text [] (Err stop)
     exit_of (Fault false line code) r = absurd (true≢false (sym r.judged.1))
     exit_of (Fault true line code) r = (r.judged.0, refl, refl, r.judged.2)
     exit_of ReadFailed r = (r.judged.0, refl, refl, r.judged.1)

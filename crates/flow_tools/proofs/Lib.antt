@@ -1,3 +1,4 @@
+pub mod StreamParts
 pub mod PullLemmas
 pub mod SendLemmas
 pub mod LineLemmas

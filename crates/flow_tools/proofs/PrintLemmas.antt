@@ -1,5 +1,5 @@
 -- Which line is the next.
-use Rattle.std.proofs.Common.{◌≡◌, ◌+◌, ◌<◌, ℕ, Bool, true, false, List, [], ◌++◌, length, filter, get_or, slice_index, refl, sym, ◌∙◌, arith, Option}
+use Rattle.std.proofs.Common.{◌≡◌, ◌+◌, ◌<◌, ℕ, Bool, true, false, not, List, [], ◌++◌, length, filter, get_or, slice_index, refl, sym, ◌∙◌, arith, Option}
 use Rattle.std.specs.List.{flat_map, zip, range_with_len}
 use Rattle.std.proofs.lemmas.Slice.Zip.{get_or-zip, length-zip}
 use Rattle.std.proofs.lemmas.List.FromFn.{get_or-range_with_len}
@@ -38,6 +38,14 @@ module _ (p : Arc → Bool) (net : Net) (i : ℕ) (arc : Arc) where
 pub value_text_is : (net : Net) (value : ℕ) (flows : List ℕ) (value_only : Bool) → value_only ≡ true → solution_line value ≡ solution_text value_only net value flows
 unfolding value_text
 value_text_is net value flows value_only e = rw e refl
+
+pub false_of_not : (b : Bool) → not b ≡ true → b ≡ false
+false_of_not true e = sym e
+false_of_not false e = refl
+
+pub true_of_not : (b : Bool) → not b ≡ false → b ≡ true
+true_of_not true e = refl
+true_of_not false e = sym e
 
 -- The whole texts, from their first line.
 module _ (net : Net) (value : ℕ) (first : List ℕ) (begun : first ≡ solution_line value) where

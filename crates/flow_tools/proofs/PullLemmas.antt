@@ -5,7 +5,7 @@ use Rattle.std.proofs.KnownBytes.{Consumes-nil, Consumes-trans, Consumes-kept}
 use Rattle.flow_text.specs.declared.faults.FaultCode.{FaultCode}
 use Rattle.flow_text.specs.declared.faults.ReadFault.{ReadFault}
 use Rattle.flow_text.specs.declared.faults.ReadFault.TheVariants.{Fault, OutOfMemory}
-use Rattle.flow_tools.specs.Streams.{over}
+use Rattle.flow_tools.proofs.StreamParts.{stream}
 use Rattle.flow_tools.specs.Reading.{FeedsOn, FinishesAs, IsOnePass, IsRead, stop_for}
 use Rattle.flow_tools.specs.declared.jobs.Stop.{Stop}
 use Rattle.flow_tools.specs.declared.jobs.Stop.TheVariants.{ReadFailed}
@@ -42,7 +42,7 @@ module _ (early : List ℕ → Option (ℕ × FaultCode)) (fed : List ℕ → Ty
 
   -- a pull fails
   pub pull_fails : {T : Type 0} (has_fault : List ℕ → ℕ × FaultCode → Type 0) (accepts : List ℕ → T → Type 0) (solution : Bool) → Keeps mid after → fa ≡ true
-      → IsRead {T = T} early has_fault accepts (over before after fb fa) solution (Err ReadFailed)
+      → IsRead {T = T} early has_fault accepts (stream before after fb fa) solution (Err ReadFailed)
   pull_fails has_fault accepts solution kept failed = record {
     text = so_far.text;
     delivered = Consumes-kept before mid after so_far.text so_far.delivered kept;
@@ -53,7 +53,7 @@ module _ (early : List ℕ → Option (ℕ × FaultCode)) (fed : List ℕ → Ty
   -- the next piece is refused
   pub refused : {T : Type 0} (has_fault : List ℕ → ℕ × FaultCode → Type 0) (accepts : List ℕ → T → Type 0) (solution : Bool) (fault : ReadFault) (result : Stop) (fed_more : List ℕ → Type 0) (piece : List ℕ)
       → length piece ≤ 4096 → Consumes mid after piece → fa ≡ fm → ((b : List ℕ) → fed b → FeedsOn (early (b ++ piece)) (fed_more (b ++ piece)) (Err fault)) → result ≡ stop_for solution fault
-      → IsRead {T = T} early has_fault accepts (over before after fb fa) solution (Err result)
+      → IsRead {T = T} early has_fault accepts (stream before after fb fa) solution (Err result)
   refused has_fault accepts solution (Fault line code) result fed_more piece short pulled held fails e = rw e (record {
     text = so_far.text ++ piece;
     delivered = Consumes-trans before mid after so_far.text piece so_far.delivered pulled;
@@ -72,7 +72,7 @@ module _ (early : List ℕ → Option (ℕ × FaultCode)) (fed : List ℕ → Ty
     delivered_all = rw append-nil at (Consumes-trans before mid after so_far.text [] so_far.delivered pulled)
 
     -- the input ends, and the text is accepted
-    pub accepted : (value : T) → ((b : List ℕ) → fed b → FinishesAs (has_fault b) (accepts b) (Ok value)) → IsRead early has_fault accepts (over before after fb fa) solution (Ok value)
+    pub accepted : (value : T) → ((b : List ℕ) → fed b → FinishesAs (has_fault b) (accepts b) (Ok value)) → IsRead early has_fault accepts (stream before after fb fa) solution (Ok value)
     accepted value finishes = record {
       text = so_far.text;
       delivered = delivered_all;
@@ -82,7 +82,7 @@ module _ (early : List ℕ → Option (ℕ × FaultCode)) (fed : List ℕ → Ty
 
     -- the input ends, and the text is refused
     pub refused_at_end : (fault : ReadFault) (result : Stop) → ((b : List ℕ) → fed b → FinishesAs (has_fault b) (accepts b) (Err fault)) → result ≡ stop_for solution fault
-        → IsRead {T = T} early has_fault accepts (over before after fb fa) solution (Err result)
+        → IsRead {T = T} early has_fault accepts (stream before after fb fa) solution (Err result)
     refused_at_end (Fault line code) result finishes e = rw e (record {
       text = so_far.text;
       delivered = delivered_all;

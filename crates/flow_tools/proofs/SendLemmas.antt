@@ -1,9 +1,10 @@
 -- What goes on holding of a text that is sent in parts.
-use Rattle.std.proofs.Common.{Result, Ok, Err, OnOk, OnErr, ◌-◌, arith, ◌≡◌, ℕ, List, [], ◌++◌, length, take, drop, refl, sym, ap, ◌∙◌, append_assoc, take-append-drop, Option}
+use Rattle.std.proofs.Common.{Result, Ok, Err, OnOk, OnErr, ◌-◌, arith, ◌≡◌, ℕ, List, [], ◌++◌, length, take, drop, refl, sym, ap, ◌∙◌, append_assoc, take-append-drop, Option, Bool}
 use Rattle.std.specs.Io.KnownBytes.{Appends}
 use Rattle.std.proofs.KnownBytes.{Appends-nil, Appends-trans}
 use Rattle.std.proofs.lemmas.Slice.{between_to_end}
-use Rattle.flow_tools.specs.Streams.{Sends, Stops}
+use Rattle.flow_tools.specs.Streams.{Flags, IsPut, Sends, Stops}
+use Rattle.flow_tools.proofs.StreamParts.{stream}
 
 pub sends_start : (a : Option (List ℕ)) (text : List ℕ) → Sends a a text text
 sends_start a text = record { sent = []; taken = Appends-nil a; whole = refl }
@@ -65,18 +66,32 @@ on_err (Ok x) p = tt
 on_err (Err e) p = p
 
 -- what was held is put: all of the text was taken, or a beginning of it
-pub put_ok : {E : Type 0} (a b c : Option (List ℕ)) (held text bytes : List ℕ) (r : Result (Unit {0}) E) → Sends a b held text → bytes ≡ held → OnOk r (Appends b c bytes) → OnOk r (Appends a c text)
+put_ok : {E : Type 0} (a b c : Option (List ℕ)) (held text bytes : List ℕ) (r : Result (Unit {0}) E) → Sends a b held text → bytes ≡ held → OnOk r (Appends b c bytes) → OnOk r (Appends a c text)
 put_ok a b c held text bytes (Ok x) s e p = sends_all a b c held text s (rw (← e) p)
 put_ok a b c held text bytes (Err x) s e p = tt
 
-pub put_err : {E : Type 0} (a b c : Option (List ℕ)) (held text bytes : List ℕ) (r : Result (Unit {0}) E) → Sends a b held text → bytes ≡ held → OnErr r (Stops b c bytes) → OnErr r (Stops a c text)
+put_err : {E : Type 0} (a b c : Option (List ℕ)) (held text bytes : List ℕ) (r : Result (Unit {0}) E) → Sends a b held text → bytes ≡ held → OnErr r (Stops b c bytes) → OnErr r (Stops a c text)
 put_err a b c held text bytes (Ok x) s e p = tt
 put_err a b c held text bytes (Err x) s e p = stops_in a b c held text s (rw (← e) p)
 
--- a line more is held, and none more taken
-pub sends_with : (a b : Option (List ℕ)) (held text line : List ℕ) → Sends a b held text → Sends a b (held ++ line) (text ++ line)
-sends_with a b held text line s = record { sent = s.sent; taken = s.taken; whole = ap (λ l. l ++ line) s.whole ∙ append_assoc s.sent held line }
+-- a flag over two calls
+pub flags_on : {E : Type 0} (f g h : Bool) (r : Result (Unit {0}) E) → g ≡ f → Flags g h r → Flags f h r
+flags_on f g h (Ok x) e p = p ∙ e
+flags_on f g h (Err x) e p = p
 
--- a stream fails at some of what was held, and so of what is held with a line more
+-- a text of which some waits is put once what waits is put
+pub waiting_put : {E : Type 0} (a b c : Option (List ℕ)) (f g h : Bool) (waiting text bytes : List ℕ) (r : Result (Unit {0}) E) → Sends a b waiting text → g ≡ f → bytes ≡ waiting
+    → IsPut bytes (stream b c g h) r → IsPut text (stream a c f h) r
+waiting_put a b c f g h waiting text bytes r sent kept e put = record {
+  ok = put_ok a b c waiting text bytes r sent e put.ok;
+  err = put_err a b c waiting text bytes r sent e put.err;
+  flag = flags_on f g h r kept put.flag;
+}
+
+-- a line more waits, and none more is taken
+pub sends_with : (a b : Option (List ℕ)) (waiting text line : List ℕ) → Sends a b waiting text → Sends a b (waiting ++ line) (text ++ line)
+sends_with a b waiting text line s = record { sent = s.sent; taken = s.taken; whole = ap (λ l. l ++ line) s.whole ∙ append_assoc s.sent waiting line }
+
+-- a stream fails at some of what waited, and so of what waits with a line more
 pub stops_with : (a b : Option (List ℕ)) (text line : List ℕ) → Stops a b text → Stops a b (text ++ line)
 stops_with a b text line s = stops_early a b text line (text ++ line) s refl

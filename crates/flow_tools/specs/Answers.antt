@@ -45,7 +45,7 @@ abbrev pub source_side_text : Bool → Net → ℕ → (ℕ → Bool) → List �
 source_side_text arcs net value X = if arcs then cut_text_with_arcs net value X else cut_text net value X
 
 -- What `solve` puts: the value, and some flow that has it.
-pub record IsSolved (p : Instance) (value_only : Bool) (text : List ℕ) : Type 0 where
+pub record IsSolveText (p : Instance) (value_only : Bool) (text : List ℕ) : Type 0 where
   pub value : ℕ
   pub flows : List ℕ
   pub value_is : IsValueOf p value
@@ -53,7 +53,7 @@ pub record IsSolved (p : Instance) (value_only : Bool) (text : List ℕ) : Type 
   pub text_is : text ≡ solution_text value_only p.net value flows
 
 -- What `cut` puts: the value, and the source side of the minimum cut that is asked for.
-pub record IsSevered (p : Instance) (arcs sink : Bool) (text : List ℕ) : Type 0 where
+pub record IsCutText (p : Instance) (arcs sink : Bool) (text : List ℕ) : Type 0 where
   pub value : ℕ
   pub X : ℕ → Bool
   pub value_is : IsValueOf p value
@@ -69,7 +69,7 @@ IsConnectivityOf p false true k = IsPairConnectivity p.net (one_of p.sources) (o
 IsConnectivityOf p true true k = IsUndirectedPairConnectivity p.net (one_of p.sources) (one_of p.sinks) k
 
 -- What `connect` puts: the connectivity that is asked for.
-pub record IsConnected (p : Instance) (undirected pair : Bool) (text : List ℕ) : Type 0 where
+pub record IsConnectText (p : Instance) (undirected pair : Bool) (text : List ℕ) : Type 0 where
   pub value : ℕ
   pub value_is : IsConnectivityOf p undirected pair value
   pub text_is : text ≡ connect_line value
@@ -81,7 +81,7 @@ verdict_status (Optimal value) = 0
 verdict_status _ = 1
 
 -- What `check` puts for an accepted text of a solution: the verdict on it.
-pub record IsChecked (p : Instance) (q : List ℕ) (feasible_only : Bool) (text : List ℕ) (status : ℕ) : Type 0 where
+pub record IsCheckText (p : Instance) (q : List ℕ) (feasible_only : Bool) (text : List ℕ) (status : ℕ) : Type 0 where
   pub written : Written
   pub accepted : solution q p.net.nodes ≡ Ok written
   pub verdict : Verdict
@@ -91,7 +91,7 @@ pub record IsChecked (p : Instance) (q : List ℕ) (feasible_only : Bool) (text 
 
 -- the answer of a job to a problem: a text, and the status of the run; `check` alone has to do with a solution's text q
 abbrev pub IsAnswer : Job → Instance → List ℕ → List ℕ → ℕ → Type 0
-IsAnswer (Solve value_only) p q text status = IsSolved p value_only text × (status ≡ 0)
-IsAnswer (Cut arcs sink) p q text status = IsSevered p arcs sink text × (status ≡ 0)
-IsAnswer (Connect undirected pair) p q text status = IsConnected p undirected pair text × (status ≡ 0)
-IsAnswer (Check feasible_only) p q text status = IsChecked p q feasible_only text status
+IsAnswer (Solve value_only) p q text status = IsSolveText p value_only text × (status ≡ 0)
+IsAnswer (Cut arcs sink) p q text status = IsCutText p arcs sink text × (status ≡ 0)
+IsAnswer (Connect undirected pair) p q text status = IsConnectText p undirected pair text × (status ≡ 0)
+IsAnswer (Check feasible_only) p q text status = IsCheckText p q feasible_only text status

@@ -65,44 +65,44 @@ pub record Runs (job : Job) (source given out : Stream) (end : Result ℕ Stop) 
   pub p : List ℕ
   pub q : List ℕ
   pub o : List ℕ
-  pub delivered_p : Consumes source.before source.after p
-  pub delivered_q : Consumes given.before given.after q
-  pub put_o : Appends out.before out.after o
+  pub delivered_p : Consumes source.before.bytes source.after.bytes p
+  pub delivered_q : Consumes given.before.bytes given.after.bytes q
+  pub put_o : Appends out.before.bytes out.after.bytes o
   pub one_pass : IsOnePass early p
   pub solution_read : ((q ≡ []) × IsKept given) ⊎ HasComeToSolution job source p q
   pub exit : EndsAt job source given out p q o end
 
 -- the message of an exit without an answer
-abbrev pub message_for : Stop → List ℕ
-message_for (Fault solution line code) = fault_line solution line code
-message_for ReadFailed = codes "flow: read failed" ++ 10 ∷ []
-message_for WriteFailed = codes "flow: write failed" ++ 10 ∷ []
-message_for OutOfMemory = codes "flow: out of memory" ++ 10 ∷ []
+abbrev pub stop_message : Stop → List ℕ
+stop_message (Fault solution line code) = fault_line solution line code
+stop_message ReadFailed = codes "flow: read failed" ++ 10 ∷ []
+stop_message WriteFailed = codes "flow: write failed" ++ 10 ∷ []
+stop_message OutOfMemory = codes "flow: out of memory" ++ 10 ∷ []
 
 -- its status: 3 for a fault of an input, 4 for a device or memory
-abbrev pub status_for : Stop → ℕ
-status_for (Fault _ _ _) = 3
-status_for _ = 4
+abbrev pub stop_status : Stop → ℕ
+stop_status (Fault _ _ _) = 3
+stop_status _ = 4
 
 -- the message and the status of an exit
-abbrev pub message_of : Result ℕ Stop → List ℕ
-message_of (Ok _) = []
-message_of (Err stop) = message_for stop
+abbrev pub end_message : Result ℕ Stop → List ℕ
+end_message (Ok _) = []
+end_message (Err stop) = stop_message stop
 
-abbrev pub status_of : Result ℕ Stop → ℕ
-status_of (Ok status) = status
-status_of (Err stop) = status_for stop
+abbrev pub end_status : Result ℕ Stop → ℕ
+end_status (Ok status) = status
+end_status (Err stop) = stop_status stop
 
 -- all of the message was taken, or a beginning of it by a stream that failed
 abbrev pub IsTold : Stream → List ℕ → Type 0
-IsTold err message = (e : List ℕ) × Appends err.before err.after e × ((IsKept err × (e ≡ message)) ⊎ (HasFailed err × IsBeginning e message))
+IsTold err message = (e : List ℕ) × Appends err.before.bytes err.after.bytes e × ((IsKept err × (e ≡ message)) ⊎ (HasFailed err × IsBeginning e message))
 
 -- A whole run.
 pub record EndsWith (job : Job) (source solution out err : Stream) (status : ℕ) : Type 0 where
   pub end : Result ℕ Stop
   pub runs : Runs job source solution out end
-  pub told : IsTold err (message_of end)
-  pub answered : status ≡ status_of end
+  pub told : IsTold err (end_message end)
+  pub answered : status ≡ end_status end
 
 -- what a job puts for a problem, and a solution's text q, that it was handed, and its end
 abbrev pub PutsAt : Job → Instance → List ℕ → Stream → List ℕ → Result ℕ Stop → Type 0
@@ -114,7 +114,7 @@ PutsAt job instance q out o (Err _) = ⊥
 -- What a job puts for a problem, and a solution's text q, that it was handed, and its end.
 pub record Puts (job : Job) (instance : Instance) (q : List ℕ) (out : Stream) (end : Result ℕ Stop) : Type 0 where
   pub o : List ℕ
-  pub put_o : Appends out.before out.after o
+  pub put_o : Appends out.before.bytes out.after.bytes o
   pub exit : PutsAt job instance q out o end
 
 -- how the check of a solution ends, where the solution delivered q and the output took o
@@ -131,7 +131,7 @@ ChecksAt feasible_only instance given out q o (Err OutOfMemory) = IsKept given �
 pub record Checks (feasible_only : Bool) (instance : Instance) (given out : Stream) (end : Result ℕ Stop) : Type 0 where
   pub q : List ℕ
   pub o : List ℕ
-  pub delivered : Consumes given.before given.after q
-  pub put_o : Appends out.before out.after o
+  pub delivered : Consumes given.before.bytes given.after.bytes q
+  pub put_o : Appends out.before.bytes out.after.bytes o
   pub one_pass : IsOnePass (λ b. early_solution b instance.net.nodes) q
   pub exit : ChecksAt feasible_only instance given out q o end

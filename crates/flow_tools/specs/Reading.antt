@@ -1,10 +1,12 @@
 -- How an input is read, in one pass.
-use Rattle.std.specs.Prelude.{◌≡◌, ◌≤◌, ◌⊎◌, ◌++◌, ℕ, Bool, List, length, Result, Ok, Err, Option, None, Some, ⊤}
+use Rattle.std.specs.Prelude.{◌≡◌, ◌≤◌, ◌⊎◌, ◌++◌, ℕ, Bool, true, false, List, length, Result, Ok, Err, Option, None, Some, ⊤}
 use Rattle.std.specs.Io.KnownBytes.{Consumes}
 use Rattle.flow_text.specs.declared.faults.FaultCode.{FaultCode}
 use Rattle.flow_text.specs.declared.faults.ReadFault.{ReadFault}
 use Rattle.flow_text.specs.declared.faults.ReadFault.TheVariants.{Fault, OutOfMemory}
 use Rattle.flow_tools.specs.Streams.{Stream, IsKept, HasFailed, HasEnded}
+use Rattle.flow_tools.specs.declared.reading.Role.{Role}
+use Rattle.flow_tools.specs.declared.reading.Role.TheVariants.{Problem, Solution}
 use Rattle.flow_tools.specs.declared.jobs.Stop.{Stop}
 use Rattle.flow_tools.specs.declared.jobs.Stop.TheVariants.{Fault as StopFault, ReadFailed, WriteFailed, OutOfMemory as StopOutOfMemory}
 
@@ -19,6 +21,11 @@ abbrev pub FinishesAs : {T : Type 0} → (ℕ × FaultCode → Type 0) → (T �
 FinishesAs has_fault accepts (Ok value) = accepts value
 FinishesAs has_fault accepts (Err (Fault line code)) = has_fault (line, code)
 FinishesAs has_fault accepts (Err OutOfMemory) = ⊤
+
+-- whether a text is the solution's; else it is the problem's
+abbrev pub is_solution : Role → Bool
+is_solution Problem = false
+is_solution Solution = true
 
 -- what a run stops with where a reader refuses
 abbrev pub stop_for : Bool → ReadFault → Stop
@@ -44,6 +51,6 @@ IsJudged early has_fault accepts s text solution (Err StopOutOfMemory) = IsKept 
 -- An input over a call that reads it: what it delivered, in one pass, and what that is judged to be.
 pub record IsRead {T : Type 0} (early : List ℕ → Option (ℕ × FaultCode)) (has_fault : List ℕ → ℕ × FaultCode → Type 0) (accepts : List ℕ → T → Type 0) (s : Stream) (solution : Bool) (result : Result T Stop) : Type 0 where
   pub text : List ℕ
-  pub delivered : Consumes s.before s.after text
+  pub delivered : Consumes s.before.bytes s.after.bytes text
   pub one_pass : IsOnePass early text
   pub judged : IsJudged early has_fault accepts s text solution result

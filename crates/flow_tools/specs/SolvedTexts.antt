@@ -10,7 +10,7 @@ use Rattle.flow_text.specs.declared.solutions.FlowLine.{FlowLine}
 use Rattle.flow_text.specs.declared.verdicts.Verdict.{Verdict}
 use Rattle.flow_text.specs.declared.verdicts.Verdict.TheVariants.{Optimal}
 use Rattle.flow_tools.specs.Verdicts.{IsVerdict}
-use Rattle.flow_tools.specs.Answers.{IsSolved}
+use Rattle.flow_tools.specs.Answers.{IsSolveText}
 
 -- an arc's flow as a flow line
 abbrev pub carried_line : Arc × ℕ → FlowLine
@@ -23,5 +23,5 @@ written_flow net value flows = record { value = value; lines = map carried_line 
 -- the text of a solved problem, whichever greatest flow it has, is accepted as a solution, and the one verdict on it is that
 -- it is optimal, with the greatest value
 abbrev pub SolvedIsOptimal : Type 0
-SolvedIsOptimal = (p : Instance) (text : List ℕ) (k : ℕ) → IsNet p.net → IsProblem p → IsGreatest p.net (one_of p.sources) (one_of p.sinks) k → IsSolved p false text
+SolvedIsOptimal = (p : Instance) (text : List ℕ) (k : ℕ) → IsNet p.net → IsProblem p → IsGreatest p.net (one_of p.sources) (one_of p.sinks) k → IsSolveText p false text
     → (w : Written) × (solution text p.net.nodes ≡ Ok w) × ((verdict : Verdict) → IsVerdict p w false verdict ↔ (verdict ≡ Optimal k))

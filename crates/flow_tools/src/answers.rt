@@ -5,7 +5,7 @@ ghost use Rattle.flow_tools.specs.Exits.{Puts};
 ghost use Rattle.flow_tools.specs.Sides.{side_of};
 ghost use Rattle.flow_tools.specs.Streams.{over};
 
-use super::jobs::{Job, Stop};
+use super::jobs::{CutForm, Job, Stop};
 use super::printing::{put_cut, put_solution};
 use super::streams::Output;
 use flow_net::{FlowTable, OutOfMemory, Problem};
@@ -14,7 +14,7 @@ use std::alloc::Global;
 
 /// The greatest value, a flow that has it, and the cells that were lent to find it.
 #[derive(Drop)]
-struct Found {
+struct Solved {
     value: u128,
     table: FlowTable,
     work: Vec<u32>,
@@ -31,14 +31,14 @@ pub fn answer_solve<M: Method, O: Output>(
     value_only: bool,
     out: &mut O,
 ) -> Result<u8, Stop>
-    ensures { Puts (Job.Solve value_only) problem.now [] (over (O.taken out.old) (O.taken out.new) (O.has_failed out.old) (O.has_failed out.new)) result }
+    ensures { Puts (Job.Solve value_only) problem.now [] (over (O.state out.old) (O.state out.new)) result }
 {
-    let Found {
+    let Solved {
         value,
         table,
         work: _,
     } = match find_flow::<M>(alloc, problem) {
-        Ok(found) => found,
+        Ok(solved) => solved,
         Err(_) => return Err(Stop::OutOfMemory),
     };
     let flows = table.into_flows();
@@ -48,8 +48,8 @@ pub fn answer_solve<M: Method, O: Output>(
     }
 }
 
-/// Puts the capacity of a minimum cut and its source side, and where `arcs` is true the arcs that leave that side. It is
-/// the cut nearest the sources, or where `sink` is true the cut nearest the sinks.
+/// Puts the capacity of a minimum cut and its source side, and where `form.arcs` is true the arcs that leave that side. It
+/// is the cut nearest the sources, or where `form.sink` is true the cut nearest the sinks.
 ///
 /// # Errors
 ///
@@ -57,28 +57,27 @@ pub fn answer_solve<M: Method, O: Output>(
 pub fn answer_cut<M: Method, O: Output>(
     alloc: Global,
     problem: &Problem,
-    arcs: bool,
-    sink: bool,
+    form: CutForm,
     out: &mut O,
 ) -> Result<u8, Stop>
-    ensures { Puts (Job.Cut arcs sink) problem.now [] (over (O.taken out.old) (O.taken out.new) (O.has_failed out.old) (O.has_failed out.new)) result }
+    ensures { Puts (Job.Cut form.arcs form.sink) problem.now [] (over (O.state out.old) (O.state out.new)) result }
 {
     let mut side = match Vec::from_elem(alloc, false, problem.net().nodes() as usize) {
         Ok(side) => side,
         Err(_) => return Err(Stop::OutOfMemory),
     };
-    let found = match find_flow::<M>(alloc, problem) {
-        Ok(found) => found,
+    let solved = match find_flow::<M>(alloc, problem) {
+        Ok(solved) => solved,
         Err(_) => return Err(Stop::OutOfMemory),
     };
-    put_side(problem, found, side.as_mut_slice(), arcs, sink, out)
+    put_side(problem, solved, side.as_mut_slice(), form, out)
 }
 
 // Finds the greatest value and a flow that has it. All the memory is asked for first.
-fn find_flow<M: Method>(alloc: Global, problem: &Problem) -> Result<Found, OutOfMemory>
-    ensures value { IfOk result (λ found. IsValueOf problem.now found.value) }
-    ensures flows { IfOk result (λ found. IsFlowOf problem.now found.value found.table.flows) }
-    ensures cells { IfOk result (λ found. 6 * problem.now.net.nodes + 2 * length problem.now.net.arcs + 2 ≤ length found.work.items) }
+fn find_flow<M: Method>(alloc: Global, problem: &Problem) -> Result<Solved, OutOfMemory>
+    ensures value { IfOk result (λ solved. IsValueOf problem.now solved.value) }
+    ensures flows { IfOk result (λ solved. IsFlowOf problem.now solved.value solved.table.flows) }
+    ensures cells { IfOk result (λ solved. 6 * problem.now.net.nodes + 2 * length problem.now.net.arcs + 2 ≤ length solved.work.items) }
 {
     let net = problem.net();
     let mut table = FlowTable::new(alloc, net)?;
@@ -93,46 +92,45 @@ fn find_flow<M: Method>(alloc: Global, problem: &Problem) -> Result<Found, OutOf
         &mut table,
         work.as_mut_slice(),
     );
-    Ok(Found { value, table, work })
+    Ok(Solved { value, table, work })
 }
 
-// Marks the least source side in lent cells, or where `sink` is true the least sink side, and puts the cut.
+// Marks the least source side in lent cells, or where `form.sink` is true the least sink side, and puts the cut.
 fn put_side<O: Output>(
     problem: &Problem,
-    mut found: Found,
+    mut solved: Solved,
     side: &mut [bool],
-    arcs: bool,
-    sink: bool,
+    form: CutForm,
     out: &mut O,
 ) -> Result<u8, Stop>
-    requires value { IsValueOf problem.now found.value }
-    requires flows { IsFlowOf problem.now found.value found.table.flows }
-    requires cells { 6 * problem.now.net.nodes + 2 * length problem.now.net.arcs + 2 ≤ length found.work.items }
+    requires value { IsValueOf problem.now solved.value }
+    requires flows { IsFlowOf problem.now solved.value solved.table.flows }
+    requires cells { 6 * problem.now.net.nodes + 2 * length problem.now.net.arcs + 2 ≤ length solved.work.items }
     requires side { length side.old ≡ problem.now.net.nodes }
-    ensures { Puts (Job.Cut arcs sink) problem.now [] (over (O.taken out.old) (O.taken out.new) (O.has_failed out.old) (O.has_failed out.new)) result }
+    ensures { Puts (Job.Cut form.arcs form.sink) problem.now [] (over (O.state out.old) (O.state out.new)) result }
 {
-    mark_side(problem, &mut found, sink, side);
-    match put_cut(out, problem.net(), found.value, side, arcs, sink) {
+    mark_side(problem, &mut solved, form.sink, side);
+    match put_cut(out, problem.net(), solved.value, side, form) {
         Ok(()) => Ok(0),
         Err(_) => Err(Stop::WriteFailed),
     }
 }
 
 // Marks the least source side, or where `sink` is true the least sink side: by the residual network of a greatest flow.
-fn mark_side(problem: &Problem, found: &mut Found, sink: bool, side: &mut [bool])
-    requires value { IsValueOf problem.now found.old.value }
-    requires flows { IsFlowOf problem.now found.old.value found.old.table.flows }
-    requires cells { 6 * problem.now.net.nodes + 2 * length problem.now.net.arcs + 2 ≤ length found.old.work.items }
+fn mark_side(problem: &Problem, solved: &mut Solved, sink: bool, side: &mut [bool])
+    requires value { IsValueOf problem.now solved.old.value }
+    requires flows { IsFlowOf problem.now solved.old.value solved.old.table.flows }
+    requires cells { 6 * problem.now.net.nodes + 2 * length problem.now.net.arcs + 2 ≤ length solved.old.work.items }
     requires side { length side.old ≡ problem.now.net.nodes }
-    ensures cut { IsCutOf problem.now found.old.value sink (side_of sink side.new) }
-    ensures value { found.new.value ≡ found.old.value }
+    ensures cut { IsCutOf problem.now solved.old.value sink (side_of sink side.new) }
+    ensures value { solved.new.value ≡ solved.old.value }
 {
     let net = problem.net();
     let (s, t) = (problem.sources(), problem.sinks());
-    let work = found.work.as_mut_slice();
+    let work = solved.work.as_mut_slice();
     if sink {
-        reach_back(net, s, t, &mut found.table, work, side);
+        reach_back(net, s, t, &mut solved.table, work, side);
     } else {
-        reach(net, s, t, &mut found.table, work, side);
+        reach(net, s, t, &mut solved.table, work, side);
     }
 }

@@ -8,7 +8,7 @@ ghost use Rattle.flow_tools.specs.Streams.{over};
 
 use super::checking::check;
 use super::jobs::{Job, Stop};
-use super::reading::read_all;
+use super::reading::{Role, read_all};
 use super::sending::put_all;
 use super::streams::{Input, Output};
 use flow_net::Problem;
@@ -16,7 +16,7 @@ use flow_text::{Solution, SolutionReader, Verdict, verdict_line};
 use std::alloc::Global;
 
 // The status of a check: 0 where the solution is right.
-fn status_for(verdict: &Verdict) -> u8
+fn status_of_verdict(verdict: &Verdict) -> u8
     ensures { result ≡ verdict_status verdict.now }
 {
     match *verdict {
@@ -29,19 +29,20 @@ fn status_for(verdict: &Verdict) -> u8
 fn put_verdict<O: Output>(
     alloc: Global,
     problem: &Problem,
-    found: &Solution,
+    written: &Solution,
     feasible_only: bool,
     out: &mut O,
 ) -> Result<u8, Stop>
-    requires { IsWithinLimits problem.now.net.nodes (written_in found.now) }
-    ensures { (q : List ℕ) → solution q problem.now.net.nodes ≡ Ok (written_in found.now) → Puts (Job.Check feasible_only) problem.now q (over (O.taken out.old) (O.taken out.new) (O.has_failed out.old) (O.has_failed out.new)) result }
+    requires { IsWithinLimits problem.now.net.nodes (written_in written.now) }
+    ensures { (q : List ℕ) → solution q problem.now.net.nodes ≡ Ok (written_in written.now)
+        → Puts (Job.Check feasible_only) problem.now q (over (O.state out.old) (O.state out.new)) result }
 {
-    let verdict = match check(alloc, problem, found, feasible_only) {
+    let verdict = match check(alloc, problem, written, feasible_only) {
         Ok(verdict) => verdict,
         Err(_) => return Err(Stop::OutOfMemory),
     };
     match put_all(out, verdict_line(&verdict).as_slice()) {
-        Ok(()) => Ok(status_for(&verdict)),
+        Ok(()) => Ok(status_of_verdict(&verdict)),
         Err(_) => Err(Stop::WriteFailed),
     }
 }
@@ -59,12 +60,12 @@ pub fn answer_check<J: Input, O: Output>(
     given: &mut J,
     out: &mut O,
 ) -> Result<u8, Stop>
-    ensures { Checks feasible_only problem.now (over (J.left given.old) (J.left given.new) (J.has_failed given.old) (J.has_failed given.new)) (over (O.taken out.old) (O.taken out.new) (O.has_failed out.old) (O.has_failed out.new)) result }
+    ensures { Checks feasible_only problem.now (over (J.state given.old) (J.state given.new)) (over (O.state out.old) (O.state out.new)) result }
 {
     let reader = SolutionReader::new(alloc, problem.net().nodes());
-    let found = match read_all(given, reader, true) {
-        Ok(found) => found,
+    let written = match read_all(given, reader, Role::Solution) {
+        Ok(written) => written,
         Err(stop) => return Err(stop),
     };
-    put_verdict(alloc, problem, &found, feasible_only, out)
+    put_verdict(alloc, problem, &written, feasible_only, out)
 }

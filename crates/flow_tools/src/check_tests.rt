@@ -1,7 +1,7 @@
 ghost use Rattle.std.specs.Prelude.{◌≡◌, ◌≤◌, length, IfOk};
 ghost use Rattle.flow_text.specs.SolutionReading.{IsWithinLimits, written_in};
 
-use super::nets::{ARCS_A, ARCS_B, ARCS_C, ARCS_D, Triple};
+use super::test_nets::{ARCS_A, ARCS_B, ARCS_C, ARCS_D, Triple};
 use super::*;
 use flow_net::{Arc, Network, Problem};
 use flow_text::{FlowLine, Solution, Verdict};

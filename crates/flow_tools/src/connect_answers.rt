@@ -56,7 +56,7 @@ pub fn answer_connect<M: Method, O: Output>(
     pair: bool,
     out: &mut O,
 ) -> Result<u8, Stop>
-    ensures { Puts (Job.Connect undirected pair) problem [] (over (O.taken out.old) (O.taken out.new) (O.has_failed out.old) (O.has_failed out.new)) result }
+    ensures { Puts (Job.Connect undirected pair) problem [] (over (O.state out.old) (O.state out.new)) result }
 {
     let (net, sources, sinks) = problem.into_parts();
     let net = match counting_network(net, undirected) {

@@ -11,11 +11,11 @@ use std::io::{Read, Write};
 #[derive(Drop)]
 pub struct Counted<T> {
     /// The reader or writer itself.
-    pub inner: T,
+    inner: T,
     /// Whether a pull or a put has failed.
-    pub failed: bool,
+    failed: bool,
     /// How many pulls may still deliver a byte.
-    pub pulls: u64,
+    pulls: u64,
 }
 
 impl<T> Counted<T> {
@@ -31,12 +31,22 @@ impl<T> Counted<T> {
             pulls: u64::MAX,
         }
     }
+
+    /// The reader or the writer, with what was read from it or written to it.
+    pub fn into_inner(self) -> T
+        ensures { result ≡ self.inner }
+    {
+        let Counted {
+            inner,
+            failed: _,
+            pulls: _,
+        } = self;
+        inner
+    }
 }
 
 impl<T: Read> Input for Counted<T> {
-    ghost left = { λ s. T.remaining s.inner };
-
-    ghost has_failed = { λ s. s.failed };
+    ghost state = { λ s. record { bytes = T.remaining s.inner; failed = s.failed } };
 
     ghost bound = { λ s. s.pulls };
 
@@ -63,9 +73,7 @@ impl<T: Read> Input for Counted<T> {
 }
 
 impl<T: Write> Output for Counted<T> {
-    ghost taken = { λ s. T.contents s.inner };
-
-    ghost has_failed = { λ s. s.failed };
+    ghost state = { λ s. record { bytes = T.contents s.inner; failed = s.failed } };
 
     fn put(&mut self, bytes: &[u8]) -> Result<usize, Failed> {
         match self.inner.write(bytes) {

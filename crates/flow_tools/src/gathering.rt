@@ -1,8 +1,8 @@
 //! The lines of which a text has many are made in the gathered bytes themselves, so that each is copied once.
-ghost use Rattle.std.specs.Prelude.{◌+◌, ◌≤◌, ◌++◌, OnOk, OnErr};
+ghost use Rattle.std.specs.Prelude.{◌+◌, ◌≤◌, ◌++◌, OnOk};
 ghost use Rattle.arrayvec.specs.ArrayVec.{array_vec_len};
 ghost use Rattle.flow_text.specs.Output.{arc_line, flow_line, node_line};
-ghost use Rattle.flow_tools.specs.Streams.{Flags, Sends, Stops};
+ghost use Rattle.flow_tools.specs.Streams.{IsGathered, over};
 
 use super::sending::{Gathered, put_all};
 use super::streams::{Failed, Output};
@@ -11,15 +11,13 @@ use flow_text::{MOST_LINE_BYTES, push_arc_line, push_flow_line, push_node_line};
 
 // Puts what waits where there is no room for a line behind it.
 #[inline(always)]
-fn make_room<O: Output>(out: &mut O, held: &mut Gathered) -> Result<(), Failed>
-    ensures room { OnOk result (array_vec_len held.new + MOST_LINE_BYTES ≤ 65536) }
-    ensures ok { OnOk result (Sends (O.taken out.old) (O.taken out.new) held.new.items held.old.items) }
-    ensures err { OnErr result (Stops (O.taken out.old) (O.taken out.new) held.old.items) }
-    ensures flag { Flags (O.has_failed out.old) (O.has_failed out.new) result }
+fn make_room<O: Output>(out: &mut O, waiting: &mut Gathered) -> Result<(), Failed>
+    ensures room { OnOk result (array_vec_len waiting.new + MOST_LINE_BYTES ≤ 65536) }
+    ensures gathered { IsGathered waiting.new.items waiting.old.items (over (O.state out.old) (O.state out.new)) result }
 {
-    if held.remaining_capacity() < MOST_LINE_BYTES {
-        put_all(out, held.as_slice())?;
-        held.clear();
+    if waiting.remaining_capacity() < MOST_LINE_BYTES {
+        put_all(out, waiting.as_slice())?;
+        waiting.clear();
     }
     Ok(())
 }
@@ -33,16 +31,15 @@ fn make_room<O: Output>(out: &mut O, held: &mut Gathered) -> Result<(), Failed>
 #[inline(always)]
 pub(crate) fn gather_flow_line<O: Output>(
     out: &mut O,
-    held: &mut Gathered,
+    waiting: &mut Gathered,
     arc: Arc,
     flow: u64,
 ) -> Result<(), Failed>
-    ensures ok { OnOk result (Sends (O.taken out.old) (O.taken out.new) held.new.items (held.old.items ++ flow_line arc.src arc.dst flow)) }
-    ensures err { OnErr result (Stops (O.taken out.old) (O.taken out.new) (held.old.items ++ flow_line arc.src arc.dst flow)) }
-    ensures flag { Flags (O.has_failed out.old) (O.has_failed out.new) result }
+    ensures { let text = waiting.old.items ++ flow_line arc.src arc.dst flow in
+        IsGathered waiting.new.items text (over (O.state out.old) (O.state out.new)) result }
 {
-    make_room(out, held)?;
-    push_flow_line(held, arc.src, arc.dst, flow);
+    make_room(out, waiting)?;
+    push_flow_line(waiting, arc.src, arc.dst, flow);
     Ok(())
 }
 
@@ -55,15 +52,14 @@ pub(crate) fn gather_flow_line<O: Output>(
 #[inline(always)]
 pub(crate) fn gather_node_line<O: Output>(
     out: &mut O,
-    held: &mut Gathered,
+    waiting: &mut Gathered,
     node: u32,
 ) -> Result<(), Failed>
-    ensures ok { OnOk result (Sends (O.taken out.old) (O.taken out.new) held.new.items (held.old.items ++ node_line node)) }
-    ensures err { OnErr result (Stops (O.taken out.old) (O.taken out.new) (held.old.items ++ node_line node)) }
-    ensures flag { Flags (O.has_failed out.old) (O.has_failed out.new) result }
+    ensures { let text = waiting.old.items ++ node_line node in
+        IsGathered waiting.new.items text (over (O.state out.old) (O.state out.new)) result }
 {
-    make_room(out, held)?;
-    push_node_line(held, node);
+    make_room(out, waiting)?;
+    push_node_line(waiting, node);
     Ok(())
 }
 
@@ -76,14 +72,13 @@ pub(crate) fn gather_node_line<O: Output>(
 #[inline(always)]
 pub(crate) fn gather_arc_line<O: Output>(
     out: &mut O,
-    held: &mut Gathered,
+    waiting: &mut Gathered,
     arc: Arc,
 ) -> Result<(), Failed>
-    ensures ok { OnOk result (Sends (O.taken out.old) (O.taken out.new) held.new.items (held.old.items ++ arc_line arc)) }
-    ensures err { OnErr result (Stops (O.taken out.old) (O.taken out.new) (held.old.items ++ arc_line arc)) }
-    ensures flag { Flags (O.has_failed out.old) (O.has_failed out.new) result }
+    ensures { let text = waiting.old.items ++ arc_line arc in
+        IsGathered waiting.new.items text (over (O.state out.old) (O.state out.new)) result }
 {
-    make_room(out, held)?;
-    push_arc_line(held, arc);
+    make_room(out, waiting)?;
+    push_arc_line(waiting, arc);
     Ok(())
 }

@@ -2,8 +2,8 @@
 
 use super::Job;
 use super::memory::Script;
-use super::nets::{NET_A, NET_B, NET_C, NET_D, NO_ARCS};
-use super::runs::{answer, answer_both};
+use super::test_nets::{NET_A, NET_B, NET_C, NET_D, NO_ARCS};
+use super::test_runs::{answer, answer_both};
 use flow_net::Arc;
 use flow_text::{arc_line, flow_line};
 use std::alloc::Global;

@@ -31,6 +31,15 @@ pub enum Job {
     },
 }
 
+/// How the cut of a [`Job::Cut`] is told.
+#[derive(Clone, Copy)]
+pub(crate) struct CutForm {
+    /// The arcs that leave the printed source side are printed too.
+    pub arcs: bool,
+    /// It is the cut with the least sink side in place of the one with the least source side.
+    pub sink: bool,
+}
+
 /// Why a run ends without an answer.
 #[derive(Clone, Copy, Debug, PartialEq, Eq)]
 pub enum Stop {

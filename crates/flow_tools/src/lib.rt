@@ -36,7 +36,7 @@ pub use counted::Counted;
 pub use jobs::{Job, Stop};
 pub use laws::solved_is_optimal;
 pub use running::run;
-pub use sending::{hold, put_all};
+pub use sending::put_all;
 pub use streams::{Failed, Input, Output};
 
 #[cfg(test)]
@@ -44,10 +44,10 @@ mod check_tests;
 #[cfg(test)]
 mod job_tests;
 #[cfg(test)]
-mod nets;
-#[cfg(test)]
-mod runs;
-#[cfg(test)]
 mod stream_tests;
+#[cfg(test)]
+mod test_nets;
+#[cfg(test)]
+mod test_runs;
 #[cfg(test)]
 mod tests;

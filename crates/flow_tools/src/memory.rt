@@ -69,9 +69,7 @@ impl<'a> Script<'a> {
 }
 
 impl Input for Script<'_> {
-    ghost left = { λ s. Some s.rest.now };
-
-    ghost has_failed = { λ s. s.failed };
+    ghost state = { λ s. record { bytes = Some s.rest.now; failed = s.failed } };
 
     ghost bound = { λ s. length s.rest.now };
 
@@ -106,9 +104,9 @@ impl Input for Script<'_> {
     }
 }
 
-/// An output that holds what it takes: at most so many bytes a put and so many in all, and then it fails.
+/// An output that keeps what it takes: at most so many bytes a put and so many in all, and then it fails.
 #[derive(Drop)]
-pub struct Held<const N: usize> {
+pub struct Collector<const N: usize> {
     /// What was taken.
     pub bytes: ArrayVec<u8, N>,
     /// The most bytes that a put takes.
@@ -121,9 +119,9 @@ pub struct Held<const N: usize> {
     ghost fits: { array_vec_len bytes + room ≤ N },
 }
 
-impl<const N: usize> Held<N> {
+impl<const N: usize> Collector<N> {
     /// Takes at most `most` bytes a put, and fails where `room` bytes were taken.
-    pub fn new(most: usize, room: usize) -> Held<N>
+    pub fn new(most: usize, room: usize) -> Collector<N>
         requires positive { 0 < most }
         requires fits { room ≤ N }
         ensures bytes { result.bytes.items ≡ [] }
@@ -131,7 +129,7 @@ impl<const N: usize> Held<N> {
         ensures room { result.room ≡ room }
         ensures fresh { result.failed ≡ false }
     {
-        Held {
+        Collector {
             bytes: ArrayVec::new(),
             most,
             room,
@@ -147,10 +145,8 @@ impl<const N: usize> Held<N> {
     }
 }
 
-impl<const N: usize> Output for Held<N> {
-    ghost taken = { λ s. Some s.bytes.items };
-
-    ghost has_failed = { λ s. s.failed };
+impl<const N: usize> Output for Collector<N> {
+    ghost state = { λ s. record { bytes = Some s.bytes.items; failed = s.failed } };
 
     fn put(&mut self, bytes: &[u8]) -> Result<usize, Failed>
         ensures fits { IfOk result (λ n. n ≤ length bytes.now) }

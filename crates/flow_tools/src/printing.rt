@@ -1,14 +1,14 @@
 //! The text of an answer is gathered line by line, and put when there is much of it.
-ghost use Rattle.std.specs.Prelude.{◌≡◌, ◌≤◌, ◌++◌, [], length, filter, OnOk, OnErr};
+ghost use Rattle.std.specs.Prelude.{◌≡◌, ◌≤◌, ◌++◌, [], length, filter};
 ghost use Rattle.std.specs.List.{flat_map, zip};
-ghost use Rattle.std.specs.Io.KnownBytes.{Appends};
 ghost use Rattle.flow_net.specs.Cuts.{leaves};
 ghost use Rattle.flow_text.specs.Output.{arc_flow_line, arc_line, node_line, nodes_inside, solution_line};
 ghost use Rattle.flow_tools.specs.Answers.{solution_text, source_side_text};
 ghost use Rattle.flow_tools.specs.Sides.{side_of};
-ghost use Rattle.flow_tools.specs.Streams.{Flags, Sends, Stops};
+ghost use Rattle.flow_tools.specs.Streams.{IsGathered, IsPut, over};
 
 use super::gathering::{gather_arc_line, gather_flow_line, gather_node_line};
+use super::jobs::CutForm;
 use super::sending::{Gathered, put_all};
 use super::streams::{Failed, Output};
 use flow_net::{Arc, Network};
@@ -27,22 +27,21 @@ pub fn put_solution<O: Output>(
     value_only: bool,
 ) -> Result<(), Failed>
     requires count { length flows.now ≡ length net.now.arcs }
-    ensures ok { OnOk result (Appends (O.taken out.old) (O.taken out.new) (solution_text value_only net.now value flows.now)) }
-    ensures err { OnErr result (Stops (O.taken out.old) (O.taken out.new) (solution_text value_only net.now value flows.now)) }
-    ensures flag { Flags (O.has_failed out.old) (O.has_failed out.new) result }
+    ensures { let text = solution_text value_only net.now value flows.now in
+        IsPut text (over (O.state out.old) (O.state out.new)) result }
 {
     if value_only {
         return put_all(out, solution_line(value).as_slice());
     }
-    let mut held = Gathered::new();
-    hold_value(&mut held, value);
-    hold_flows(out, &mut held, net, flows)?;
-    put_all(out, held.as_slice())
+    let mut waiting = Gathered::new();
+    gather_value(&mut waiting, value);
+    gather_flows(out, &mut waiting, net, flows)?;
+    put_all(out, waiting.as_slice())
 }
 
-/// Puts a value and the nodes of a source side, rising, and where `arcs` is true the arcs that leave it, in order.
+/// Puts a value and the nodes of a source side, rising, and where `form.arcs` is true the arcs that leave it, in order.
 ///
-/// The source side holds the nodes that are marked in `side`, cell `v - 1` for node `v`; where `sink` is true, the nodes
+/// The source side has the nodes that are marked in `side`, cell `v - 1` for node `v`; where `form.sink` is true, the nodes
 /// that aren't.
 ///
 /// # Errors
@@ -53,47 +52,44 @@ pub fn put_cut<O: Output>(
     net: &Network,
     value: u128,
     side: &[bool],
-    arcs: bool,
-    sink: bool,
+    form: CutForm,
 ) -> Result<(), Failed>
     requires count { length side.now ≡ net.now.nodes }
-    ensures ok { OnOk result (Appends (O.taken out.old) (O.taken out.new) (source_side_text arcs net.now value (side_of sink side.now))) }
-    ensures err { OnErr result (Stops (O.taken out.old) (O.taken out.new) (source_side_text arcs net.now value (side_of sink side.now))) }
-    ensures flag { Flags (O.has_failed out.old) (O.has_failed out.new) result }
+    ensures { let text = source_side_text form.arcs net.now value (side_of form.sink side.now) in
+        IsPut text (over (O.state out.old) (O.state out.new)) result }
 {
-    let mut held = Gathered::new();
-    hold_value(&mut held, value);
-    hold_nodes(out, &mut held, net, side, sink)?;
-    if !arcs {
-        return put_all(out, held.as_slice());
+    let mut waiting = Gathered::new();
+    gather_value(&mut waiting, value);
+    gather_nodes(out, &mut waiting, net, side, form.sink)?;
+    if !form.arcs {
+        return put_all(out, waiting.as_slice());
     }
-    hold_arcs(out, &mut held, net, side, sink)?;
-    put_all(out, held.as_slice())
+    gather_arcs(out, &mut waiting, net, side, form.sink)?;
+    put_all(out, waiting.as_slice())
 }
 
 // Gathers the line of the value, the first of a text.
-fn hold_value(held: &mut Gathered, value: u128)
-    requires empty { held.old.items ≡ [] }
-    ensures { held.new.items ≡ solution_line value }
+fn gather_value(waiting: &mut Gathered, value: u128)
+    requires empty { waiting.old.items ≡ [] }
+    ensures { waiting.new.items ≡ solution_line value }
 {
-    let _ = held.try_extend_from_slice(solution_line(value).as_slice());
+    let _ = waiting.try_extend_from_slice(solution_line(value).as_slice());
 }
 
 // Gathers the flow line of each arc.
-fn hold_flows<O: Output>(
+fn gather_flows<O: Output>(
     out: &mut O,
-    held: &mut Gathered,
+    waiting: &mut Gathered,
     net: &Network,
     flows: &[u64],
 ) -> Result<(), Failed>
     requires count { length flows.now ≡ length net.now.arcs }
-    ensures ok { OnOk result (Sends (O.taken out.old) (O.taken out.new) held.new.items (held.old.items ++ flat_map arc_flow_line (zip net.now.arcs flows.now))) }
-    ensures err { OnErr result (Stops (O.taken out.old) (O.taken out.new) (held.old.items ++ flat_map arc_flow_line (zip net.now.arcs flows.now))) }
-    ensures flag { Flags (O.has_failed out.old) (O.has_failed out.new) result }
+    ensures { let text = waiting.old.items ++ flat_map arc_flow_line (zip net.now.arcs flows.now) in
+        IsGathered waiting.new.items text (over (O.state out.old) (O.state out.new)) result }
 {
     for i in 0..net.len() {
         let arc = net.arc(i);
-        gather_flow_line(out, held, arc, flows[i as usize])?;
+        gather_flow_line(out, waiting, arc, flows[i as usize])?;
     }
     Ok(())
 }
@@ -108,24 +104,23 @@ fn is_inside(side: &[bool], sink: bool, node: u32) -> bool
 }
 
 // Gathers the line of each node of the source side.
-fn hold_nodes<O: Output>(
+fn gather_nodes<O: Output>(
     out: &mut O,
-    held: &mut Gathered,
+    waiting: &mut Gathered,
     net: &Network,
     side: &[bool],
     sink: bool,
 ) -> Result<(), Failed>
     requires count { length side.now ≡ net.now.nodes }
-    ensures ok { OnOk result (Sends (O.taken out.old) (O.taken out.new) held.new.items (held.old.items ++ flat_map node_line (nodes_inside net.now (side_of sink side.now)))) }
-    ensures err { OnErr result (Stops (O.taken out.old) (O.taken out.new) (held.old.items ++ flat_map node_line (nodes_inside net.now (side_of sink side.now)))) }
-    ensures flag { Flags (O.has_failed out.old) (O.has_failed out.new) result }
+    ensures { let text = waiting.old.items ++ flat_map node_line (nodes_inside net.now (side_of sink side.now)) in
+        IsGathered waiting.new.items text (over (O.state out.old) (O.state out.new)) result }
 {
     for i in 0..net.nodes() {
         let node = i + 1;
         if !is_inside(side, sink, node) {
             continue;
         }
-        gather_node_line(out, held, node)?;
+        gather_node_line(out, waiting, node)?;
     }
     Ok(())
 }
@@ -142,24 +137,23 @@ fn does_leave(side: &[bool], sink: bool, arc: Arc) -> bool
 }
 
 // Gathers the line of each arc that leaves the source side.
-fn hold_arcs<O: Output>(
+fn gather_arcs<O: Output>(
     out: &mut O,
-    held: &mut Gathered,
+    waiting: &mut Gathered,
     net: &Network,
     side: &[bool],
     sink: bool,
 ) -> Result<(), Failed>
     requires count { length side.now ≡ net.now.nodes }
-    ensures ok { OnOk result (Sends (O.taken out.old) (O.taken out.new) held.new.items (held.old.items ++ flat_map arc_line (filter (leaves (side_of sink side.now)) net.now.arcs))) }
-    ensures err { OnErr result (Stops (O.taken out.old) (O.taken out.new) (held.old.items ++ flat_map arc_line (filter (leaves (side_of sink side.now)) net.now.arcs))) }
-    ensures flag { Flags (O.has_failed out.old) (O.has_failed out.new) result }
+    ensures { let text = waiting.old.items ++ flat_map arc_line (filter (leaves (side_of sink side.now)) net.now.arcs) in
+        IsGathered waiting.new.items text (over (O.state out.old) (O.state out.new)) result }
 {
     for i in 0..net.len() {
         let arc = net.arc(i);
         if !does_leave(side, sink, arc) {
             continue;
         }
-        gather_arc_line(out, held, arc)?;
+        gather_arc_line(out, waiting, arc)?;
     }
     Ok(())
 }

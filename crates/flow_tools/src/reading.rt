@@ -3,11 +3,20 @@ ghost use Rattle.std.specs.Prelude.{◌≡◌, ◌++◌, ℕ, List, [], None};
 ghost use Rattle.std.specs.declared.option.Option.{Option};
 ghost use Rattle.flow_text.specs.declared.faults.FaultCode.{FaultCode};
 ghost use Rattle.flow_tools.specs.Streams.{over};
-ghost use Rattle.flow_tools.specs.Reading.{FeedsOn, FinishesAs, IsRead, stop_for};
+ghost use Rattle.flow_tools.specs.Reading.{FeedsOn, FinishesAs, IsRead, is_solution, stop_for};
 
 use super::jobs::Stop;
 use super::streams::Input;
 use flow_text::ReadFault;
+
+/// Which input of a run a text is.
+#[derive(Clone, Copy)]
+pub(crate) enum Role {
+    /// The problem.
+    Problem,
+    /// The solution that is checked.
+    Solution,
+}
 
 /// A reader that is fed a text in pieces: of a problem, or of a solution of a problem with so many nodes.
 pub trait Reader {
@@ -46,9 +55,10 @@ pub trait Reader {
 pub fn read_all<I: Input, R: Reader + Drop>(
     input: &mut I,
     reader: R,
-    solution: bool,
+    role: Role,
 ) -> Result<R::Parsed, Stop>
-    ensures { (n : ℕ) → R.reads reader n [] → IsRead (R.early n) (R.has_fault n) (R.accepts n) (over (I.left input.old) (I.left input.new) (I.has_failed input.old) (I.has_failed input.new)) solution result }
+    ensures { (n : ℕ) → R.reads reader n [] → IsRead (R.early n) (R.has_fault n) (R.accepts n)
+        (over (I.state input.old) (I.state input.new)) (is_solution role) result }
 {
     let mut reader = reader;
     let mut buf = [0u8; 4096];
@@ -58,23 +68,26 @@ pub fn read_all<I: Input, R: Reader + Drop>(
             Ok(0) => break,
             Ok(count) => match reader.feed(&buf[..count]) {
                 Ok(()) => {}
-                Err(fault) => return Err(stop_of(fault, solution)),
+                Err(fault) => return Err(stop_of(fault, role)),
             },
         }
     }
     match reader.finish() {
         Ok(value) => Ok(value),
-        Err(fault) => Err(stop_of(fault, solution)),
+        Err(fault) => Err(stop_of(fault, role)),
     }
 }
 
 // What a run stops with where a reader refuses.
-fn stop_of(fault: ReadFault, solution: bool) -> Stop
-    ensures { result ≡ stop_for solution fault }
+fn stop_of(fault: ReadFault, role: Role) -> Stop
+    ensures { result ≡ stop_for (is_solution role) fault }
 {
     match fault {
         ReadFault::Fault { line, code } => Stop::Fault {
-            solution,
+            solution: match role {
+                Role::Problem => false,
+                Role::Solution => true,
+            },
             line,
             code,
         },

@@ -1,13 +1,13 @@
 //! The run of a job over its streams.
 ghost use Rattle.std.specs.Prelude.{◌≡◌};
-ghost use Rattle.flow_tools.specs.Exits.{Runs, EndsWith, IsTold, message_for, status_for};
+ghost use Rattle.flow_tools.specs.Exits.{Runs, EndsWith, IsTold, stop_message, stop_status};
 ghost use Rattle.flow_tools.specs.Streams.{over};
 
 use super::answers::{answer_cut, answer_solve};
 use super::check_answers::answer_check;
 use super::connect_answers::answer_connect;
-use super::jobs::{Job, Stop};
-use super::reading::read_all;
+use super::jobs::{CutForm, Job, Stop};
+use super::reading::{Role, read_all};
 use super::sending::put_all;
 use super::streams::{Input, Output};
 use flow_solve::Levels;
@@ -39,16 +39,16 @@ pub fn run<I: Input, J: Input, O: Output, E: Output>(
     err: &mut E,
 ) -> u8
     ensures { EndsWith job
-        (over (I.left problem.old) (I.left problem.new) (I.has_failed problem.old) (I.has_failed problem.new))
-        (over (J.left solution.old) (J.left solution.new) (J.has_failed solution.old) (J.has_failed solution.new))
-        (over (O.taken out.old) (O.taken out.new) (O.has_failed out.old) (O.has_failed out.new))
-        (over (E.taken err.old) (E.taken err.new) (E.has_failed err.old) (E.has_failed err.new)) result }
+        (over (I.state problem.old) (I.state problem.new))
+        (over (J.state solution.old) (J.state solution.new))
+        (over (O.state out.old) (O.state out.new))
+        (over (E.state err.old) (E.state err.new)) result }
 {
     match answer(alloc, job, problem, solution, out) {
         Ok(status) => status,
         Err(stop) => {
             tell(err, stop);
-            status_of(stop)
+            status_of_stop(stop)
         }
     }
 }
@@ -62,17 +62,19 @@ fn answer<I: Input, J: Input, O: Output>(
     out: &mut O,
 ) -> Result<u8, Stop>
     ensures { Runs job
-        (over (I.left problem.old) (I.left problem.new) (I.has_failed problem.old) (I.has_failed problem.new))
-        (over (J.left solution.old) (J.left solution.new) (J.has_failed solution.old) (J.has_failed solution.new))
-        (over (O.taken out.old) (O.taken out.new) (O.has_failed out.old) (O.has_failed out.new)) result }
+        (over (I.state problem.old) (I.state problem.new))
+        (over (J.state solution.old) (J.state solution.new))
+        (over (O.state out.old) (O.state out.new)) result }
 {
-    let problem = match read_all(problem, ProblemReader::new(alloc), false) {
+    let problem = match read_all(problem, ProblemReader::new(alloc), Role::Problem) {
         Ok(problem) => problem,
         Err(stop) => return Err(stop),
     };
     match job {
         Job::Solve { value_only } => answer_solve::<Levels, O>(alloc, &problem, value_only, out),
-        Job::Cut { arcs, sink } => answer_cut::<Levels, O>(alloc, &problem, arcs, sink, out),
+        Job::Cut { arcs, sink } => {
+            answer_cut::<Levels, O>(alloc, &problem, CutForm { arcs, sink }, out)
+        }
         Job::Connect { undirected, pair } => {
             answer_connect::<Levels, O>(alloc, problem, undirected, pair, out)
         }
@@ -84,7 +86,7 @@ fn answer<I: Input, J: Input, O: Output>(
 
 // Puts the message of a run that ends without an answer. A failure ends the message and changes nothing else.
 fn tell<E: Output>(err: &mut E, stop: Stop)
-    ensures { IsTold (over (E.taken err.old) (E.taken err.new) (E.has_failed err.old) (E.has_failed err.new)) (message_for stop) }
+    ensures { IsTold (over (E.state err.old) (E.state err.new)) (stop_message stop) }
 {
     let _ = match stop {
         Stop::Fault {
@@ -99,8 +101,8 @@ fn tell<E: Output>(err: &mut E, stop: Stop)
 }
 
 // The status of a run that ends without an answer.
-fn status_of(stop: Stop) -> u8
-    ensures { result ≡ status_for stop }
+fn status_of_stop(stop: Stop) -> u8
+    ensures { result ≡ stop_status stop }
 {
     match stop {
         Stop::Fault { .. } => 3,

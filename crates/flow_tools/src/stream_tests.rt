@@ -1,7 +1,7 @@
 //! Runs over streams that fail at each place, or take little.
-use super::memory::{Held, Script};
-use super::nets::{NET_A, SOLVED_A};
-use super::runs::{answer, run_alone, run_over};
+use super::memory::{Collector, Script};
+use super::test_nets::{NET_A, SOLVED_A};
+use super::test_runs::{answer, run_alone, run_over};
 use super::{Counted, Input, Job, Output, run};
 use std::alloc::Global;
 use std::io::Write;
@@ -99,8 +99,8 @@ fn each_byte_put_fails(rt: HostRuntime) -> Result<(), Fail> {
                 rt.alloc(),
                 SOLVE,
                 input,
-                Held::new(most, j),
-                Held::new(64, 64),
+                Collector::new(most, j),
+                Collector::new(64, 64),
             );
             assert_eq!(rt; ended.out.bytes(), &SOLVED_A[..j]);
             assert_eq!(rt; ended.err.bytes(), WRITE_FAILED);
@@ -115,7 +115,13 @@ fn each_byte_put_fails(rt: HostRuntime) -> Result<(), Fail> {
 #[test]
 fn one_byte_a_put(rt: HostRuntime) -> Result<(), Fail> {
     let input = Script::new(NET_A, 4096, false, 0);
-    let ended = run_alone(rt.alloc(), SOLVE, input, Held::new(1, 44), Held::new(1, 0));
+    let ended = run_alone(
+        rt.alloc(),
+        SOLVE,
+        input,
+        Collector::new(1, 44),
+        Collector::new(1, 0),
+    );
     assert_eq!(rt; ended.out.bytes(), SOLVED_A);
     assert_eq!(rt; ended.status, 0);
     assert!(rt; !ended.out.failed());
@@ -126,7 +132,13 @@ fn one_byte_a_put(rt: HostRuntime) -> Result<(), Fail> {
 #[test]
 fn a_message_is_cut_short(rt: HostRuntime) -> Result<(), Fail> {
     let input = Script::new(b"", 1, false, 0);
-    let ended = run_alone(rt.alloc(), SOLVE, input, Held::new(1, 64), Held::new(2, 3));
+    let ended = run_alone(
+        rt.alloc(),
+        SOLVE,
+        input,
+        Collector::new(1, 64),
+        Collector::new(2, 3),
+    );
     assert_eq!(rt; ended.out.bytes(), b"".as_slice());
     assert_eq!(rt; ended.err.bytes(), b"flo".as_slice());
     assert_eq!(rt; ended.status, 3);
@@ -161,8 +173,8 @@ fn streams_of_a_check_that_fail(rt: HostRuntime) -> Result<(), Fail> {
             CHECK,
             Script::new(NET_A, 4096, false, 0),
             Script::new(text, 64, false, fails_at),
-            Held::new(16, room.min(512)),
-            Held::new(16, 128),
+            Collector::new(16, room.min(512)),
+            Collector::new(16, 128),
         );
         assert_eq!(rt; ended.out.bytes(), b"".as_slice());
         assert_eq!(rt; ended.err.bytes(), message);
@@ -192,7 +204,7 @@ fn solve_into<W: Write>(alloc: Global, out: &mut Counted<W>) -> (u8, Vec<u8>) {
     let mut unread = Counted::new(b"".as_slice());
     let mut err = Counted::new(Vec::<u8>::new(alloc));
     let status = run(alloc, SOLVE, &mut input, &mut unread, out, &mut err);
-    (status, err.inner)
+    (status, err.into_inner())
 }
 
 #[test]
@@ -200,7 +212,7 @@ fn streams_of_std(rt: HostRuntime) -> Result<(), Fail> {
     let mut out = Counted::new(Vec::<u8>::new(rt.alloc()));
     let (status, message) = solve_into(rt.alloc(), &mut out);
     assert_eq!(rt; status, 0);
-    assert_eq!(rt; out.inner.as_slice(), SOLVED_A);
+    assert_eq!(rt; out.into_inner().as_slice(), SOLVED_A);
     assert_eq!(rt; message.as_slice(), b"".as_slice());
     let mut full = Counted::new(Full);
     let (status, message) = solve_into(rt.alloc(), &mut full);

@@ -1,8 +1,7 @@
 //! Where the bytes of a run come from, and where they go.
-ghost use Rattle.std.specs.Prelude.{◌≡◌, ◌≤◌, ℕ, Bool, List, length, IfOk};
-ghost use Rattle.std.specs.declared.option.Option.{Option};
+ghost use Rattle.std.specs.Prelude.{◌≡◌, ◌≤◌, ℕ, length, IfOk};
 ghost use Rattle.std.specs.Io.KnownBytes.{ReadConsumes, WriteAppends};
-ghost use Rattle.flow_tools.specs.Streams.{Flags, Lowers, TakesSome};
+ghost use Rattle.flow_tools.specs.Streams.{Flags, Lowers, State, TakesSome};
 
 use thiserror::Error;
 
@@ -13,11 +12,8 @@ pub struct Failed;
 
 /// A stream of bytes that is read to its end.
 pub trait Input {
-    /// The bytes that are left to read. `None` where no contract can know them, as of a file.
-    ghost left: { Self → Option (List ℕ) };
-
-    /// Whether a pull has failed.
-    ghost has_failed: { Self → Bool };
+    /// The bytes that are left to read, `None` where no contract can know them, as of a file; and whether a pull has failed.
+    ghost state: { Self → State };
 
     /// How many pulls may still deliver a byte.
     ghost bound: { Self → ℕ };
@@ -31,22 +27,19 @@ pub trait Input {
     /// true.
     fn pull(&mut self, buf: &mut [u8; 4096]) -> Result<usize, Failed>
         ensures fits { IfOk result (λ n. n ≤ 4096) }
-        ensures bytes { ReadConsumes (left self.old) (left self.new) result buf.new }
+        ensures bytes { ReadConsumes (state self.old).bytes (state self.new).bytes result buf.new }
         ensures falls { Lowers (bound self.old) (bound self.new) result }
-        ensures flag { Flags (has_failed self.old) (has_failed self.new) result };
+        ensures flag { Flags (state self.old).failed (state self.new).failed result };
 
     /// Whether a pull has failed.
     fn failed(&self) -> bool
-        ensures { result ≡ has_failed self.now };
+        ensures { result ≡ (state self.now).failed };
 }
 
 /// A stream that takes bytes.
 pub trait Output {
-    /// The bytes that were taken. `None` where no contract can know them, as of a file.
-    ghost taken: { Self → Option (List ℕ) };
-
-    /// Whether a put has failed.
-    ghost has_failed: { Self → Bool };
+    /// The bytes that were taken, `None` where no contract can know them, as of a file; and whether a put has failed.
+    ghost state: { Self → State };
 
     /// Takes a front of the bytes, and answers how many they are: at least 1 of a non-empty slice.
     ///
@@ -57,10 +50,10 @@ pub trait Output {
     fn put(&mut self, bytes: &[u8]) -> Result<usize, Failed>
         ensures fits { IfOk result (λ n. n ≤ length bytes.now) }
         ensures some { TakesSome bytes.now result }
-        ensures bytes { WriteAppends (taken self.old) (taken self.new) result bytes.now }
-        ensures flag { Flags (has_failed self.old) (has_failed self.new) result };
+        ensures bytes { WriteAppends (state self.old).bytes (state self.new).bytes result bytes.now }
+        ensures flag { Flags (state self.old).failed (state self.new).failed result };
 
     /// Whether a put has failed.
     fn failed(&self) -> bool
-        ensures { result ≡ has_failed self.now };
+        ensures { result ≡ (state self.now).failed };
 }

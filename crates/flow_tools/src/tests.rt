@@ -1,8 +1,8 @@
 //! Runs of `solve` and `cut` over memory: worked problems with their answers, and faults.
 use super::Job;
 use super::memory::Script;
-use super::nets::{NET_A, NET_B, NET_C, NET_D, NO_ARCS, SOLVED_A};
-use super::runs::answer;
+use super::test_nets::{NET_A, NET_B, NET_C, NET_D, NO_ARCS, SOLVED_A};
+use super::test_runs::answer;
 use std::alloc::Global;
 use std::process::Abort;
 use std::test::Fail;

@@ -4,7 +4,7 @@ use crate::calls::{
     BROKEN, REFUSED, both_ways, check_solution, declare, finish, push, read_problem, read_solution,
 };
 use crate::nets::{FOUR_NODES, OPTIMAL, TOO_FEW_ARCS};
-use flow_tools::memory::{Held, Script};
+use flow_tools::memory::{Collector, Script};
 use flow_tools::{Job, run};
 use std::alloc::Global;
 
@@ -67,8 +67,8 @@ fn run_named(alloc: Global, name: &[u8]) -> &'static [u8] {
 fn run_job(alloc: Global, job: Job, problem: &[u8], answer: &[u8]) -> &'static [u8] {
     let mut input = Script::new(problem, 4096, false, 0);
     let mut given = Script::new(OPTIMAL, 4096, false, 0);
-    let mut out: Held<128> = Held::new(128, 128);
-    let mut err: Held<64> = Held::new(64, 64);
+    let mut out: Collector<128> = Collector::new(128, 128);
+    let mut err: Collector<64> = Collector::new(64, 64);
     let status = run(alloc, job, &mut input, &mut given, &mut out, &mut err);
     match (status, out.bytes(), err.bytes()) {
         (4, b"", b"flow: out of memory\n") => REFUSED,

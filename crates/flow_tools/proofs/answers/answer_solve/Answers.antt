@@ -6,14 +6,14 @@ use Rattle.flow_tools.proofs.answers.answer_solve.Goals as goal
 
 pub returns-in-Ok-put_solution : goal.returns-in-Ok-put_solution
 returns-in-Ok-put_solution g c =
-    let p = c.args.problem.now in let found = c.in-Ok.found in
+    let p = c.args.problem.now in let solved = c.in-Ok.solved in
     let put = rw (c.net.ensures.net, c.as_slice.ensures.value, c.into_flows-flows.ensures) at c.in-Ok-put_solution.ensures.ok in
-    puts_all (Solve c.args.value_only) p _ _ _ _ (solution_text c.args.value_only p.net found.value found.table.flows)
-    (record { value = found.value; flows = found.table.flows; value_is = c.in-Ok.ensures.value; flow_is = c.in-Ok.ensures.flows; text_is = refl }, refl) put c.in-Ok-put_solution.ensures.flag
+    puts_all (Solve c.args.value_only) p _ _ _ _ (solution_text c.args.value_only p.net solved.value solved.table.flows)
+    (record { value = solved.value; flows = solved.table.flows; value_is = c.in-Ok.ensures.value; flow_is = c.in-Ok.ensures.flows; text_is = refl }, refl) put c.in-Ok-put_solution.ensures.flag
 
 pub returns : goal.returns
 returns g c =
-    let p = c.args.problem.now in let found = c.in-Ok.found in
+    let p = c.args.problem.now in let solved = c.in-Ok.solved in
     let put = rw (c.net.ensures.net, c.as_slice.ensures.value, c.into_flows-flows.ensures) at c.in-Err-put_solution.ensures.err in
-    puts_some (Solve c.args.value_only) p _ _ _ _ (solution_text c.args.value_only p.net found.value found.table.flows)
-    (record { value = found.value; flows = found.table.flows; value_is = c.in-Ok.ensures.value; flow_is = c.in-Ok.ensures.flows; text_is = refl }, refl) put c.in-Err-put_solution.ensures.flag
+    puts_some (Solve c.args.value_only) p _ _ _ _ (solution_text c.args.value_only p.net solved.value solved.table.flows)
+    (record { value = solved.value; flows = solved.table.flows; value_is = c.in-Ok.ensures.value; flow_is = c.in-Ok.ensures.flows; text_is = refl }, refl) put c.in-Err-put_solution.ensures.flag

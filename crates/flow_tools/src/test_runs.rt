@@ -1,14 +1,14 @@
 //! Runs over memory, for tests, and what they leave behind.
 
-use super::memory::{Held, Script};
+use super::memory::{Collector, Script};
 use super::{Input, Job, run};
 use std::alloc::Global;
 
 /// What a run left behind.
 #[derive(Drop)]
 pub(crate) struct Ended {
-    pub out: Held<512>,
-    pub err: Held<128>,
+    pub out: Collector<512>,
+    pub err: Collector<128>,
     pub status: u8,
     /// How many pulls of the problem were made.
     pub pulls: u64,
@@ -24,8 +24,8 @@ pub(crate) fn run_over(
     job: Job,
     mut problem: Script<'_>,
     mut solution: Script<'_>,
-    mut out: Held<512>,
-    mut err: Held<128>,
+    mut out: Collector<512>,
+    mut err: Collector<128>,
 ) -> Ended {
     let status = run(alloc, job, &mut problem, &mut solution, &mut out, &mut err);
     Ended {
@@ -43,15 +43,21 @@ pub(crate) fn run_alone(
     alloc: Global,
     job: Job,
     problem: Script<'_>,
-    out: Held<512>,
-    err: Held<128>,
+    out: Collector<512>,
+    err: Collector<128>,
 ) -> Ended {
     run_over(alloc, job, problem, Script::new(b"", 1, false, 1), out, err)
 }
 
 /// Runs a job over a problem alone, into ample streams that take 7 bytes a put.
 pub(crate) fn answer(alloc: Global, job: Job, problem: Script<'_>) -> Ended {
-    run_alone(alloc, job, problem, Held::new(7, 512), Held::new(7, 128))
+    run_alone(
+        alloc,
+        job,
+        problem,
+        Collector::new(7, 512),
+        Collector::new(7, 128),
+    )
 }
 
 /// Runs a job over a problem and a solution, into ample streams that take 16 bytes a put.
@@ -66,7 +72,7 @@ pub(crate) fn answer_both(
         job,
         problem,
         solution,
-        Held::new(16, 512),
-        Held::new(16, 128),
+        Collector::new(16, 512),
+        Collector::new(16, 128),
     )
 }

@@ -1,4 +1,4 @@
-use Rattle.std.proofs.Common.{◌∙◌, arith, refl}
+use Rattle.std.proofs.Common.{◌∙◌, arith, refl, rules}
 use Rattle.flow_net.specs.Nets.{no_arc}
 use Rattle.flow_net.specs.Cuts.{leaves}
 use Rattle.flow_text.specs.Output.{arc_line}
@@ -6,7 +6,7 @@ use Rattle.flow_tools.specs.Sides.{side_of}
 use Rattle.flow_tools.proofs.SendLemmas.{on_err}
 use Rattle.flow_tools.proofs.LineLemmas.{line_if, lines_more, lines_skip, lines_stop, lines_end, flat_map-filter}
 use Rattle.flow_tools.proofs.PrintLemmas.{arc_line_is, no_arc_line}
-use Rattle.flow_tools.proofs.printing.hold_arcs.Goals as goal
+use Rattle.flow_tools.proofs.printing.gather_arcs.Goals as goal
 
 pub loop-i-preserved-then-not-does_leave : goal.loop-i-preserved-then-not-does_leave
 loop-i-preserved-then-not-does_leave g c =
@@ -15,11 +15,15 @@ loop-i-preserved-then-not-does_leave g c =
       c.loop-i.invariant.1,
     )
 
-pub returns-in_err-gather_arc_line-clause-err : goal.returns-in_err-gather_arc_line-clause-err
-returns-in_err-gather_arc_line-clause-err g c =
+pub returns-in_err-gather_arc_line : goal.returns-in_err-gather_arc_line
+returns-in_err-gather_arc_line g c =
     let p = leaves (side_of c.args.sink c.args.side.now) in let arcs = c.args.net.now.arcs in
-    on_err c.from_residual.result (rw (flat_map-filter p arc_line arcs) (lines_stop (line_if p arc_line) arcs c.loop-i.i _ _ _ _ c.loop-i.invariant.0 no_arc _ _ (omega arith)
-    (arc_line_is p c.args.net.now c.loop-i.i c.arc-arc.result _ c.arc-arc.ensures.arc c.if-not-does_leave.ensures refl) c.in_err-gather_arc_line.ensures.err))
+    record {
+      ok = search rules;
+      err = on_err c.from_residual.result (rw (flat_map-filter p arc_line arcs) (lines_stop (line_if p arc_line) arcs c.loop-i.i _ _ _ _ c.loop-i.invariant.0 no_arc _ _ (omega arith)
+          (arc_line_is p c.args.net.now c.loop-i.i c.arc-arc.result _ c.arc-arc.ensures.arc c.if-not-does_leave.ensures refl) c.in_err-gather_arc_line.ensures.err));
+      flag = search rules;
+    }
 
 pub loop-i-preserved : goal.loop-i-preserved
 loop-i-preserved g c =
@@ -29,7 +33,7 @@ loop-i-preserved g c =
       c.in_ok-gather_arc_line.ensures.flag ∙ c.loop-i.invariant.1,
     )
 
-pub returns-clause-ok : goal.returns-clause-ok
-returns-clause-ok g c =
+pub returns : goal.returns
+returns g c =
     let p = leaves (side_of c.args.sink c.args.side.now) in let arcs = c.args.net.now.arcs in
-    rw (flat_map-filter p arc_line arcs) (lines_end (line_if p arc_line) arcs c.loop-i.i _ _ _ _ c.loop-i.invariant.0 (omega arith))
+    record { ok = rw (flat_map-filter p arc_line arcs) (lines_end (line_if p arc_line) arcs c.loop-i.i _ _ _ _ c.loop-i.invariant.0 (omega arith)); err = tt; flag = c.loop-i.invariant.1 }

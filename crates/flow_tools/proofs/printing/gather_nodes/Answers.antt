@@ -1,4 +1,4 @@
-use Rattle.std.proofs.Common.{◌∙◌, arith, refl}
+use Rattle.std.proofs.Common.{◌∙◌, arith, refl, rules}
 use Rattle.std.specs.List.{range_with_len}
 use Rattle.std.proofs.lemmas.List.FromFn.{length-range_with_len}
 use Rattle.flow_text.specs.Output.{node_line}
@@ -6,7 +6,7 @@ use Rattle.flow_tools.specs.Sides.{side_of}
 use Rattle.flow_tools.proofs.SendLemmas.{on_err}
 use Rattle.flow_tools.proofs.LineLemmas.{line_if, lines_more, lines_skip, lines_stop, lines_end, flat_map-filter}
 use Rattle.flow_tools.proofs.PrintLemmas.{node_line_is, no_node_line}
-use Rattle.flow_tools.proofs.printing.hold_nodes.Goals as goal
+use Rattle.flow_tools.proofs.printing.gather_nodes.Goals as goal
 
 pub loop-i-preserved-then-not-is_inside : goal.loop-i-preserved-then-not-is_inside
 loop-i-preserved-then-not-is_inside g c =
@@ -15,11 +15,15 @@ loop-i-preserved-then-not-is_inside g c =
       c.loop-i.invariant.1,
     )
 
-pub returns-in_err-gather_node_line-clause-err : goal.returns-in_err-gather_node_line-clause-err
-returns-in_err-gather_node_line-clause-err g c =
+pub returns-in_err-gather_node_line : goal.returns-in_err-gather_node_line
+returns-in_err-gather_node_line g c =
     let p = side_of c.args.sink c.args.side.now in let n = c.args.net.now.nodes in let e = length-range_with_len 1 n in
-    on_err c.from_residual.result (rw (flat_map-filter p node_line (range_with_len 1 n)) (lines_stop (line_if p node_line) (range_with_len 1 n) c.loop-i.i _ _ _ _ c.loop-i.invariant.0 0 _ _ (omega arith)
-    (node_line_is p n c.loop-i.i (omega arith) _ c.if-not-is_inside.ensures refl) c.in_err-gather_node_line.ensures.err))
+    record {
+      ok = search rules;
+      err = on_err c.from_residual.result (rw (flat_map-filter p node_line (range_with_len 1 n)) (lines_stop (line_if p node_line) (range_with_len 1 n) c.loop-i.i _ _ _ _ c.loop-i.invariant.0 0 _ _ (omega arith)
+          (node_line_is p n c.loop-i.i (omega arith) _ c.if-not-is_inside.ensures refl) c.in_err-gather_node_line.ensures.err));
+      flag = search rules;
+    }
 
 pub loop-i-preserved : goal.loop-i-preserved
 loop-i-preserved g c =
@@ -29,7 +33,7 @@ loop-i-preserved g c =
       c.in_ok-gather_node_line.ensures.flag ∙ c.loop-i.invariant.1,
     )
 
-pub returns-clause-ok : goal.returns-clause-ok
-returns-clause-ok g c =
+pub returns : goal.returns
+returns g c =
     let p = side_of c.args.sink c.args.side.now in let n = c.args.net.now.nodes in let e = length-range_with_len 1 n in
-    rw (flat_map-filter p node_line (range_with_len 1 n)) (lines_end (line_if p node_line) (range_with_len 1 n) c.loop-i.i _ _ _ _ c.loop-i.invariant.0 (omega arith))
+    record { ok = rw (flat_map-filter p node_line (range_with_len 1 n)) (lines_end (line_if p node_line) (range_with_len 1 n) c.loop-i.i _ _ _ _ c.loop-i.invariant.0 (omega arith)); err = tt; flag = c.loop-i.invariant.1 }

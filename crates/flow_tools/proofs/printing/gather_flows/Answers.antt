@@ -1,17 +1,21 @@
-use Rattle.std.proofs.Common.{◌∙◌, arith, refl}
+use Rattle.std.proofs.Common.{◌∙◌, arith, refl, rules}
 use Rattle.std.specs.List.{zip}
 use Rattle.flow_net.specs.Nets.{no_arc}
 use Rattle.flow_text.specs.Output.{arc_flow_line}
 use Rattle.flow_tools.proofs.SendLemmas.{on_err}
 use Rattle.flow_tools.proofs.LineLemmas.{lines_more, lines_stop, lines_end}
 use Rattle.flow_tools.proofs.PrintLemmas.{length-arc_flows, flow_line_is}
-use Rattle.flow_tools.proofs.printing.hold_flows.Goals as goal
+use Rattle.flow_tools.proofs.printing.gather_flows.Goals as goal
 
-pub returns-in_err-gather_flow_line-clause-err : goal.returns-in_err-gather_flow_line-clause-err
-returns-in_err-gather_flow_line-clause-err g c =
+pub returns-in_err-gather_flow_line : goal.returns-in_err-gather_flow_line
+returns-in_err-gather_flow_line g c =
     let net = c.args.net.now in let flows = c.args.flows.now in let e = length-arc_flows net flows c.requires.count in
-    on_err c.from_residual.result (lines_stop arc_flow_line (zip net.arcs flows) c.loop-i.i _ _ _ _ c.loop-i.invariant.0 (no_arc, 0) _ _ (omega arith)
-    (flow_line_is net flows c.requires.count c.loop-i.i _ _ (omega arith) c.arc-arc.ensures.arc refl) c.in_err-gather_flow_line.ensures.err)
+    record {
+      ok = search rules;
+      err = on_err c.from_residual.result (lines_stop arc_flow_line (zip net.arcs flows) c.loop-i.i _ _ _ _ c.loop-i.invariant.0 (no_arc, 0) _ _ (omega arith)
+          (flow_line_is net flows c.requires.count c.loop-i.i _ _ (omega arith) c.arc-arc.ensures.arc refl) c.in_err-gather_flow_line.ensures.err);
+      flag = search rules;
+    }
 
 pub loop-i-preserved : goal.loop-i-preserved
 loop-i-preserved g c =
@@ -21,7 +25,7 @@ loop-i-preserved g c =
       c.in_ok-gather_flow_line.ensures.flag ∙ c.loop-i.invariant.1,
     )
 
-pub returns-clause-ok : goal.returns-clause-ok
-returns-clause-ok g c =
+pub returns : goal.returns
+returns g c =
     let net = c.args.net.now in let flows = c.args.flows.now in let e = length-arc_flows net flows c.requires.count in
-    lines_end arc_flow_line (zip net.arcs flows) c.loop-i.i _ _ _ _ c.loop-i.invariant.0 (omega arith)
+    record { ok = lines_end arc_flow_line (zip net.arcs flows) c.loop-i.i _ _ _ _ c.loop-i.invariant.0 (omega arith); err = tt; flag = c.loop-i.invariant.1 }

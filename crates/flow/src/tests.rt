@@ -192,8 +192,8 @@ const HELP_OF_ALL: [&str; 8] = [
 #[test]
 fn help_tells_what_is_read_and_printed(rt: HostRuntime) -> Result<(), Fail> {
     for (command, wanted) in HELP {
-        let mut out: Held<4096> = Held::new(7, 4096);
-        let mut err: Held<4096> = Held::new(7, 4096);
+        let mut out: Collector<4096> = Collector::new(7, 4096);
+        let mut err: Collector<4096> = Collector::new(7, 4096);
         let words = ["flow", command, "--help"];
         let status = program(rt.alloc(), &words, &mut Memory, &mut out, &mut err);
         assert_eq!(rt; status, 0);
@@ -230,13 +230,13 @@ const REFUSED: [(&[&str], &[u8]); 4] = [
 #[test]
 fn refused_words_and_all_that_is_told(rt: HostRuntime) -> Result<(), Fail> {
     for (words, message) in REFUSED {
-        let mut out: Held<512> = Held::new(7, 512);
-        let mut err: Held<512> = Held::new(7, 512);
+        let mut out: Collector<512> = Collector::new(7, 512);
+        let mut err: Collector<512> = Collector::new(7, 512);
         let status = program(rt.alloc(), words, &mut Memory, &mut out, &mut err);
         assert_eq!(rt; status, 2);
         assert_eq!(rt; out.bytes(), b"".as_slice());
         assert_eq!(rt; err.bytes(), message);
-        let mut full: Held<512> = Held::new(7, 3);
+        let mut full: Collector<512> = Collector::new(7, 3);
         let status = program(rt.alloc(), words, &mut Memory, &mut out, &mut full);
         assert_eq!(rt; status, 2);
         assert_eq!(rt; full.bytes(), b"err".as_slice());
@@ -380,5 +380,93 @@ fn a_comment_of_a_million_bytes(rt: HostRuntime) -> Result<(), Fail> {
     );
     assert_eq!(rt; silent.bytes(), b"".as_slice());
     assert_eq!(rt; status, 0);
+    Ok(())
+}
+
+/// Counts what it is asked for: standard input and the file `b.max`, which both have the given text, and files that are
+/// missing.
+#[derive(Drop)]
+struct Asked {
+    text: &'static [u8],
+    files: u64,
+    standard: u64,
+    missing: u64,
+}
+
+impl Source for Asked {
+    type In = Script<'static>;
+
+    fn input(&mut self, name: Option<&str>) -> Option<Script<'static>> {
+        match name {
+            None => {
+                self.standard = self.standard.saturating_add(1);
+                Some(Script::new(self.text, 4096, false, 0))
+            }
+            Some("b.max") => {
+                self.files = self.files.saturating_add(1);
+                Some(Script::new(self.text, 4096, false, 0))
+            }
+            Some(_) => {
+                self.missing = self.missing.saturating_add(1);
+                None
+            }
+        }
+    }
+}
+
+impl Asked {
+    fn new(text: &'static [u8]) -> Asked {
+        Asked {
+            text,
+            files: 0,
+            standard: 0,
+            missing: 0,
+        }
+    }
+}
+
+/// Words, and how often the problem's file and standard input are asked for.
+type Asks = (&'static [&'static str], u64, u64);
+
+/// No command but `check` has a solution, so none but it asks for one.
+const ASKS: [Asks; 8] = [
+    (&["flow", "solve", "b.max"], 1, 0),
+    (&["flow", "solve"], 0, 1),
+    (&["flow", "cut", "b.max"], 1, 0),
+    (&["flow", "cut", "--sink", "--arcs"], 0, 1),
+    (&["flow", "connect", "b.max"], 1, 0),
+    (&["flow", "connect", "--pair"], 0, 1),
+    (&["flow", "check", "b.max"], 1, 1),
+    (&["flow", "check", "b.max", "b.max"], 2, 0),
+];
+
+#[test]
+fn a_source_is_asked_for_what_the_job_reads(rt: HostRuntime) -> Result<(), Fail> {
+    for (words, files, standard) in ASKS {
+        let mut source = Asked::new(NET_B);
+        let mut out: Collector<4096> = Collector::new(64, 4096);
+        let mut err: Collector<4096> = Collector::new(64, 4096);
+        let _ = program(rt.alloc(), words, &mut source, &mut out, &mut err);
+        assert_eq!(rt; source.files, files);
+        assert_eq!(rt; source.standard, standard);
+        assert_eq!(rt; source.missing, 0);
+    }
+    Ok(())
+}
+
+/// Both inputs of a check are opened before anything is read: a problem with a fault isn't told of where the solution is
+/// missing.
+#[test]
+fn a_missing_solution_comes_before_a_fault(rt: HostRuntime) -> Result<(), Fail> {
+    let mut source = Asked::new(b"p min 2 0\n");
+    let mut out: Collector<64> = Collector::new(64, 64);
+    let mut err: Collector<64> = Collector::new(64, 64);
+    let words = ["flow", "check", "b.max", "missing.sol"];
+    let status = program(rt.alloc(), &words, &mut source, &mut out, &mut err);
+    assert_eq!(rt; status, 4);
+    assert_eq!(rt; out.bytes(), b"".as_slice());
+    assert_eq!(rt; err.bytes(), b"flow: cannot open missing.sol\n".as_slice());
+    assert_eq!(rt; source.files, 1);
+    assert_eq!(rt; source.missing, 1);
     Ok(())
 }

@@ -123,7 +123,7 @@ not_before net order i v o l h e = let r = before_place order i v h in o.distinc
 apart_from : (net : Net) (order : List ℕ) (i : ℕ) → IsOrder net order → i < length order → AreApart (before order i) (just (slice_index order i))
 apart_from net order i o l v h = ne_eqb v (slice_index order i) (not_before net order i v o l h)
 
-apart_to : (net : Net) (order : List ℕ) (i : ℕ) → IsOrder net order → i < length order → AreApart (just (slice_index order i)) (before order i)
+pub apart_to : (net : Net) (order : List ℕ) (i : ℕ) → IsOrder net order → i < length order → AreApart (just (slice_index order i)) (before order i)
 apart_to net order i o l v h = elim (cases_Bool (before order i v)) [
   | inl e ↦ absurd (not_before net order i v o l e (eqb-true v (slice_index order i) h))
   | inr e ↦ e
@@ -133,7 +133,7 @@ some_pair : (net : Net) (s t : ℕ → Bool) → IsNet net → AreApart s t → 
 some_pair net s t n a = let m = max_flow_min_cut (unit net) s t (IsNet-unit net n) a in (m.0, pair_by_solve net s t m.0 m.2)
 
 -- what is at most each pair's number is at most what leaves any proper set
-growth_below : (net : Net) (order : List ℕ) (k : ℕ) (X : ℕ → Bool) → IsNet net → IsOrder net order → ((i j : ℕ) → 1 ≤ i → i < length order → IsGrowthPair net order i j → k ≤ j) → IsProper net X → k ≤ leaving net X
+pub growth_below : (net : Net) (order : List ℕ) (k : ℕ) (X : ℕ → Bool) → IsNet net → IsOrder net order → ((i j : ℕ) → 1 ≤ i → i < length order → IsGrowthPair net order i j → k ≤ j) → IsProper net X → k ≤ leaving net X
 growth_below net order k X n o least p =
     let r = parting net order X o p in
     elim (parting_cut order X r.0 r.3 r.4) [

@@ -91,13 +91,13 @@ moved_before net s t xs d w h ys k r m = record {
   value = omega (arith, m.value, net_pushed s net ys h d m.fits.count k r);
 }
 
-held_none : (X : ℕ → Bool) (v d : ℕ) → X v ≡ false → held X v d ≡ 0
+pub held_none : (X : ℕ → Bool) (v d : ℕ) → X v ≡ false → held X v d ≡ 0
 held_none X v d h = rw h refl
 
-held_all : (X : ℕ → Bool) (v d : ℕ) → X v ≡ true → held X v d ≡ d
+pub held_all : (X : ℕ → Bool) (v d : ℕ) → X v ≡ true → held X v d ≡ d
 held_all X v d h = rw h refl
 
-other_node : (X : ℕ → Bool) (u v : ℕ) → X u ≡ true → X v ≡ false → eqb u v ≡ false
+pub other_node : (X : ℕ → Bool) (u v : ℕ) → X u ≡ true → X v ≡ false → eqb u v ≡ false
 other_node X u v h k = ne_eqb u v (λ e. let same : X u ≡ X v = ap X e in cc)
 
 -- moved from a source to a sink: a flow whose value is larger by d

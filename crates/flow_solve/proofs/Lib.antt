@@ -18,3 +18,6 @@ pub mod Walks
 pub mod Levelled
 pub mod Turning
 pub mod Rising
+mod Growing
+mod SeenCells
+mod BothWays

@@ -6,3 +6,4 @@ pub mod Steps
 pub mod Trails
 pub mod Levels
 pub mod Trees
+pub mod Growth

@@ -85,6 +85,10 @@ impl Raise for Levels {
 impl Method for Levels {
     ghost steps_bound = { levels_bound };
 
+    fn spare_steps(net: &Network) -> u64 {
+        u64::from(net.nodes()) * u64::from(net.nodes()) * u64::from(net.len())
+    }
+
     fn greatest(
         net: &Network,
         s: &[u32],

@@ -37,6 +37,7 @@
 
 mod chains;
 mod frontiers;
+mod growth;
 mod levels;
 mod method;
 mod orphans;
@@ -49,6 +50,7 @@ mod searching;
 mod trees;
 mod walking;
 
+pub use growth::connectivity_by_growth;
 pub use levels::Levels;
 pub use method::{Method, work_len};
 pub use paths::Paths;

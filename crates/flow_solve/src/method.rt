@@ -20,6 +20,10 @@ pub trait Method {
     /// How many steps it takes at most, for each network.
     ghost steps_bound: { Net → ℕ };
 
+    /// Some number of steps, no greater than that.
+    fn spare_steps(net: &Network) -> u64
+        ensures { result ≤ steps_bound net.now };
+
     /// Leaves a feasible flow of the greatest value in the table, with nothing on self-loops, and answers that value.
     /// Whatever flow the table held is cleared first. `s` has the sources and `t` the sinks.
     fn greatest(net: &Network, s: &[u32], t: &[u32], flow: &mut FlowTable, work: &mut [u32]) -> u128

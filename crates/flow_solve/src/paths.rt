@@ -166,6 +166,10 @@ impl Raise for Paths {
 impl Method for Paths {
     ghost steps_bound = { paths_bound };
 
+    fn spare_steps(net: &Network) -> u64 {
+        u64::from(net.nodes()) * u64::from(net.len())
+    }
+
     fn greatest(
         net: &Network,
         s: &[u32],

@@ -1,0 +1,30 @@
+use Rattle.std.proofs.Common.{◌≡◌, ◌⊎◌, ℕ, ◌+◌, ◌-◌, ◌*◌, ◌<◌, ◌≤◌, Bool, List, IsTrue, length}
+use Rattle.std.specs.Prelude.{slice_index}
+use Rattle.flow_net.specs.Flows.{Fits, IsFeasible}
+use Rattle.flow_net.specs.Nets.{IsNode}
+use Rattle.flow_net.specs.NodeSets.{just}
+use Rattle.flow_net.specs.Orders.{before}
+use Rattle.flow_net.specs.Connectivity.{leaving, IsProper}
+use Rattle.flow_net.specs.Residual.{head_of, residual}
+use Rattle.flow_solve.specs.Searches.{crossed}
+use Rattle.flow_solve.specs.Growth.{IsRaised, IsBalanced, IsBelow, ArePlaces, IsClean, IsQueued, IsPassed, IsPartOrder}
+use Rattle.flow_solve.proofs.growth.grow.Given as goal
+
+abbrev pub invariant-loop-place : goal.invariant-loop-place
+invariant-loop-place l = record {
+  end : l.n ≡ l.packed.net.now.nodes;
+  begun : 1 ≤ l.place;
+  fits : Fits l.packed.net.now l.flow.flows;
+  size : length l.cells ≡ l.packed.net.now.nodes;
+  current_size : length l.current ≡ l.packed.net.now.nodes;
+  queue_size : length l.queue ≡ l.packed.net.now.nodes;
+  path_size : length l.path ≡ l.packed.net.now.nodes;
+  places : ArePlaces l.packed.net.now.nodes l.order l.cells;
+  clean : IsClean l.packed.net.now.nodes l.cells;
+  balanced : IsBalanced l.packed.net.now l.order l.place l.flow.flows;
+  reached : (X : ℕ → Bool) × IsProper l.packed.net.now X × (leaving l.packed.net.now X ≡ l.least.value);
+  below : (i : ℕ) → 1 ≤ i → i < l.place → IsBelow l.direction l.packed.net.now l.order i l.least.value;
+  fewer : l.least.value ≤ l.fn.least.value;
+  never_lowered : l.fn.flow.steps ≤ l.flow.steps;
+  steps : l.flow.steps + l.least.left ≤ l.fn.flow.steps + l.fn.least.left;
+}

@@ -1,0 +1,25 @@
+use Rattle.std.proofs.Common.{◌≡◌, ◌⊎◌, ℕ, ◌+◌, ◌-◌, ◌*◌, ◌<◌, ◌≤◌, Bool, List, IsTrue, length}
+use Rattle.std.specs.Prelude.{slice_index}
+use Rattle.flow_net.specs.Flows.{Fits, IsFeasible}
+use Rattle.flow_net.specs.Nets.{IsNode}
+use Rattle.flow_net.specs.NodeSets.{just}
+use Rattle.flow_net.specs.Orders.{before}
+use Rattle.flow_net.specs.Connectivity.{leaving, IsProper}
+use Rattle.flow_net.specs.Residual.{head_of, residual}
+use Rattle.flow_solve.specs.Searches.{crossed}
+use Rattle.flow_solve.specs.Growth.{IsRaised, IsBalanced, IsBelow, ArePlaces, IsClean, IsQueued, IsPassed, IsPartOrder}
+use Rattle.flow_solve.proofs.growth.raising.next_way.Given as goal
+
+abbrev pub invariant-loop-spot : goal.invariant-loop-spot
+invariant-loop-spot l = record {
+  fits : Fits l.turn.packed.net.now l.flow.flows;
+  flows : l.flow.flows ≡ l.fn.flow.flows;
+  begun : slice_index l.turn.packed.first.now (l.node - 1) ≤ l.spot;
+  current_size : length l.current ≡ l.turn.packed.net.now.nodes;
+  fewer : l.left ≤ l.fn.left;
+  never_lowered : l.fn.flow.steps ≤ l.flow.steps;
+  steps : l.flow.steps + l.left ≤ l.fn.flow.steps + l.fn.left;
+}
+
+abbrev pub decreases-loop-spot : goal.decreases-loop-spot
+decreases-loop-spot l = l.end - l.spot

@@ -1,0 +1,155 @@
+//! Edge connectivity by terminals that grow along an order of the nodes.
+//!
+//! The nodes are taken in the order of a search over arcs in either direction, so that each stands near earlier ones. At a
+//! node's turn the flow between it and all earlier nodes is raised until it is worth the least number so far, or no more
+//! can be raised; then the least number falls to its value. The flow is kept from turn to turn: a node that has become a
+//! terminal needs no conservation, so the flow stays feasible, and at the next node its value is 0. Nothing is done for
+//! the whole network at a turn: a search puts back the cells that it has changed, and whether a node is a terminal is one
+//! comparison of its place in the order.
+//!
+//! A turn goes by phases with current places, as [`Levels`](crate::Levels) does. Its paths are found by search and walk, of
+//! which nothing is proved but that they stay within the cells. What they find is tested as it is used: each half-arc of a
+//! path when a unit is pushed over it, and each half-arc that leaves the set of the nodes that were seen when no more can be
+//! raised. All looks and pushes are counted against a number that the caller sets; where it is used up the answer is none.
+ghost use Rattle.std.specs.Prelude.{◌≡◌, ℕ, Bool, ◌+◌, ◌*◌, ◌<◌, ◌≤◌, MatchOption, IfSome, IsTrue, length};
+ghost use Rattle.std.specs.List.{All};
+ghost use Rattle.flow_net.specs.Flows.{Fits};
+ghost use Rattle.flow_net.specs.Orders.{IsOrder};
+ghost use Rattle.flow_net.specs.Connectivity.{leaving, IsProper, IsConnectivity};
+ghost use Rattle.flow_solve.specs.Packs.{IsPacked};
+ghost use Rattle.flow_solve.specs.Bounds.{work_cells};
+ghost use Rattle.flow_solve.specs.Growth.{ArePlaces, IsClean, IsBelow};
+
+mod frontier;
+mod mirrors;
+mod ordering;
+mod raising;
+mod turns;
+
+use crate::packing::{Packed, pack};
+use crate::searching::Direction;
+use flow_net::{FlowTable, Network};
+use mirrors::is_both_ways;
+use ordering::order_nodes;
+use raising::{Raised, raise};
+use turns::Turn;
+
+/// One pass over the order: each node but the first has its turn. `least` holds the least number so far and how many looks
+/// and pushes are left; the answer is the same after the pass, or nothing where they are used up.
+fn grow(
+    packed: Packed<'_>,
+    order: &[u32],
+    direction: Direction,
+    flow: &mut FlowTable,
+    cells: &mut [u32],
+    rest: &mut [u32],
+    least: Raised,
+) -> Option<Raised>
+    requires fits { Fits packed.net.now flow.old.flows }
+    requires unit { All (λ a. a.cap ≡ 1) packed.net.now.arcs }
+    requires packed { IsPacked packed.net.now packed.first.now packed.halves.now }
+    requires order { IsOrder packed.net.now order.now }
+    requires order_size { length order.now ≡ packed.net.now.nodes }
+    requires size { length cells.old ≡ packed.net.now.nodes }
+    requires rest_size { length rest.old ≡ 3 * packed.net.now.nodes }
+    requires places { ArePlaces packed.net.now.nodes order.now cells.old }
+    requires clean { IsClean packed.net.now.nodes cells.old }
+    requires reached { (X : ℕ → Bool) × IsProper packed.net.now X × (leaving packed.net.now X ≡ least.value) }
+    ensures fits { Fits packed.entry.net.now flow.new.flows }
+    ensures places { IfSome result (λ _. ArePlaces packed.entry.net.now.nodes order.now cells.new) }
+    ensures clean { IfSome result (λ _. IsClean packed.entry.net.now.nodes cells.new) }
+    ensures reached { IfSome result (λ r. (X : ℕ → Bool) × IsProper packed.entry.net.now X × (leaving packed.entry.net.now X ≡ r.value)) }
+    ensures below { IfSome result (λ r. (i : ℕ) → 1 ≤ i → i < packed.entry.net.now.nodes → IsBelow direction packed.entry.net.now order.now i r.value) }
+    ensures fewer { IfSome result (λ r. r.value ≤ least.value) }
+    ensures never_lowered { flow.old.steps ≤ flow.new.steps }
+    ensures steps { MatchOption result (flow.new.steps ≤ flow.old.steps + least.left) (λ r. flow.new.steps + r.left ≤ flow.old.steps + least.left) }
+{
+    let n = packed.net.nodes();
+    let (current, rest) = rest.split_at_mut(n as usize);
+    let (queue, path) = rest.split_at_mut(n as usize);
+    flow.clear();
+    let mut least = least;
+    for place in 1..n {
+        if least.value == 0 {
+            return Some(least);
+        }
+        let turn = Turn {
+            packed,
+            order,
+            direction,
+            place,
+        };
+        least = raise(
+            turn,
+            flow,
+            cells,
+            current,
+            queue,
+            path,
+            least.value,
+            least.left,
+        )?;
+    }
+    Some(least)
+}
+
+/// The edge connectivity of a network in which every capacity is 1, where a set of nodes is known that `least` arcs leave and
+/// that is neither empty nor all. It takes at most `budget` looks and pushes, and answers nothing where these don't suffice.
+///
+/// It takes no memory: it works in the first [`work_len`](crate::work_len) cells of `work`.
+pub fn connectivity_by_growth(
+    net: &Network,
+    least: u64,
+    flow: &mut FlowTable,
+    work: &mut [u32],
+    budget: u64,
+) -> Option<u64>
+    requires fits { Fits net.now flow.old.flows }
+    requires unit { All (λ a. a.cap ≡ 1) net.now.arcs }
+    requires reached { (X : ℕ → Bool) × IsProper net.now X × (leaving net.now X ≡ least) }
+    requires cells { length work.old ≡ work_cells net.now }
+    ensures connectivity { IfSome result (λ k. IsConnectivity net.now k) }
+    ensures never_lowered { flow.old.steps ≤ flow.new.steps }
+    ensures steps { flow.new.steps ≤ flow.old.steps + budget }
+    ensures still_fits { Fits net.now flow.new.flows }
+{
+    let n = net.nodes() as usize;
+    let m = net.len() as usize;
+    let (order, rest) = work.split_at_mut(n);
+    let (cells, rest) = rest.split_at_mut(n);
+    let (three, rest) = rest.split_at_mut(3 * n);
+    let (first, rest) = rest.split_at_mut(n + 1);
+    let (halves, _) = rest.split_at_mut(2 * m);
+    pack(net, first, halves);
+    let packed = Packed { net, first, halves };
+    if !order_nodes(packed, order, cells) {
+        return None;
+    }
+    let start = Raised {
+        value: least,
+        left: budget,
+    };
+    let forth = grow(
+        packed,
+        order,
+        Direction::Forwards,
+        flow,
+        cells,
+        three,
+        start,
+    )?;
+    // The two directions are then alike.
+    if is_both_ways(net) {
+        return Some(forth.value);
+    }
+    let back = grow(
+        packed,
+        order,
+        Direction::Backwards,
+        flow,
+        cells,
+        three,
+        forth,
+    )?;
+    Some(back.value)
+}

@@ -1,0 +1,247 @@
+//! The search of a phase: it goes out from the node of the turn, level by level, and stops at terminals.
+ghost use Rattle.std.specs.Prelude.{◌≡◌, ℕ, ◌+◌, ◌*◌, ◌<◌, ◌≤◌, MatchOption, IfSome, IsTrue, length, slice_index};
+ghost use Rattle.flow_net.specs.Nets.{IsNode};
+ghost use Rattle.flow_net.specs.Flows.{Fits};
+ghost use Rattle.flow_net.specs.NodeSets.{just};
+ghost use Rattle.flow_net.specs.Orders.{before, IsOrder};
+ghost use Rattle.flow_net.specs.Cuts.{IsCut};
+ghost use Rattle.flow_solve.specs.Searches.{IsClosedFor};
+ghost use Rattle.flow_solve.specs.Growth.{IsTurn, ArePlaces, IsClean, IsQueued, IsPassed, seen_in};
+
+use crate::growth::turns::Turn;
+use crate::searching::{cross, head};
+use flow_net::FlowTable;
+
+/// How far a search has come.
+#[derive(Clone, Copy)]
+pub(crate) struct Frontier {
+    /// How many nodes it has seen: the end of its queue.
+    pub tail: u32,
+    /// How many half-arcs with a residual capacity lead from these to terminals, as far as it has counted.
+    pub met: u64,
+    /// How many looks and pushes are left.
+    pub left: u64,
+}
+
+/// What the cell of a node that is seen gets, a level higher than a node with this cell.
+///
+/// The cell of a node that is seen holds the number of nodes and twice its level, and one more once a walk has entered it.
+pub(crate) fn above(nodes: u32, cell: u32) -> u32
+    requires { nodes ≤ 1000000 }
+    ensures no_place { nodes ≤ result }
+    ensures small { result ≤ 3 * nodes + 2 }
+{
+    let levels = cell.saturating_sub(nodes).min(2 * nodes) / 2;
+    nodes + 2 * levels + 2
+}
+
+/// Looks at a half-arc that leaves a node which is seen, if it leads to one that isn't: a terminal is counted, and another
+/// node is entered with the number for its cell.
+#[tactic(auto, using(crate::proofs::SeenCells::places_marked, crate::proofs::SeenCells::queued_more))]
+fn meet(
+    turn: Turn<'_>,
+    flow: &mut FlowTable,
+    cells: &mut [u32],
+    queue: &mut [u32],
+    frontier: Frontier,
+    half: u32,
+    level: u32,
+) -> Frontier
+    requires fits { Fits turn.packed.net.now flow.old.flows }
+    requires turn { IsTurn turn.packed.net.now turn.packed.first.now turn.packed.halves.now turn.order.now turn.place }
+    requires size { length cells.old ≡ turn.packed.net.now.nodes }
+    requires queue_size { length queue.old ≡ turn.packed.net.now.nodes }
+    requires places { ArePlaces turn.packed.net.now.nodes turn.order.now cells.old }
+    requires queued { IsQueued turn.packed.net.now.nodes turn.order.now cells.old queue.old frontier.tail }
+    requires half { half < 2 * length turn.packed.net.now.arcs }
+    requires level { turn.packed.net.now.nodes ≤ level }
+    ensures places { ArePlaces turn.entry.packed.net.now.nodes turn.entry.order.now cells.new }
+    ensures queued { IsQueued turn.entry.packed.net.now.nodes turn.entry.order.now cells.new queue.new result.tail }
+    ensures fewer { result.left ≤ frontier.left }
+    ensures flows { flow.new.flows ≡ flow.old.flows }
+    ensures never_lowered { flow.old.steps ≤ flow.new.steps }
+    ensures steps { flow.new.steps + result.left ≤ flow.old.steps + frontier.left }
+{
+    let net = turn.packed.net;
+    let n = net.nodes();
+    let Frontier { tail, met, left } = frontier;
+    let place = head(net, half) - 1;
+    let cell = cells[place as usize];
+    if cell >= n || left == 0 {
+        return frontier;
+    }
+    let left = left - 1;
+    let (_, room) = flow.look(net, cross(turn.direction, half));
+    if room == 0 || tail >= n {
+        return Frontier { tail, met, left };
+    }
+    if cell < turn.place {
+        let met = met.saturating_add(1);
+        return Frontier { tail, met, left };
+    }
+    cells[place as usize] = level;
+    queue[tail as usize] = cell;
+    let tail = tail + 1;
+    Frontier { tail, met, left }
+}
+
+/// Looks at the half-arcs that leave a node which is seen, until so many terminals are met, and enters the nodes behind them,
+/// a level higher.
+fn expand(
+    turn: Turn<'_>,
+    flow: &mut FlowTable,
+    cells: &mut [u32],
+    queue: &mut [u32],
+    frontier: Frontier,
+    node: u32,
+    need: u64,
+) -> Frontier
+    requires fits { Fits turn.packed.net.now flow.old.flows }
+    requires turn { IsTurn turn.packed.net.now turn.packed.first.now turn.packed.halves.now turn.order.now turn.place }
+    requires size { length cells.old ≡ turn.packed.net.now.nodes }
+    requires queue_size { length queue.old ≡ turn.packed.net.now.nodes }
+    requires places { ArePlaces turn.packed.net.now.nodes turn.order.now cells.old }
+    requires queued { IsQueued turn.packed.net.now.nodes turn.order.now cells.old queue.old frontier.tail }
+    requires node { IsNode turn.packed.net.now node }
+    ensures places { ArePlaces turn.entry.packed.net.now.nodes turn.entry.order.now cells.new }
+    ensures queued { IsQueued turn.entry.packed.net.now.nodes turn.entry.order.now cells.new queue.new result.tail }
+    ensures fewer { result.left ≤ frontier.left }
+    ensures flows { flow.new.flows ≡ flow.old.flows }
+    ensures never_lowered { flow.old.steps ≤ flow.new.steps }
+    ensures steps { flow.new.steps + result.left ≤ flow.old.steps + frontier.left }
+{
+    let packed = turn.packed;
+    let level = above(packed.net.nodes(), cells[node as usize - 1]);
+    let mut reached = frontier;
+    for spot in packed.first[node as usize - 1]..packed.first[node as usize] {
+        if reached.met >= need {
+            return reached;
+        }
+        let half = packed.halves[spot as usize];
+        reached = meet(turn, flow, cells, queue, reached, half, level);
+    }
+    reached
+}
+
+/// Searches from the node of the turn, until so many terminals are met, or no further node can be seen.
+pub(crate) fn search(
+    turn: Turn<'_>,
+    flow: &mut FlowTable,
+    cells: &mut [u32],
+    queue: &mut [u32],
+    need: u64,
+    left: u64,
+) -> Frontier
+    requires fits { Fits turn.packed.net.now flow.old.flows }
+    requires turn { IsTurn turn.packed.net.now turn.packed.first.now turn.packed.halves.now turn.order.now turn.place }
+    requires size { length cells.old ≡ turn.packed.net.now.nodes }
+    requires queue_size { length queue.old ≡ turn.packed.net.now.nodes }
+    requires places { ArePlaces turn.packed.net.now.nodes turn.order.now cells.old }
+    requires clean { IsClean turn.packed.net.now.nodes cells.old }
+    ensures places { ArePlaces turn.entry.packed.net.now.nodes turn.entry.order.now cells.new }
+    ensures queued { IsQueued turn.entry.packed.net.now.nodes turn.entry.order.now cells.new queue.new result.tail }
+    ensures fewer { result.left ≤ left }
+    ensures flows { flow.new.flows ≡ flow.old.flows }
+    ensures never_lowered { flow.old.steps ≤ flow.new.steps }
+    ensures steps { flow.new.steps + result.left ≤ flow.old.steps + left }
+{
+    let start = turn.order[turn.place as usize];
+    queue[0] = turn.place;
+    cells[start as usize - 1] = turn.packed.net.nodes() + 1;
+    let mut frontier = Frontier {
+        tail: 1,
+        met: 0,
+        left,
+    };
+    let mut at = 0;
+    while at < frontier.tail && frontier.met < need {
+        let node = turn.order[queue[at as usize] as usize];
+        frontier = expand(turn, flow, cells, queue, frontier, node, need);
+        at += 1;
+    }
+    frontier
+}
+
+/// Whether no half-arc that goes out from a node has a residual capacity and leads to a node that isn't seen.
+fn is_done(turn: Turn<'_>, flow: &mut FlowTable, cells: &[u32], node: u32, left: u64) -> Option<u64>
+    requires fits { Fits turn.packed.net.now flow.old.flows }
+    requires turn { IsTurn turn.packed.net.now turn.packed.first.now turn.packed.halves.now turn.order.now turn.place }
+    requires size { length cells.now ≡ turn.packed.net.now.nodes }
+    requires node { IsNode turn.packed.net.now node }
+    ensures done { IfSome result (λ _. IsPassed turn.entry.direction turn.entry.packed.net.now flow.old.flows cells.now node) }
+    ensures flows { flow.new.flows ≡ flow.old.flows }
+    ensures never_lowered { flow.old.steps ≤ flow.new.steps }
+    ensures steps { MatchOption result (flow.new.steps ≤ flow.old.steps + left) (λ rest. flow.new.steps + rest ≤ flow.old.steps + left) }
+{
+    let packed = turn.packed;
+    let n = packed.net.nodes();
+    let mut rest = left;
+    for spot in packed.first[node as usize - 1]..packed.first[node as usize] {
+        let half = packed.halves[spot as usize];
+        if cells[head(packed.net, half) as usize - 1] < n {
+            if rest == 0 {
+                return None;
+            }
+            rest -= 1;
+            let (_, room) = flow.look(packed.net, cross(turn.direction, half));
+            if room > 0 {
+                return None;
+            }
+        }
+    }
+    Some(rest)
+}
+
+/// Tests that the nodes that are seen, in the queue, are a set which parts the node of the turn from the nodes before it, and
+/// out of which no half-arc with a residual capacity leads. Answers how many looks are left, or none if it isn't so.
+pub(crate) fn is_closed(
+    turn: Turn<'_>,
+    flow: &mut FlowTable,
+    cells: &[u32],
+    queue: &[u32],
+    tail: u32,
+    left: u64,
+) -> Option<u64>
+    requires fits { Fits turn.packed.net.now flow.old.flows }
+    requires turn { IsTurn turn.packed.net.now turn.packed.first.now turn.packed.halves.now turn.order.now turn.place }
+    requires size { length cells.now ≡ turn.packed.net.now.nodes }
+    requires queue_size { length queue.now ≡ turn.packed.net.now.nodes }
+    requires queued { IsQueued turn.packed.net.now.nodes turn.order.now cells.now queue.now tail }
+    ensures cut { IfSome result (λ _. IsCut (just (slice_index turn.entry.order.now turn.entry.place)) (before turn.entry.order.now turn.entry.place) (seen_in turn.entry.packed.net.now.nodes cells.now)) }
+    ensures closed { IfSome result (λ _. IsClosedFor turn.entry.direction turn.entry.packed.net.now flow.old.flows (seen_in turn.entry.packed.net.now.nodes cells.now)) }
+    ensures flows { flow.new.flows ≡ flow.old.flows }
+    ensures never_lowered { flow.old.steps ≤ flow.new.steps }
+    ensures steps { MatchOption result (flow.new.steps ≤ flow.old.steps + left) (λ rest. flow.new.steps + rest ≤ flow.old.steps + left) }
+{
+    let n = turn.packed.net.nodes();
+    let start = turn.order[turn.place as usize];
+    if cells[start as usize - 1] < n {
+        return None;
+    }
+    let mut rest = left;
+    for at in 0..tail {
+        let place = queue[at as usize];
+        if place < turn.place {
+            return None;
+        }
+        rest = is_done(turn, flow, cells, turn.order[place as usize], rest)?;
+    }
+    Some(rest)
+}
+
+/// Puts the place of each node in the queue back into its cell.
+#[tactic(auto, using(crate::proofs::SeenCells::left_all, crate::proofs::SeenCells::left_next, crate::proofs::SeenCells::places_back, crate::proofs::SeenCells::clean_after))]
+pub(crate) fn forget(order: &[u32], cells: &mut [u32], queue: &[u32], tail: u32)
+    requires size { length cells.old ≡ length order.now }
+    requires queue_size { length queue.now ≡ length order.now }
+    requires nodes { (i : ℕ) → i < length order.now → (1 ≤ slice_index order.now i) × (slice_index order.now i ≤ length order.now) }
+    requires places { ArePlaces (length order.now) order.now cells.old }
+    requires queued { IsQueued (length order.now) order.now cells.old queue.now tail }
+    ensures places { ArePlaces (length order.now) order.now cells.new }
+    ensures clean { IsClean (length order.now) cells.new }
+{
+    for at in 0..tail {
+        let place = queue[at as usize];
+        cells[order[place as usize] as usize - 1] = place;
+    }
+}

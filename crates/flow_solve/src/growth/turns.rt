@@ -1,0 +1,75 @@
+//! A turn: the flow between a node and the nodes before it in the order.
+ghost use Rattle.std.specs.Prelude.{◌≡◌, ℕ, ◌+◌, ◌*◌, ◌<◌, ◌≤◌, MatchOption, IfSome, IsTrue, length};
+ghost use Rattle.flow_net.specs.Nets.{IsNode};
+ghost use Rattle.flow_net.specs.Flows.{Fits};
+ghost use Rattle.flow_solve.specs.Searches.{near_end, far_end};
+ghost use Rattle.flow_solve.specs.Growth.{IsTurn, IsRaised, ArePlaces};
+
+use crate::packing::Packed;
+use crate::searching::{Direction, head};
+use flow_net::{FlowTable, Network};
+
+/// What the searches and walks of a turn go by.
+#[derive(Clone, Copy)]
+pub(crate) struct Turn<'a> {
+    /// The network with its half-arcs side by side.
+    pub packed: Packed<'a>,
+    /// All nodes, in the order in which they have their turns.
+    pub order: &'a [u32],
+    /// Forwards the node at the place is the source and the nodes before it are the sinks, backwards the other way.
+    pub direction: Direction,
+    /// The place in the order of the node whose turn it is.
+    pub place: u32,
+}
+
+/// The node that a half-arc leads to, as seen from the node of the turn.
+pub(crate) fn far(net: &Network, direction: Direction, half: u32) -> u32
+    requires { half < 2 * length net.now.arcs }
+    ensures far { result ≡ far_end direction net.now half }
+    ensures node { IsNode net.now result }
+{
+    match direction {
+        Direction::Forwards => head(net, half),
+        Direction::Backwards => head(net, half ^ 1),
+    }
+}
+
+/// The node that a half-arc comes from, as seen from the node of the turn.
+pub(crate) fn near(net: &Network, direction: Direction, half: u32) -> u32
+    requires { half < 2 * length net.now.arcs }
+    ensures near { result ≡ near_end direction net.now half }
+    ensures node { IsNode net.now result }
+{
+    match direction {
+        Direction::Forwards => head(net, half ^ 1),
+        Direction::Backwards => head(net, half),
+    }
+}
+
+/// Pushes one unit over the half-arcs of a path, one by one from the node of the turn on, and answers whether all had room
+/// and led on, to a node before the place.
+pub(crate) fn augment(turn: Turn<'_>, flow: &mut FlowTable, cells: &[u32], path: &[u32]) -> bool
+    requires fits { Fits turn.packed.net.now flow.old.flows }
+    requires turn { IsTurn turn.packed.net.now turn.packed.first.now turn.packed.halves.now turn.order.now turn.place }
+    requires size { length cells.now ≡ turn.packed.net.now.nodes }
+    requires places { ArePlaces turn.packed.net.now.nodes turn.order.now cells.now }
+    ensures fits { Fits turn.entry.packed.net.now flow.new.flows }
+    ensures raised { IsTrue result → (value : ℕ) → IsRaised turn.entry.direction turn.entry.packed.net.now turn.entry.order.now turn.entry.place flow.old.flows value → IsRaised turn.entry.direction turn.entry.packed.net.now turn.entry.order.now turn.entry.place flow.new.flows (value + 1) }
+    ensures never_lowered { flow.old.steps ≤ flow.new.steps }
+    ensures steps { flow.new.steps ≤ flow.old.steps + 2 * length path.now }
+{
+    let net = turn.packed.net;
+    let mut node = turn.order[turn.place as usize];
+    for half in path {
+        if *half >= 2 * net.len() || near(net, turn.direction, *half) != node {
+            return false;
+        }
+        let (_, room) = flow.look(net, *half);
+        if room == 0 {
+            return false;
+        }
+        flow.push(net, *half, 1);
+        node = far(net, turn.direction, *half);
+    }
+    cells[node as usize - 1] < turn.place
+}

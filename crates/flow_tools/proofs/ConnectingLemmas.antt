@@ -11,8 +11,8 @@ use Rattle.flow_net.specs.Nets.{Net, IsNet, IsNode, IsArcWithin, no_arc, unit, u
 use Rattle.flow_net.specs.NodeSets.{one_of, just}
 use Rattle.flow_net.specs.Cuts.{leaves, enters, IsCut, IsLeastCapacity}
 use Rattle.flow_net.specs.Connectivity.{leaving, IsProper, IsConnectivity, IsPairConnectivity}
-use Rattle.flow_net.proofs.Connections.{pair_by_solve, cut_proper, proper_parts, just_self}
-use Rattle.flow_tools.specs.Degrees.{AreDegrees, IsBelowPair}
+use Rattle.flow_net.proofs.Connections.{pair_by_solve, cut_proper, just_self}
+use Rattle.flow_tools.specs.Degrees.{AreDegrees}
 
 -- ---- capacities of 1
 
@@ -63,23 +63,6 @@ pair_of_singles net u v k p = record {
 
 pub pair_is_proper : (net : Net) (u v k : ℕ) → IsNode net u → IsNode net v → IsPairConnectivity net (just u) (just v) k → (X : ℕ → Bool) × IsProper net X × (leaving net X ≡ k)
 pair_is_proper net u v k a b p = (p.reached.0, cut_proper net u v p.reached.0 a.0 a.1 b.0 b.1 p.reached.1, p.reached.2)
-
--- a pair has one connectivity
-pub below_pair : (net : Net) (v a b k : ℕ) → IsPairConnectivity net (just 1) (just v) a → IsPairConnectivity net (just v) (just 1) b → k ≤ a → k ≤ b → IsBelowPair net k v
-below_pair net v a b k p q l m j h = elim h [
-  | inl r ↦ omega (arith, p.least r.reached.0 r.reached.1, r.reached.2)
-  | inr r ↦ omega (arith, q.least r.reached.0 r.reached.1, r.reached.2)
-]
-
-pub below_less : (net : Net) (k m v : ℕ) → k ≤ m → IsBelowPair net m v → IsBelowPair net k v
-below_less net k m v l b j h = omega (arith, b j h)
-
--- a number that some proper set has, and that is below each pair of node 1 with another
-pub connected : (net : Net) (k : ℕ) → IsNet net → ((X : ℕ → Bool) × IsProper net X × (leaving net X ≡ k)) → ((v : ℕ) → 2 ≤ v → v < net.nodes + 1 → IsBelowPair net k v) → IsConnectivity net k
-connected net k n r below = record {
-  reached = r;
-  least = λ X p. proper_parts net 1 k X n (λ v j at ne h. let low = at.0 in below v (omega arith) (omega (arith, at.1)) j h) p;
-}
 
 -- no number is below none
 pub connected_none : (net : Net) (k : ℕ) → ((X : ℕ → Bool) × IsProper net X × (leaving net X ≡ k)) → k ≡ 0 → IsConnectivity net 0

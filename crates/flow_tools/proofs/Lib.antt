@@ -15,3 +15,4 @@ pub mod ConnectAnswers
 pub mod PrintedNumbers
 pub mod PrintedLines
 pub mod OptimalTexts
+mod CircleLemmas

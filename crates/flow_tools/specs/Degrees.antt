@@ -1,17 +1,21 @@
 -- How many arcs leave and enter a node, self-loops left out.
-use Rattle.std.specs.Prelude.{◌≡◌, ℕ, ◌+◌, ◌<◌, ◌≤◌, ◌⊎◌, List, slice_index}
+use Rattle.std.specs.Prelude.{◌≡◌, ℕ, ◌+◌, ◌<◌, ◌≤◌, ◌==◌, Bool, List, slice_index, if◌then◌else◌}
 use Rattle.std.specs.List.{count_by}
 use Rattle.flow_net.specs.declared.networks.Arc.{Arc}
 use Rattle.flow_net.specs.Nets.{Net}
 use Rattle.flow_net.specs.NodeSets.{just}
-use Rattle.flow_net.specs.Cuts.{leaves, enters}
-use Rattle.flow_net.specs.Connectivity.{IsPairConnectivity}
+use Rattle.flow_net.specs.Cuts.{leaves, enters, IsCut}
+use Rattle.flow_net.specs.Connectivity.{leaving}
 
 -- cell v - 1 counts the arcs that leave node v, and the arcs that enter it
 pub record AreDegrees (nodes : ℕ) (arcs : List Arc) (out into : List ℕ) : Type 0 where
   pub leaving : (i : ℕ) → i < nodes → slice_index out i ≡ count_by (leaves (just (i + 1))) arcs
   pub entering : (i : ℕ) → i < nodes → slice_index into i ≡ count_by (enters (just (i + 1))) arcs
 
--- k is at most the connectivity of node 1 with node v, both ways
-abbrev pub IsBelowPair : Net → ℕ → ℕ → Type 0
-IsBelowPair net k v = (j : ℕ) → IsPairConnectivity net (just 1) (just v) j ⊎ IsPairConnectivity net (just v) (just 1) j → k ≤ j
+-- the node that follows a node in the circle of all nodes
+abbrev pub next_node : ℕ → ℕ → ℕ
+next_node n v = if v == n then 1 else v + 1
+
+-- k is at most the number of each set with the node inside and the next outside
+abbrev pub IsBelowNext : Net → ℕ → ℕ → Type 0
+IsBelowNext net k v = (X : ℕ → Bool) → IsCut (just v) (just (next_node net.nodes v)) X → k ≤ leaving net X

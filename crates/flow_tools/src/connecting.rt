@@ -5,10 +5,10 @@ ghost use Rattle.flow_net.specs.Nets.{Net, IsNode, AreTerminals, unit};
 ghost use Rattle.flow_net.specs.NodeSets.{one_of, just};
 ghost use Rattle.flow_net.specs.Flows.{Fits};
 ghost use Rattle.flow_net.specs.Connectivity.{leaving, IsProper, IsConnectivity, IsPairConnectivity};
-ghost use Rattle.flow_tools.specs.Degrees.{AreDegrees, IsBelowPair};
+ghost use Rattle.flow_tools.specs.Degrees.{AreDegrees, next_node};
 
 use flow_net::{FlowTable, Network};
-use flow_solve::{Method, work_len};
+use flow_solve::{Method, connectivity_by_growth, work_len};
 
 /// Counts the arcs that leave and that enter each node, self-loops left out, in one pass over the arcs.
 fn count_degrees(net: &Network, out: &mut [u32], into: &mut [u32])
@@ -46,7 +46,8 @@ fn least_of(numbers: &[u32]) -> u32
 /// The least number of arcs that leave a node, or that enter one: the connectivity is no greater.
 fn least_degree(net: &Network, cells: &mut [u32]) -> u64
     requires cells { 2 * net.now.nodes ≤ length cells.old }
-    ensures { (X : ℕ → Bool) × IsProper net.now X × (leaving net.now X ≡ result) }
+    ensures reached { (X : ℕ → Bool) × IsProper net.now X × (leaving net.now X ≡ result) }
+    ensures least { (v : ℕ) → IsNode net.now v → result ≤ leaving net.now (just v) }
 {
     let n = net.nodes() as usize;
     let (counts, _rest) = cells.split_at_mut(2 * n);
@@ -79,28 +80,46 @@ fn pair_value<M: Method>(
     M::greatest(net, s, t, flow, work) as u64
 }
 
-/// The connectivity of node 1 with another node, the lesser of both ways, by two solves.
-fn pair_of_nodes<M: Method>(net: &Network, v: u32, flow: &mut FlowTable, work: &mut [u32]) -> u64
-    requires fits { Fits net.now flow.old.flows }
-    requires unit { All (λ a. a.cap ≡ 1) net.now.arcs }
-    requires node { (2 ≤ v) × (v ≤ net.now.nodes) }
-    requires cells { 6 * net.now.nodes + 2 * length net.now.arcs + 2 ≤ length work.old }
-    ensures reached { (X : ℕ → Bool) × IsProper net.now X × (leaving net.now X ≡ result) }
-    ensures least { IsBelowPair net.now result v }
-    ensures never_lowered { flow.old.steps ≤ flow.new.steps }
-    ensures steps { flow.new.steps ≤ flow.old.steps + 2 * M.steps_bound net.now }
-    ensures still_fits { Fits net.now flow.new.flows }
-    ensures rest { drop (6 * net.now.nodes + 2 * length net.now.arcs + 2) work.new ≡ drop (6 * net.now.nodes + 2 * length net.now.arcs + 2) work.old }
+/// The node that follows a node in the circle of all nodes.
+fn next_of(net: &Network, v: u32) -> u32
+    requires { IsNode net.now v }
+    ensures { result ≡ next_node net.now.nodes v }
 {
-    let first = [1];
-    let other = [v];
-    let towards = pair_value::<M>(net, &first, &other, flow, work);
-    let back = pair_value::<M>(net, &other, &first, flow, work);
-    towards.min(back)
+    if v == net.nodes() { 1 } else { v + 1 }
 }
 
-/// The connectivity, by two solves for each node but the first, in cells that are all its own.
-fn least_pair<M: Method>(net: &Network, flow: &mut FlowTable, cells: &mut [u32]) -> u64
+/// The connectivity, by a solve from each node to the next in the circle of all nodes: a set that is neither empty nor all
+/// has a node inside whose next is outside.
+fn least_around<M: Method>(
+    net: &Network,
+    flow: &mut FlowTable,
+    cells: &mut [u32],
+    known: u64,
+) -> u64
+    requires fits { Fits net.now flow.old.flows }
+    requires unit { All (λ a. a.cap ≡ 1) net.now.arcs }
+    requires cells { length cells.old ≡ 6 * net.now.nodes + 2 * length net.now.arcs + 2 }
+    requires known { (X : ℕ → Bool) × IsProper net.now X × (leaving net.now X ≡ known) }
+    ensures connectivity { IsConnectivity net.now result }
+    ensures never_lowered { flow.old.steps ≤ flow.new.steps }
+    ensures steps { flow.new.steps ≤ flow.old.steps + net.now.nodes * M.steps_bound net.now }
+    ensures still_fits { Fits net.now flow.new.flows }
+{
+    let n = net.nodes();
+    let mut least = known;
+    for v in 1..n + 1 {
+        let next = next_of(net, v);
+        let source = [v];
+        let sink = [next];
+        let value = pair_value::<M>(net, &source, &sink, flow, cells);
+        least = least.min(value);
+    }
+    least
+}
+
+/// The connectivity, in cells that are all its own: by terminals that grow along an order of the nodes, within the steps of
+/// one solve, or else by a solve for each node. Of two nodes each is a set, so the least degree is it.
+fn least_cut<M: Method>(net: &Network, flow: &mut FlowTable, cells: &mut [u32]) -> u64
     requires fits { Fits net.now flow.old.flows }
     requires unit { All (λ a. a.cap ≡ 1) net.now.arcs }
     requires cells { length cells.old ≡ 6 * net.now.nodes + 2 * length net.now.arcs + 2 }
@@ -110,14 +129,18 @@ fn least_pair<M: Method>(net: &Network, flow: &mut FlowTable, cells: &mut [u32])
     ensures still_fits { Fits net.now flow.new.flows }
 {
     let n = net.nodes();
-    let mut least = least_degree(net, cells);
-    for v in 2..n + 1 {
-        if least == 0 {
-            return 0;
-        }
-        least = least.min(pair_of_nodes::<M>(net, v, flow, cells));
+    let least = least_degree(net, cells);
+    if least == 0 {
+        return 0;
     }
-    least
+    if n == 2 {
+        return least;
+    }
+    let spare = M::spare_steps(net);
+    match connectivity_by_growth(net, least, flow, cells, spare) {
+        Some(connectivity) => connectivity,
+        None => least_around::<M>(net, flow, cells, least),
+    }
 }
 
 /// The edge connectivity of a network in which every capacity is 1: the least number of arcs that leave a set of nodes
@@ -125,9 +148,10 @@ fn least_pair<M: Method>(net: &Network, flow: &mut FlowTable, cells: &mut [u32])
 /// of `t` outside; without it `s` and `t` are not looked at. For the undirected number hand in the network after
 /// [`Network::both_ways`].
 ///
-/// It takes no memory: it works in the first [`work_len`] cells of `work`, and what the table holds afterwards is the flow of
-/// the last solve. With `pair` it takes one solve, else at most two for each node but the first; it stops as soon as the
-/// answer can't fall.
+/// It takes no memory: it works in the first [`work_len`] cells of `work`, and the table holds some flow afterwards. With
+/// `pair` it takes one solve. Without it the flow between each node and those before it in an order is raised, from one
+/// node to the next, only as far as the answer can still fall; where that takes the steps of a solve and isn't done, a
+/// solve for each node follows.
 pub fn connectivity<M: Method>(
     net: &Network,
     pair: bool,
@@ -153,5 +177,5 @@ pub fn connectivity<M: Method>(
     }
     let total = work_len(net.nodes(), net.len());
     let (cells, _rest) = work.split_at_mut(total);
-    least_pair::<M>(net, flow, cells)
+    least_cut::<M>(net, flow, cells)
 }

@@ -42,6 +42,8 @@ pub use streams::{Failed, Input, Output};
 #[cfg(test)]
 mod check_tests;
 #[cfg(test)]
+mod connect_tests;
+#[cfg(test)]
 mod counted_tests;
 #[cfg(test)]
 mod job_tests;

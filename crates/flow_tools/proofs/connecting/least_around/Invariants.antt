@@ -1,8 +1,8 @@
 use Rattle.std.proofs.Common.{◌≡◌, ◌+◌, ◌*◌, ◌-◌, ◌<◌, ◌≤◌, ℕ, length, Bool}
 use Rattle.flow_net.specs.Flows.{Fits}
 use Rattle.flow_net.specs.Connectivity.{IsProper, leaving}
-use Rattle.flow_tools.specs.Degrees.{IsBelowPair}
-use Rattle.flow_tools.proofs.connecting.least_pair.Given as goal
+use Rattle.flow_tools.specs.Degrees.{IsBelowNext}
+use Rattle.flow_tools.proofs.connecting.least_around.Given as goal
 
 abbrev pub invariant-loop-v : goal.invariant-loop-v
 invariant-loop-v g l = record {
@@ -10,7 +10,7 @@ invariant-loop-v g l = record {
   cells : length l.cells ≡ 6 * l.net.nodes + 2 * length l.net.arcs + 2;
   fits : Fits l.net l.flow.flows;
   reached : (X : ℕ → Bool) × IsProper l.net X × (leaving l.net X ≡ l.least);
-  below : (w : ℕ) → 2 ≤ w → w < l.v → IsBelowPair l.net l.least w;
+  below : (w : ℕ) → 1 ≤ w → w < l.v → IsBelowNext l.net l.least w;
   rises : l.initial.flow.steps ≤ l.flow.steps;
-  steps : l.flow.steps ≤ l.initial.flow.steps + 2 * (l.v - 2) * g.M.Method.steps_bound l.net;
+  steps : l.flow.steps ≤ l.initial.flow.steps + (l.v - 1) * g.M.Method.steps_bound l.net;
 }

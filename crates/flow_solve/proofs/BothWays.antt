@@ -19,8 +19,7 @@ turned_counts X (a ∷ xs) (b ∷ ys) l t =
     let here = t 0 (omega arith) in
     let src : a.src ≡ b.dst = here.0 in
     let dst : a.dst ≡ b.src = here.1 in
-    let rest = turned_counts X xs ys (omega arith) (λ i h. t (suc i) (omega arith)) in
-    (
+    let rest = turned_counts X xs ys (omega arith) (λ i h. t (suc i) (omega arith)) in (
       rw (sum_by-cons (λ c. cond (leaves X c) 1 0) a xs, sum_by-cons (λ c. cond (enters X c) 1 0) b ys, src, dst, rest.0) refl,
       rw (sum_by-cons (λ c. cond (enters X c) 1 0) a xs, sum_by-cons (λ c. cond (leaves X c) 1 0) b ys, src, dst, rest.1) refl,
     )

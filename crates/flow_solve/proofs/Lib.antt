@@ -21,3 +21,4 @@ pub mod Rising
 mod Growing
 mod SeenCells
 mod BothWays
+pub mod Lifted

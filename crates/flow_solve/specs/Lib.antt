@@ -7,3 +7,4 @@ pub mod Trails
 pub mod Levels
 pub mod Trees
 pub mod Growth
+pub mod Lifting

@@ -1,4 +1,5 @@
-//! The method by levels (Dinitz 1970), in two stages that work on one flow: search trees first, then phases.
+//! The method by levels (Dinitz 1970), in three stages that work on one flow: search trees first, then phases that lift
+//! stuck nodes, then phases that don't.
 //!
 //! 1. **Two trees** (`trees`, `chains`, `orphans`, `frontiers`). Search trees grow from the sources and from the sinks, a
 //!    level of the smaller *frontier* at a time (Boykov and Kolmogorov 2004), and are kept breadth-first (incremental
@@ -8,14 +9,22 @@
 //!    level nearer to the root, or else raised to a farther level, with its children as orphans in turn, or set free. So no
 //!    search begins anew. That serves where the first paths are short and most of a tree outlives a push: images,
 //!    assignments, closures.
-//! 2. **Phases** (`phases`, `walking`). A search backwards from the sinks ranks the nodes, walks from the sources along
+//! 2. **Phases that lift** (`phases`, `lifting`). A search backwards from the sinks gives the nodes distances and ranks, and
+//!    walks go from the sources along half-arcs that fall in distance, or in rank at the same distance. A node where a walk is
+//!    stuck is *lifted*: its distance becomes one more than the least of a node that something remains towards, which is the
+//!    relabelling of Goldberg and Tarjan (1988) in a walk that carries no excess. Nodes beyond the farthest source take part at
+//!    its distance. Lifting passes at most half as many half-arcs as leave the nodes that the search has seen, the phase's
+//!    *fuel*; after that a stuck node is given up until the next search. So one search serves many more augmentations where
+//!    few paths are short.
+//! 3. **Phases** (`phases`, `walking`). A search backwards from the sinks ranks the nodes, walks from the sources along
 //!    falling ranks block all shortest paths, and the distance from the sources to the sinks grows by each phase. They go
 //!    on from whatever feasible flow they find, and their last search, which sees no source, shows that the flow is greatest.
 //!
-//! Nothing is claimed of the trees: a path is written down and looked at, half-arc by half-arc, before anything is pushed
-//! along it, and the stage may leave wherever it is. What it takes is counted off an allowance of 16 steps for each arc, in
-//! which a half-arc that is passed by without a look counts as a step too, and which is at most `n²·m`. The phases take at
-//! most `3·n²·m` from any feasible flow, so that both stay within `4·n²·m` for each network.
+//! Nothing is claimed of the trees, nor of lifted distances: a path is written down and looked at, half-arc by half-arc, before anything is pushed
+//! along it, and a stage may leave wherever it is. What the trees take is counted off an allowance of 16 steps for each arc,
+//! and what lifting phases take off the rest of `n²·m`; a half-arc that is passed by without a look counts as a step too.
+//! The other phases take at most `3·n²·m` from any feasible flow, so that all stay within `4·n²·m` for each network. They
+//! seldom begin: the last search, which shows that the flow is greatest, is mostly that of a phase that would have lifted.
 //!
 //! The trees aren't grown where they were measured to bring nothing: where there are more than 32 arcs for each node, since a
 //! repair passes all half-arcs of a node; and no farther than until the nearest source and sink are found to be more than
@@ -31,9 +40,16 @@
 //! | `project-selection` | 0.28 | 0.12 |
 //! | `matching` | 0.41 | 0.39 |
 //!
-//! `acyclic-dense`, `roads` and the families of layers and frames take as long as before, but for the search of the first
-//! levels: the phases begin at once.
-ghost use Rattle.std.specs.Prelude.{◌*◌, ◌≤◌, length};
+//! In `acyclic-dense`, `roads` and the families of layers and frames the trees only look for the first levels, and the phases
+//! begin at once. What lifting brings there, in seconds of user time on problems with some 500,000 arcs (least of two
+//! runs on a busy machine):
+//!
+//! | Family | Phases that don't lift | Phases that lift |
+//! |---|--:|--:|
+//! | roads, as generated | 7.5 | 0.8 |
+//! | roads, in a random order | 10.1 | 3.0 |
+//! | wide frames, 145,000 arcs | 0.53 | 0.26 |
+ghost use Rattle.std.specs.Prelude.{◌+◌, ◌*◌, ◌≤◌, length};
 ghost use Rattle.flow_solve.specs.Bounds.{levels_bound};
 
 use crate::chains::Ends;
@@ -61,6 +77,17 @@ fn allowance(net: &Network) -> u64
     (n * n).min(TREES_SHARE) * u64::from(net.len())
 }
 
+/// How much the phases may take while they lift: what the trees leave of `n²·m`, in 64 bits.
+fn rest_of_allowance(net: &Network, given: u64) -> u64
+    requires { given ≤ net.now.nodes * net.now.nodes * length net.now.arcs }
+    ensures { result + given ≤ net.now.nodes * net.now.nodes * length net.now.arcs }
+{
+    let n = u64::from(net.nodes());
+    (n * n)
+        .saturating_mul(u64::from(net.len()))
+        .saturating_sub(given)
+}
+
 /// Augments along shortest paths, level by level, in phases: a search backwards from the sinks ranks the nodes, the nearest
 /// first, and walks from the sources along falling ranks block all shortest paths. It takes at most `4·n²·m` steps.
 pub struct Levels;
@@ -77,8 +104,10 @@ impl Raise for Levels {
         value: u128,
     ) -> u128 {
         let ends = Ends { s, t };
-        let raised = grow_trees(packed, ends, flow, cells, value, allowance(packed.net));
-        run_phases(packed, s, t, flow, cells, raised)
+        let given = allowance(packed.net);
+        let raised = grow_trees(packed, ends, flow, cells, value, given);
+        let lifting = rest_of_allowance(packed.net, given);
+        run_phases(packed, s, t, flow, cells, raised, lifting)
     }
 }
 

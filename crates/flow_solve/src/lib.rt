@@ -39,6 +39,7 @@ mod chains;
 mod frontiers;
 mod growth;
 mod levels;
+mod lifting;
 mod method;
 mod orphans;
 mod packing;

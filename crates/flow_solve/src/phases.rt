@@ -12,6 +12,8 @@ ghost use Rattle.flow_solve.specs.Searches.{AreCells, HasMissed};
 ghost use Rattle.flow_solve.specs.Steps.{OnlyLooks, TakesSteps};
 ghost use Rattle.flow_solve.specs.Levels.{AreDead, AreLevelsBy, AreLevelsOf, AreRankedIn, HasRank, IsAt, IsFarIn, IsPhase, KeepsGentle, Pays};
 
+use crate::chains::Ends;
+use crate::lifting::{Supply, run_lifted};
 use crate::packing::Packed;
 use crate::searching::{Direction, FAR, Plan, WANTED, search};
 use crate::walking::{Phase, walk};
@@ -128,6 +130,7 @@ pub(crate) fn run_phases(
     flow: &mut FlowTable,
     cells: &mut [u32],
     value: u128,
+    allowance: u64,
 ) -> u128
     requires packed { IsPacked packed.net.now packed.first.now packed.halves.now }
     requires terminals { AreTerminals packed.net.now s.now t.now }
@@ -137,7 +140,7 @@ pub(crate) fn run_phases(
     ensures greatest { IsGreatest packed.entry.net.now (one_of s.now) (one_of t.now) result }
     ensures least { IsLeastCapacity packed.entry.net.now (one_of s.now) (one_of t.now) result }
     ensures never_lowered { flow.old.steps ≤ flow.new.steps }
-    ensures steps { flow.new.steps ≤ flow.old.steps + phases_bound packed.entry.net.now }
+    ensures steps { flow.new.steps ≤ flow.old.steps + allowance + phases_bound packed.entry.net.now }
 {
     let n = packed.net.nodes() as usize;
     let (dist, rest) = cells.split_at_mut(n);
@@ -152,18 +155,40 @@ pub(crate) fn run_phases(
         enough: count(s),
     };
     let mut value = value;
+    let ends = Ends { s, t };
+    let search = 2 * u64::from(packed.net.len());
+    let mut supply = Supply {
+        left: allowance,
+        fuel: 0,
+    };
     let mut phases = 0u32;
     'phases: while find_levels(plan, flow, dist, rank, queue) {
-        let phase = Phase {
-            packed,
-            s,
-            t,
-            dist,
-            rank,
-        };
-        value = run_phase(phase, flow, current, path, value);
-        // Each phase brings the sources farther from the sinks, so there are fewer than `n`.
-        phases += 1;
+        if supply.left > search {
+            supply.left -= search + 1;
+            value = run_lifted(
+                packed,
+                ends,
+                flow,
+                &mut supply,
+                dist,
+                rank,
+                current,
+                path,
+                value,
+            );
+        } else {
+            supply.left = 0;
+            let phase = Phase {
+                packed,
+                s,
+                t,
+                dist,
+                rank,
+            };
+            value = run_phase(phase, flow, current, path, value);
+            // Each phase brings the sources farther from the sinks, so there are fewer than `n`.
+            phases += 1;
+        }
     }
     value
 }

@@ -1,4 +1,5 @@
-use Rattle.std.proofs.Common.{ℕ, List, ◌-◌, length, sym, subst, arith}
+use Rattle.std.proofs.Common.{◌≡◌, ℕ, List, ◌+◌, ◌-◌, inl, inr, length, sym, subst, arith}
+use Rattle.std.proofs.lemmas.Bool.{cases_lt}
 use Rattle.flow_solve.specs.Searches.{seen}
 use Rattle.flow_solve.specs.Levels.{IsFar}
 use Rattle.flow_solve.proofs.Bounds.{run_paid}
@@ -11,6 +12,7 @@ pub phases-init : goal.phases-init
 phases-init c = record {
   flow = c.requires.flow;
   far = far_start c.args.packed.net.now c.args.s.now c.args.t.now c.args.flow.now.flows (terminals_apart c.args.packed.net.now c.args.s.now c.args.t.now c.requires.terminals);
+  first = λ l. omega (arith, l);
   few = omega (arith, c.nodes-n.ensures.is_net.nodes_least);
   never_lowered = omega arith;
   steps = omega arith;
@@ -23,7 +25,23 @@ phases-preserved c =
     record {
       flow = now.flow;
       far = now.far c.phases.phases far;
+      first = λ l. omega arith;
       few = now.few c.phases.phases far;
+      never_lowered = omega (arith, old.never_lowered, found.looks.never_lowered, now.never_lowered);
+      steps = omega (arith, old.steps, found.looks.steps, now.steps);
+    }
+
+-- a phase with lifting comes before all others
+pub phases-preserved-then-supply-search : goal.phases-preserved-then-supply-search
+phases-preserved-then-supply-search c =
+    let old = c.phases.invariant in let found = c.find_levels.ensures in let now = c.run_lifted-value.ensures in let net = c.args.packed.net.now in
+    let none : c.phases.phases ≡ 0 = elim (cases_lt 0 c.phases.phases) [ inl l ↦ omega (arith, old.first (omega (arith, l)), c.if-supply-search.true) | inr l ↦ omega (arith, l) ] in
+    let far = far_start net c.args.s.now c.args.t.now c.run_lifted-value.new.flow.flows (terminals_apart net c.args.s.now c.args.t.now c.requires.terminals) in
+    record {
+      flow = now.flow;
+      far = subst (λ (j : ℕ). IsFar net c.args.s.now c.args.t.now c.run_lifted-value.new.flow.flows j) (sym none) far;
+      first = λ l. omega (arith, l, none);
+      few = old.few;
       never_lowered = omega (arith, old.never_lowered, found.looks.never_lowered, now.never_lowered);
       steps = omega (arith, old.steps, found.looks.steps, now.steps);
     }
@@ -41,7 +59,7 @@ returns-clause-least c =
 pub returns-clause-steps : goal.returns-clause-steps
 returns-clause-steps c =
     let old = c.phases.invariant in let found = c.find_levels.ensures in let net = c.args.packed.net.now in
-    run_paid net.nodes (length net.arcs) (net.nodes - 1) c.phases.phases c.args.flow.now.steps c.find_levels.new.flow.steps (omega (arith, old.few)) (omega (arith, c.nodes-n.ensures.is_net.nodes_least)) (omega (arith, old.few)) (omega (arith, old.steps, found.looks.steps))
+    run_paid net.nodes (length net.arcs) (net.nodes - 1) c.phases.phases (c.args.flow.now.steps + c.args.allowance) c.find_levels.new.flow.steps (omega (arith, old.few)) (omega (arith, c.nodes-n.ensures.is_net.nodes_least)) (omega (arith, old.few)) (omega (arith, old.steps, found.looks.steps))
 
 pub run_phase-value-requires-clause-run : goal.run_phase-value-requires-clause-run
 run_phase-value-requires-clause-run c = record {

@@ -37,6 +37,9 @@ add() {
 [ -x crates/growths/out/growths ] || (cd crates/growths && rt run < stdin > /dev/null) || exit 1
 add hostile python3 scripts/hostile.py crates/flow/out/flow crates/growths/out/growths
 
+# The page of definitions tells what the contracts of `run` and of the streams reach.
+add definitions python3 scripts/definitions.py
+
 # The manual page and the completions say what the program's help says.
 add pages python3 scripts/pages.py crates/flow/out/flow
 

@@ -4,14 +4,16 @@ use Rattle.std.specs.Prelude.{map}
 use Rattle.std.specs.List.{zip}
 use Rattle.std.proofs.lemmas.Int.{ints}
 use Rattle.flow_net.specs.declared.networks.Arc.{Arc}
-use Rattle.flow_net.specs.Nets.{Net, Instance, IsNet}
+use Rattle.flow_net.specs.Nets.{Net, Instance, IsNet, IsProblem}
 use Rattle.flow_net.specs.NodeSets.{one_of, just}
 use Rattle.flow_net.specs.Flows.{flow_over, IsFeasible, HasValue, IsGreatest}
 use Rattle.flow_net.proofs.Zips.{zip_from_fits}
 use Rattle.flow_net.proofs.Cuts.{flow_over-le-cap_over}
+use Rattle.flow_text.specs.Problem.{problem}
 use Rattle.flow_text.specs.Solution.{Written, solution}
 use Rattle.flow_text.specs.declared.verdicts.Verdict.{Verdict}
 use Rattle.flow_text.specs.declared.verdicts.Verdict.TheVariants.{Over, Unbalanced, Value, Feasible, NotMaximal, Optimal}
+use Rattle.flow_text.proofs.AcceptedLemmas.{accepted_problem}
 use Rattle.flow_tools.specs.SolutionFlows.{line_flow}
 use Rattle.flow_tools.specs.Verdicts.{IsRight, IsVerdict}
 use Rattle.flow_tools.specs.ArcShares.{Carries}
@@ -58,10 +60,12 @@ only_optimal p w k (NotMaximal value) o v = absurd (omega (arith, greatest_one p
 only_optimal p w k (Optimal value) o v = ap Optimal (v.2 ∙ sym o.2)
 
 pub solved_optimal : SolvedIsOptimal
-solved_optimal p text k n h g s =
+solved_optimal b p text said s =
+    let within = accepted_problem b p said in
+    let n : IsNet p.net = within.0 in
+    let h : IsProblem p = within.1 in
     let w = written_flow p.net s.value s.flows in
     let right = written_right p s.flows s.value s.flow_is.feasible s.flow_is.valued in
-    let same : s.value ≡ k = omega (arith, greatest_one p.net (one_of p.sources) (one_of p.sinks) s.value k s.value_is.greatest g, greatest_one p.net (one_of p.sources) (one_of p.sinks) k s.value g s.value_is.greatest) in
-    let optimal : IsVerdict p w false (Optimal k) = (right, refl, sym same, g) in
+    let optimal : IsVerdict p w false (Optimal s.value) = (right, refl, refl, s.value_is.greatest) in
     let accepted = solved_is_accepted p.net s.value s.flows n h.arcs_most (value_small p s.flows s.value n h.arcs_most s.flow_is.feasible s.flow_is.valued) s.flow_is.feasible.fits in
-    (w, ap (λ b. solution b p.net.nodes) s.text_is ∙ accepted, λ verdict. ((λ v. only_optimal p w k verdict optimal v), λ e. subst (IsVerdict p w false) (sym e) optimal))
+    (w, s.value, ap (λ t. solution t p.net.nodes) s.text_is ∙ accepted, s.value_is.greatest, λ verdict. ((λ v. only_optimal p w s.value verdict optimal v), λ e. subst (IsVerdict p w false) (sym e) optimal))

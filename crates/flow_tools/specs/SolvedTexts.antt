@@ -2,9 +2,10 @@
 use Rattle.std.specs.Prelude.{◌≡◌, ◌↔◌, ℕ, false, List, map, Ok}
 use Rattle.std.specs.List.{zip}
 use Rattle.flow_net.specs.declared.networks.Arc.{Arc}
-use Rattle.flow_net.specs.Nets.{Net, Instance, IsNet, IsProblem}
+use Rattle.flow_net.specs.Nets.{Net, Instance}
 use Rattle.flow_net.specs.NodeSets.{one_of}
 use Rattle.flow_net.specs.Flows.{IsGreatest}
+use Rattle.flow_text.specs.Problem.{problem}
 use Rattle.flow_text.specs.Solution.{Written, solution}
 use Rattle.flow_text.specs.declared.solutions.FlowLine.{FlowLine}
 use Rattle.flow_text.specs.declared.verdicts.Verdict.{Verdict}
@@ -20,8 +21,9 @@ carried_line (arc, flow) = record { src = arc.src; dst = arc.dst; flow = flow }
 abbrev pub written_flow : Net → ℕ → List ℕ → Written
 written_flow net value flows = record { value = value; lines = map carried_line (zip net.arcs flows) }
 
--- the text of a solved problem, whichever greatest flow it has, is accepted as a solution, and the one verdict on it is that
--- it is optimal, with the greatest value
+-- for every text that is accepted as a problem: each text that `solve` may print for it, whichever greatest flow it has, is
+-- accepted as a solution of it, and the one verdict on it is that it is optimal, with the greatest value
 abbrev pub SolvedIsOptimal : Type 0
-SolvedIsOptimal = (p : Instance) (text : List ℕ) (k : ℕ) → IsNet p.net → IsProblem p → IsGreatest p.net (one_of p.sources) (one_of p.sinks) k → IsSolveText p false text
-    → (w : Written) × (solution text p.net.nodes ≡ Ok w) × ((verdict : Verdict) → IsVerdict p w false verdict ↔ (verdict ≡ Optimal k))
+SolvedIsOptimal = (b : List ℕ) (p : Instance) (text : List ℕ) → problem b ≡ Ok p → IsSolveText p false text
+    → (w : Written) × (k : ℕ) × (solution text p.net.nodes ≡ Ok w) × IsGreatest p.net (one_of p.sources) (one_of p.sinks) k
+    × ((verdict : Verdict) → IsVerdict p w false verdict ↔ (verdict ≡ Optimal k))

@@ -4,7 +4,8 @@ use Rattle.std.specs.List.{slice_split, onto_first, All}
 use Rattle.std.proofs.lemmas.Bool.{cases_Bool, eqb-true}
 use Rattle.std.proofs.lemmas.List.Splits.{slice_split_none, slice_split_at, slice_split-cons_yes, slice_split-cons_no}
 use Rattle.std.proofs.lemmas.List.Elements.{All-cons, All-head, All-tail}
-use Rattle.flow_text.specs.Lines.{ended, rest, front, last_part, is_end, joined, HasNoEnd}
+use Rattle.flow_text.specs.Lines.{ended, rest, front, last_part, is_end}
+use Rattle.flow_text.specs.LineParts.{joined, HasNoEnd}
 use Rattle.flow_text.proofs.LineLemmas.{front-cons, last-cons, some_part, rest_is}
 
 pub ended-joined : (ls : List (List ℕ)) (r : List ℕ) → All HasNoEnd ls → HasNoEnd r → (ended (joined ls r) ≡ ls) × (rest (joined ls r) ≡ r)

@@ -5,7 +5,8 @@ use Rattle.std.specs.Str.{all_ascii_digits}
 use Rattle.std.proofs.lemmas.List.{drop_all}
 use Rattle.std.proofs.Math.Nat.{pow-suc, one-le-pow, mul-le-mul_left, pow-le-pow_right}
 use Rattle.std.proofs.lemmas.Grind.{common_steps}
-use Rattle.flow_text.specs.Digits.{value_of, number_of}
+use Rattle.flow_text.specs.Digits.{value_of}
+use Rattle.flow_text.specs.Numbers.{number_of}
 use Rattle.flow_text.specs.declared.numbers.Number.TheVariants.{NotDigits, Above, Value}
 
 -- the bytes before place i are digits

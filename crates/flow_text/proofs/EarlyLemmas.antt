@@ -4,7 +4,8 @@ use Rattle.std.proofs.lemmas.Bool.{cases_Bool, cases_lt}
 use Rattle.std.specs.List.{slice_split, onto_first}
 use Rattle.std.proofs.lemmas.List.Splits.{slice_split-cons_no, length-slice_split}
 use Rattle.std.proofs.lemmas.List.Elements.{All-head, All-tail}
-use Rattle.flow_text.specs.Lines.{ended, rest, lines, front, last_part, is_end, HasNoEnd}
+use Rattle.flow_text.specs.Lines.{ended, rest, lines, front, last_part, is_end}
+use Rattle.flow_text.specs.LineParts.{HasNoEnd}
 use Rattle.flow_text.specs.Rules.{Rules, first_fault, early_fault, whole_fault, at_line, told, is_comment, unended_fault, accepted}
 use Rattle.flow_text.specs.declared.faults.FaultCode.{FaultCode}
 use Rattle.flow_text.specs.declared.faults.FaultCode.TheVariants.{LineTooLong}

@@ -1,7 +1,8 @@
 -- The first fault of a text that goes on.
 use Rattle.std.proofs.Common.{◌≡◌, ℕ, ◌+◌, List, [], ◌∷◌, ◌++◌, length, refl, ap, ◌∙◌, sym, append_assoc, append-nil, Option, Some, None}
 use Rattle.std.specs.Option.{option_or}
-use Rattle.flow_text.specs.Lines.{ended, rest, HasNoEnd}
+use Rattle.flow_text.specs.Lines.{ended, rest}
+use Rattle.flow_text.specs.LineParts.{HasNoEnd}
 use Rattle.flow_text.specs.Rules.{Rules, fault_of, first_fault, early_fault, at_line, told, unended_fault}
 use Rattle.flow_text.specs.declared.faults.FaultCode.{FaultCode}
 use Rattle.flow_text.proofs.LineLemmas.{ended_within, rest_within, ended_by, rest_by, ended-append}

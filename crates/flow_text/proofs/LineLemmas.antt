@@ -4,7 +4,8 @@ use Rattle.std.specs.List.{slice_split, onto_first}
 use Rattle.std.proofs.lemmas.Bool.{cases_Bool}
 use Rattle.std.proofs.lemmas.List.Splits.{slice_split_none, slice_split_at, slice_split-cons_yes, slice_split-cons_no, length-slice_split}
 use Rattle.std.proofs.lemmas.List.Elements.{All-append, All-cons}
-use Rattle.flow_text.specs.Lines.{ended, rest, front, last_part, is_end, HasNoEnd}
+use Rattle.flow_text.specs.Lines.{ended, rest, front, last_part, is_end}
+use Rattle.flow_text.specs.LineParts.{HasNoEnd}
 
 pub front-cons : (part : List ℕ) (parts : List (List ℕ)) → 0 < length parts → front (part ∷ parts) ≡ part ∷ front parts
 front-cons part [] h = absurd (omega arith)

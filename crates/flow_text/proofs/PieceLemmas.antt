@@ -4,7 +4,8 @@ use Rattle.std.proofs.lemmas.Bool.{eqb-true}
 use Rattle.std.proofs.lemmas.List.{take-append-drop, get_or-take, take_more, length-take-le}
 use Rattle.std.proofs.lemmas.List.Elements.{All-from_get_or}
 use Rattle.memchr.specs.Find.{IsFirstByte, is_byte}
-use Rattle.flow_text.specs.Lines.{is_end, HasNoEnd}
+use Rattle.flow_text.specs.Lines.{is_end}
+use Rattle.flow_text.specs.LineParts.{HasNoEnd}
 use Rattle.flow_text.specs.Rules.{Rules}
 use Rattle.flow_text.specs.Reading.{State, HasRead, HoldsTail, Takes}
 use Rattle.flow_text.specs.declared.machine.Refusal.{Refusal}

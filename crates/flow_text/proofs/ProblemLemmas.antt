@@ -9,7 +9,8 @@ use Rattle.flow_net.specs.declared.networks.Arc.{Arc}
 use Rattle.flow_text.specs.Fields.{fields_of, field_at}
 use Rattle.flow_text.specs.Tests.{first_failed}
 use Rattle.flow_text.specs.Rules.{is_comment, names, is_kind, fault_of}
-use Rattle.flow_text.specs.Terminals.{Marks, with_mark}
+use Rattle.flow_text.specs.Terminals.{Marks}
+use Rattle.flow_text.specs.TerminalMarks.{with_mark}
 use Rattle.flow_text.specs.Problem.{Known, known_of, problem_record_fault, problem_rules, problem_tests, node_tests, arc_tests, size_of, arc_of, node_of, is_terminal, lacks_terminals}
 use Rattle.std.specs.Prelude.{Result, Ok, Err}
 use Rattle.flow_text.specs.Reading.{with_line, Adds, Judges}

@@ -1,7 +1,8 @@
 -- What a reader is after a line's end, or after more of a line.
 use Rattle.std.proofs.Common.{◌≡◌, ◌<◌, ◌≤◌, ℕ, ◌+◌, true, false, List, [], ◌∷◌, ◌++◌, length, refl, ap, ◌∙◌, sym, arith, inl, inr, length-append, Some, None, nat_lt, rules as std_rules}
 use Rattle.std.proofs.lemmas.Bool.{cases_Bool}
-use Rattle.flow_text.specs.Lines.{ended, rest, HasNoEnd}
+use Rattle.flow_text.specs.Lines.{ended, rest}
+use Rattle.flow_text.specs.LineParts.{HasNoEnd}
 use Rattle.flow_text.specs.Rules.{Rules, fault_of, early_fault, at_line, told, is_comment, unended_fault}
 use Rattle.flow_text.specs.Reading.{State, HasRead, Adds, with_line, Ends, Fails, Holds, held_of, TellsAt}
 use Rattle.flow_text.specs.declared.faults.FaultCode.TheVariants.{LineTooLong}

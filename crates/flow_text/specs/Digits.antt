@@ -1,9 +1,7 @@
 -- The value of a field.
-use Rattle.std.specs.Prelude.{ℕ, ◌+◌, ◌*◌, ◌-◌, ◌^◌, Bool, ◌&&◌, List, [], ◌∷◌, length, nat_le, if◌then◌else◌}
+use Rattle.std.specs.Prelude.{ℕ, ◌+◌, ◌*◌, ◌-◌, ◌^◌, Bool, ◌&&◌, List, [], ◌∷◌, length}
 use Rattle.std.specs.Str.{all_ascii_digits}
 use Rattle.flow_text.specs.Fields.{has_bytes}
-use Rattle.flow_text.specs.declared.numbers.Number.{Number}
-use Rattle.flow_text.specs.declared.numbers.Number.TheVariants.{NotDigits, Above, Value}
 
 -- each digit times 10 to the number of digits after it
 unfoldable pub value_of : List ℕ → ℕ
@@ -13,7 +11,3 @@ value_of (digit ∷ digits) = (digit - 48) * 10 ^ length digits + value_of digit
 -- one digit or more, and nothing else
 abbrev pub is_number : List ℕ → Bool
 is_number field = has_bytes field && all_ascii_digits field
-
-abbrev pub number_of : List ℕ → ℕ → Number
-number_of field limit =
-    if is_number field then (if nat_le (value_of field) limit then Value (value_of field) else Above) else NotDigits

@@ -1,9 +1,12 @@
 pub mod Lines
+pub mod LineParts
 pub mod Fields
 pub mod Digits
+pub mod Numbers
 pub mod Tests
 pub mod Rules
 pub mod Terminals
+pub mod TerminalMarks
 pub mod Problem
 pub mod Solution
 pub mod Reading

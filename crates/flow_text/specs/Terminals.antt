@@ -1,5 +1,5 @@
 -- The terminals that the node lines name.
-use Rattle.std.specs.Prelude.{ℕ, Bool, ◌==◌, ◌||◌, List, [], ◌∷◌, ◌++◌, if◌then◌else◌}
+use Rattle.std.specs.Prelude.{ℕ, Bool, ◌==◌, ◌||◌, List}
 use Rattle.std.specs.List.{list_any}
 
 -- the sources and the sinks, in the order of their lines
@@ -10,8 +10,3 @@ pub record Marks : Type 0 where
 -- whether a node is a terminal already
 abbrev pub is_marked : Marks → ℕ → Bool
 is_marked marks node = list_any (λ t. t == node) marks.sources || list_any (λ t. t == node) marks.sinks
-
--- one source or one sink more
-abbrev pub with_mark : Marks → ℕ → Bool → Marks
-with_mark marks node is_source =
-    if is_source then record marks { sources = marks.sources ++ node ∷ [] } else record marks { sinks = marks.sinks ++ node ∷ [] }

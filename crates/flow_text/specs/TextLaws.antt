@@ -2,7 +2,8 @@
 use Rattle.std.specs.Prelude.{◌≡◌, ℕ, List, ◌++◌, Some, Ok, Err}
 use Rattle.std.specs.List.{All}
 use Rattle.flow_net.specs.Nets.{Instance, IsNet, IsProblem}
-use Rattle.flow_text.specs.Lines.{ended, rest, joined, HasNoEnd}
+use Rattle.flow_text.specs.Lines.{ended, rest}
+use Rattle.flow_text.specs.LineParts.{joined, HasNoEnd}
 use Rattle.flow_text.specs.Problem.{early, problem}
 use Rattle.flow_text.specs.Solution.{Written, early_solution, solution}
 use Rattle.flow_text.specs.SolutionReading.{IsWithinLimits}

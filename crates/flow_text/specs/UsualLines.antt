@@ -6,7 +6,7 @@ use Rattle.flow_text.specs.Lines.{is_end}
 use Rattle.flow_text.specs.Fields.{fields_of, is_blank}
 use Rattle.flow_text.specs.Digits.{value_of, is_number}
 use Rattle.flow_text.specs.Rules.{is_comment}
-use Rattle.flow_text.specs.declared.limits.TheConstants.{LONGEST_LINE}
+use Rattle.flow_text.specs.declared.limits.TheConstants.{LONGEST_LINE, SHORT_DIGITS}
 
 -- the first bytes, so many, are digits of this value
 pub record IsLeading (text : List ℕ) (value count : ℕ) : Type 0 where
@@ -14,11 +14,11 @@ pub record IsLeading (text : List ℕ) (value count : ℕ) : Type 0 where
   pub value_is : value ≡ value_of (take count text)
   pub fits : value < 10 ^ count
 
--- the first bytes, so many and at most 19, are a number of this value, and this byte is behind them
+-- the first bytes, so many and at most SHORT_DIGITS, are a number of this value, and this byte is behind them
 pub record IsNumberUntil (text : List ℕ) (end value count : ℕ) : Type 0 where
   pub leading : IsLeading text value count
   pub some : 0 < count
-  pub short : count ≤ 19
+  pub short : count ≤ SHORT_DIGITS
   pub within : count < length text
   pub ends : slice_index text count ≡ end
 

@@ -1,7 +1,8 @@
 //! The judge of the lines of a problem.
 ghost use Rattle.std.specs.Prelude.{◌≡◌, ◌≤◌, [], ◌∷◌, ◌++◌, List, ℕ, Some, None, true, false, length, IfOk, IfSome, MatchOption, MatchResult};
 ghost use Rattle.flow_text.specs.Tests.{first_failed};
-ghost use Rattle.flow_text.specs.Terminals.{is_marked, with_mark};
+ghost use Rattle.flow_text.specs.Terminals.{is_marked};
+ghost use Rattle.flow_text.specs.TerminalMarks.{with_mark};
 ghost use Rattle.flow_text.specs.Problem.{Known, known_of, size_of, size_tests, problem_tests, node_of, mark_tests, node_tests, arc_of, arc_tests, end_tests, problem_rules, instance_of};
 ghost use Rattle.flow_text.specs.Reading.{Judges};
 ghost use Rattle.flow_text.specs.ProblemReading.{KeepsArc, known_with, with_node, with_problem_record, known_net};

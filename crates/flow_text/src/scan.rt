@@ -1,8 +1,9 @@
 //! What a line and a field say.
 ghost use Rattle.std.specs.Prelude.{◌≡◌, ◌+◌, ◌*◌, ◌^◌, ◌<◌, ◌≤◌, length, MatchOption};
 ghost use Rattle.flow_text.specs.Fields.{fields_of};
-ghost use Rattle.flow_text.specs.Digits.{number_of};
+ghost use Rattle.flow_text.specs.Numbers.{number_of};
 
+use crate::limits::SHORT_DIGITS;
 use crate::line_fields::Fields;
 use crate::numbers::Number;
 
@@ -21,11 +22,11 @@ fn with_digit(value: u128, digit: u8) -> Option<u128>
     value.checked_mul(10)?.checked_add(digit as u128)
 }
 
-// `number` of at most 19 digits, which fit 64 bits.
+// `number` of at most `SHORT_DIGITS` digits, which fit 64 bits.
 #[inline(always)]
 fn short_number(field: &[u8], limit: u128) -> Number
     requires some { 0 < length field.now }
-    requires short { length field.now ≤ 19 }
+    requires short { length field.now ≤ SHORT_DIGITS }
     ensures { result ≡ number_of field.now limit }
 {
     let mut value: u64 = 0;
@@ -73,7 +74,7 @@ pub fn number(field: &[u8], limit: u128) -> Number
 {
     if field.is_empty() {
         Number::NotDigits
-    } else if field.len() <= 19 {
+    } else if field.len() <= SHORT_DIGITS {
         short_number(field, limit)
     } else {
         long_number(field, limit)

@@ -1,7 +1,8 @@
 //! The terminals that the node lines name.
 ghost use Rattle.std.specs.Prelude.{◌≡◌, ◌++◌, [], OnOk, OnErr, false};
 ghost use Rattle.flow_net.specs.Nets.{AreDistinct};
-ghost use Rattle.flow_text.specs.Terminals.{is_marked, with_mark};
+ghost use Rattle.flow_text.specs.Terminals.{is_marked};
+ghost use Rattle.flow_text.specs.TerminalMarks.{with_mark};
 ghost use Rattle.flow_text.specs.Problem.{lacks_terminals};
 
 use std::alloc::{AllocError, Global};

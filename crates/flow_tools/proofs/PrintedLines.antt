@@ -8,7 +8,8 @@ use Rattle.flow_net.specs.declared.networks.Arc.{Arc}
 use Rattle.flow_net.specs.Nets.{Net, IsNet, IsArcWithin}
 use Rattle.flow_net.specs.Flows.{Fits}
 use Rattle.flow_net.proofs.Zips.{zip_from_fits}
-use Rattle.flow_text.specs.Lines.{rest, lines, joined, is_end, HasNoEnd}
+use Rattle.flow_text.specs.Lines.{rest, lines, is_end}
+use Rattle.flow_text.specs.LineParts.{joined, HasNoEnd}
 use Rattle.flow_text.specs.Fields.{fields_of, is_blank}
 use Rattle.flow_text.specs.Digits.{value_of, is_number}
 use Rattle.flow_text.specs.Tests.{first_failed}

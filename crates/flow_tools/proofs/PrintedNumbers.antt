@@ -10,7 +10,8 @@ use Rattle.std.proofs.lemmas.Grind.{common_steps}
 use Rattle.std.proofs.lemmas.Fmt.{decimal_by_steps_wide}
 use Rattle.std.proofs.lemmas.List.Elements.{All-nil, All-cons}
 use Rattle.flow_text.specs.Fields.{is_blank, has_bytes}
-use Rattle.flow_text.specs.Lines.{is_end, HasNoEnd}
+use Rattle.flow_text.specs.Lines.{is_end}
+use Rattle.flow_text.specs.LineParts.{HasNoEnd}
 use Rattle.flow_text.specs.Digits.{value_of, is_number}
 
 -- Some digits, and the number that they make.

@@ -33,6 +33,16 @@
 //! | `n` | the node before it in its frontier |
 //! | `n` | the node after it in its frontier |
 //! | `n - 1` | for each level its first orphan; while flow is pushed, the half-arcs of the path |
+//!
+//! And [`connectivity_by_growth`] has them, in front of the packed half-arcs, for:
+//!
+//! | Cells | What they hold |
+//! |---|---|
+//! | `n` | the nodes in their order |
+//! | `n` | each node's place in that order; while a search has seen it, `n` and twice its level |
+//! | `n` | each seen node's current place: that of its half-arc which the walk tries next |
+//! | `n` | the search's queue |
+//! | `n` | the half-arcs of the walk's path |
 #![tactic(auto)]
 
 mod chains;

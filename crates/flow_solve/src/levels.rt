@@ -20,9 +20,10 @@
 //!    falling ranks block all shortest paths, and the distance from the sources to the sinks grows by each phase. They go
 //!    on from whatever feasible flow they find, and their last search, which sees no source, shows that the flow is greatest.
 //!
-//! Nothing is claimed of the trees, nor of lifted distances: a path is written down and looked at, half-arc by half-arc, before anything is pushed
-//! along it, and a stage may leave wherever it is. What the trees take is counted off an allowance of 16 steps for each arc,
-//! and what lifting phases take off the rest of `n²·m`; a half-arc that is passed by without a look counts as a step too.
+//! Nothing is claimed of the trees, nor of lifted distances: a path is written down and looked at, half-arc by half-arc,
+//! before anything is pushed along it, and a stage may leave wherever it is. What the trees take is counted off an
+//! allowance of 16 steps for each arc, and what lifting phases take off the rest of `n²·m`; a half-arc that is passed by
+//! without a look counts as a step too.
 //! The other phases take at most `3·n²·m` from any feasible flow, so that all stay within `4·n²·m` for each network. They
 //! seldom begin: the last search, which shows that the flow is greatest, is mostly that of a phase that would have lifted.
 //!
@@ -49,6 +50,10 @@
 //! | roads, as generated | 7.5 | 0.8 |
 //! | roads, in a random order | 10.1 | 3.0 |
 //! | wide frames, 145,000 arcs | 0.53 | 0.26 |
+//! | long frames, as generated | 1.8 | 2.2 |
+//! | long frames, in a random order | 3.3 | 2.9 |
+//!
+//! In long frames as generated nodes are lifted without gain.
 ghost use Rattle.std.specs.Prelude.{◌+◌, ◌*◌, ◌≤◌, length};
 ghost use Rattle.flow_solve.specs.Bounds.{levels_bound};
 

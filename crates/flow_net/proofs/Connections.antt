@@ -1,15 +1,19 @@
 -- Connectivity by solves with unit capacities.
-use Rattle.std.proofs.Common.{◌≡◌, ℕ, ◌+◌, ◌≤◌, Bool, true, false, cond, not, ◌&&◌, ◌||◌, List, [], ◌∷◌, refl, ◌∙◌, sym, ap, inl, inr, eq-eqb, ◌↔◌, ◌≢◌, ◌⊎◌, arith}
+use Rattle.std.proofs.Common.{◌≡◌, ℕ, ◌+◌, ◌≤◌, Bool, true, false, cond, not, ◌&&◌, ◌||◌, List, [], ◌∷◌, refl, ◌∙◌, sym}
+use Rattle.std.proofs.Common.{ap, inl, inr, eq-eqb, ◌↔◌, ◌≢◌, ◌⊎◌, arith}
 use Rattle.std.specs.Prelude.{map}
 use Rattle.std.specs.List.{count_by}
 use Rattle.std.proofs.lemmas.Bool.{cases_Bool, eqb-true, ne_eqb}
 use Rattle.std.proofs.lemmas.List.Sums.{sum_by-cons, sum_by-append}
 use Rattle.flow_net.specs.declared.networks.Arc.{Arc}
-use Rattle.flow_net.specs.Nets.{Net, IsNet, IsNode, unit, unit_arc, reversed, both_ways}
+use Rattle.flow_net.specs.Nets.{Net, IsNode}
+use Rattle.flow_net.specs.Limits.{IsNet}
+use Rattle.flow_net.specs.DerivedNets.{unit, unit_arc, reversed, both_ways}
 use Rattle.flow_net.specs.NodeSets.{just}
 use Rattle.flow_net.specs.Flows.{IsGreatest}
 use Rattle.flow_net.specs.Cuts.{cap_over, leaves, enters, IsCut, capacity, IsMinimumCut, IsLeastCapacity}
-use Rattle.flow_net.specs.Connectivity.{leaving, crossing, IsProper, IsConnectivity, IsUndirectedConnectivity, IsPairConnectivity, IsUndirectedPairConnectivity}
+use Rattle.flow_net.specs.Connectivity.{leaving, crossing, IsProper, IsConnectivity, IsUndirectedConnectivity}
+use Rattle.flow_net.specs.Connectivity.{IsPairConnectivity, IsUndirectedPairConnectivity}
 use Rattle.flow_net.specs.Laws.{AreApart, IsLeastOfPairs}
 use Rattle.flow_net.proofs.KeptLimits.{IsNet-unit}
 use Rattle.flow_net.proofs.MaxFlows.{max_flow_min_cut, greatest_is_least, least_is_greatest}
@@ -23,34 +27,52 @@ pub capacity-unit : (net : Net) (X : ℕ → Bool) → capacity (unit net) X ≡
 capacity-unit net X = cap_over_unit X net.arcs
 
 -- the arcs that leave a set in both directions' network are those that cross it
-crossing_step : (p q : Bool) (l r c : ℕ) → l + r ≡ c → (cond (p && not q) 1 0 + l) + (cond (q && not p) 1 0 + r) ≡ cond ((p && not q) || (q && not p)) 1 0 + c
+crossing_step : (p q : Bool) (l r c : ℕ) → l + r ≡ c
+    → (cond (p && not q) 1 0 + l) + (cond (q && not p) 1 0 + r) ≡ cond ((p && not q) || (q && not p)) 1 0 + c
 crossing_step true true l r c h = omega arith
 crossing_step true false l r c h = omega arith
 crossing_step false true l r c h = omega arith
 crossing_step false false l r c h = omega arith
 
-crossing_sum : (X : ℕ → Bool) (arcs : List Arc) → count_by (leaves X) arcs + count_by (leaves X) (map reversed arcs) ≡ count_by (λ a. leaves X a || enters X a) arcs
+crossing_sum : (X : ℕ → Bool) (arcs : List Arc)
+    → count_by (leaves X) arcs + count_by (leaves X) (map reversed arcs) ≡ count_by (λ a. leaves X a || enters X a) arcs
 crossing_sum X [] = refl
 crossing_sum X (a ∷ arcs) =
-    rw (sum_by-cons (λ b. cond (leaves X b) 1 0) a arcs, sum_by-cons (λ b. cond (leaves X b) 1 0) (reversed a) (map reversed arcs), sum_by-cons (λ b. cond (leaves X b || enters X b) 1 0) a arcs)
+    rw (
+      sum_by-cons (λ b. cond (leaves X b) 1 0) a arcs,
+      sum_by-cons (λ b. cond (leaves X b) 1 0) (reversed a) (map reversed arcs),
+      sum_by-cons (λ b. cond (leaves X b || enters X b) 1 0) a arcs,
+    )
     (crossing_step (X a.src) (X a.dst) _ _ _ (crossing_sum X arcs))
 
 pub leaving-both_ways : (net : Net) (X : ℕ → Bool) → leaving (both_ways net) X ≡ crossing net X
-leaving-both_ways net X = sum_by-append (λ b. cond (leaves X b) 1 0) net.arcs (map reversed net.arcs) ∙ crossing_sum X net.arcs
+leaving-both_ways net X =
+    sum_by-append (λ b. cond (leaves X b) 1 0) net.arcs (map reversed net.arcs) ∙ crossing_sum X net.arcs
 
 pub undirected : (net : Net) (k : ℕ) → IsConnectivity (both_ways net) k ↔ IsUndirectedConnectivity net k
 undirected net k = (
   (λ c. record {
-    reached = (c.reached.0, record { inside = c.reached.1.inside; outside = c.reached.1.outside }, sym (leaving-both_ways net c.reached.0) ∙ c.reached.2);
-    least = λ X p. omega (arith, c.least X (record { inside = p.inside; outside = p.outside }), leaving-both_ways net X);
+    reached = (
+      c.reached.0,
+      record { inside = c.reached.1.inside; outside = c.reached.1.outside },
+      sym (leaving-both_ways net c.reached.0) ∙ c.reached.2,
+    );
+    least = λ X p.
+        omega (arith, c.least X (record { inside = p.inside; outside = p.outside }), leaving-both_ways net X);
   }),
   λ c. record {
-    reached = (c.reached.0, record { inside = c.reached.1.inside; outside = c.reached.1.outside }, leaving-both_ways net c.reached.0 ∙ c.reached.2);
-    least = λ X p. omega (arith, c.least X (record { inside = p.inside; outside = p.outside }), leaving-both_ways net X);
+    reached = (
+      c.reached.0,
+      record { inside = c.reached.1.inside; outside = c.reached.1.outside },
+      leaving-both_ways net c.reached.0 ∙ c.reached.2,
+    );
+    least = λ X p.
+        omega (arith, c.least X (record { inside = p.inside; outside = p.outside }), leaving-both_ways net X);
   },
 )
 
-pub undirected_pair : (net : Net) (s t : ℕ → Bool) (k : ℕ) → IsPairConnectivity (both_ways net) s t k ↔ IsUndirectedPairConnectivity net s t k
+pub undirected_pair : (net : Net) (s t : ℕ → Bool) (k : ℕ)
+    → IsPairConnectivity (both_ways net) s t k ↔ IsUndirectedPairConnectivity net s t k
 undirected_pair net s t k = (
   (λ c. record {
     reached = (c.reached.0, c.reached.1, sym (leaving-both_ways net c.reached.0) ∙ c.reached.2);
@@ -65,7 +87,12 @@ undirected_pair net s t k = (
 -- the number of arcs that leave a set has nothing to do with capacities
 count_by_unit : (X : ℕ → Bool) (arcs : List Arc) → count_by (leaves X) (map unit_arc arcs) ≡ count_by (leaves X) arcs
 count_by_unit X [] = refl
-count_by_unit X (a ∷ arcs) = rw (sum_by-cons (λ b. cond (leaves X b) 1 0) a arcs, sum_by-cons (λ b. cond (leaves X b) 1 0) (unit_arc a) (map unit_arc arcs), count_by_unit X arcs) refl
+count_by_unit X (a ∷ arcs) =
+    rw (
+      sum_by-cons (λ b. cond (leaves X b) 1 0) a arcs,
+      sum_by-cons (λ b. cond (leaves X b) 1 0) (unit_arc a) (map unit_arc arcs),
+      count_by_unit X arcs,
+    ) refl
 
 pub leaving-unit : (net : Net) (X : ℕ → Bool) → leaving (unit net) X ≡ leaving net X
 leaving-unit net X = count_by_unit X net.arcs
@@ -73,11 +100,16 @@ leaving-unit net X = count_by_unit X net.arcs
 -- so the connectivity is that of the network of unit capacities
 pub connectivity_of_unit : (net : Net) (k : ℕ) → IsConnectivity (unit net) k → IsConnectivity net k
 connectivity_of_unit net k c = record {
-  reached = (c.reached.0, record { inside = c.reached.1.inside; outside = c.reached.1.outside }, sym (leaving-unit net c.reached.0) ∙ c.reached.2);
+  reached = (
+    c.reached.0,
+    record { inside = c.reached.1.inside; outside = c.reached.1.outside },
+    sym (leaving-unit net c.reached.0) ∙ c.reached.2,
+  );
   least = λ X p. omega (arith, c.least X (record { inside = p.inside; outside = p.outside }), leaving-unit net X);
 }
 
-pub pair_of_unit : (net : Net) (s t : ℕ → Bool) (k : ℕ) → IsPairConnectivity (unit net) s t k → IsPairConnectivity net s t k
+pub pair_of_unit : (net : Net) (s t : ℕ → Bool) (k : ℕ) → IsPairConnectivity (unit net) s t k
+    → IsPairConnectivity net s t k
 pair_of_unit net s t k c = record {
   reached = (c.reached.0, c.reached.1, sym (leaving-unit net c.reached.0) ∙ c.reached.2);
   least = λ X p. omega (arith, c.least X p, leaving-unit net X);
@@ -91,11 +123,13 @@ cut_of_two X u v i o = record {
 }
 
 -- what one solve says of a pair
-pub minimum_leaving : (net : Net) (s t X Y : ℕ → Bool) → IsMinimumCut (unit net) s t X → IsCut s t Y → leaving net X ≤ leaving net Y
+pub minimum_leaving : (net : Net) (s t X Y : ℕ → Bool) → IsMinimumCut (unit net) s t X → IsCut s t Y
+    → leaving net X ≤ leaving net Y
 minimum_leaving net s t X Y m c = omega (arith, m.least Y c, capacity-unit net X, capacity-unit net Y)
 
 -- one solve of the unit network
-pub pair_by_solve : (net : Net) (s t : ℕ → Bool) (k : ℕ) → IsLeastCapacity (unit net) s t k → IsPairConnectivity net s t k
+pub pair_by_solve : (net : Net) (s t : ℕ → Bool) (k : ℕ) → IsLeastCapacity (unit net) s t k
+    → IsPairConnectivity net s t k
 pair_by_solve net s t k l = record {
   reached = (l.0, l.1.cut, sym (capacity-unit net l.0) ∙ l.2);
   least = λ Y c. omega (arith, minimum_leaving net s t l.0 Y l.1 c, capacity-unit net l.0, l.2);
@@ -105,24 +139,40 @@ pub just_self : (v : ℕ) → just v v ≡ true
 just_self v = eq-eqb v v refl
 
 -- a cut of two nodes is neither empty nor all
-pub cut_proper : (net : Net) (u v : ℕ) (X : ℕ → Bool) → 1 ≤ u → u ≤ net.nodes → 1 ≤ v → v ≤ net.nodes → IsCut (just u) (just v) X → IsProper net X
-cut_proper net u v X a b c d k = record { inside = (u, a, b, k.sources u (just_self u)); outside = (v, c, d, k.sinks v (just_self v)) }
+pub cut_proper : (net : Net) (u v : ℕ) (X : ℕ → Bool) → 1 ≤ u → u ≤ net.nodes → 1 ≤ v → v ≤ net.nodes
+    → IsCut (just u) (just v) X → IsProper net X
+cut_proper net u v X a b c d k = record {
+  inside = (u, a, b, k.sources u (just_self u));
+  outside = (v, c, d, k.sinks v (just_self v));
+}
 
 -- the pair connectivity is the greatest value at capacities of 1
-pub pair_by_flow : (net : Net) (s t : ℕ → Bool) (k : ℕ) → IsNet net → AreApart s t → IsGreatest (unit net) s t k ↔ IsPairConnectivity net s t k
+pub pair_by_flow : (net : Net) (s t : ℕ → Bool) (k : ℕ) → IsNet net → AreApart s t
+    → IsGreatest (unit net) s t k ↔ IsPairConnectivity net s t k
 pair_by_flow net s t k n a = (
   (λ g. pair_by_solve net s t k (greatest_is_least (unit net) s t k (IsNet-unit net n) a g)),
-  λ p. least_is_greatest (unit net) s t k (IsNet-unit net n) a (p.reached.0, record { cut = p.reached.1; least = λ Y c. omega (arith, p.least Y c, p.reached.2, capacity-unit net p.reached.0, capacity-unit net Y) }, capacity-unit net p.reached.0 ∙ p.reached.2),
+  λ p. least_is_greatest (unit net) s t k (IsNet-unit net n) a (
+    p.reached.0,
+    record {
+      cut = p.reached.1;
+      least = λ Y c. omega (arith, p.least Y c, p.reached.2, capacity-unit net p.reached.0, capacity-unit net Y);
+    },
+    capacity-unit net p.reached.0 ∙ p.reached.2,
+  ),
 )
 
 -- each pair of two nodes has a connectivity
 pair_exists : (net : Net) (u v : ℕ) → IsNet net → u ≢ v → (k : ℕ) × IsPairConnectivity net (just u) (just v) k
 pair_exists net u v n ne =
-    let m = max_flow_min_cut (unit net) (just u) (just v) (IsNet-unit net n) (λ w e. ne_eqb w v (λ f. ne (sym (eqb-true w u e) ∙ f))) in
+    let m = max_flow_min_cut (unit net) (just u) (just v) (IsNet-unit net n)
+    (λ w e. ne_eqb w v (λ f. ne (sym (eqb-true w u e) ∙ f))) in
     (m.0, pair_by_solve net (just u) (just v) m.0 m.2)
 
 -- a proper set parts any node from another, one way or the other: no fewer arcs leave it than any pair has
-pub proper_parts : (net : Net) (r k : ℕ) (X : ℕ → Bool) → IsNet net → ((v j : ℕ) → IsNode net v → v ≢ r → IsPairConnectivity net (just r) (just v) j ⊎ IsPairConnectivity net (just v) (just r) j → k ≤ j) → IsProper net X → k ≤ leaving net X
+pub proper_parts : (net : Net) (r k : ℕ) (X : ℕ → Bool) → IsNet net
+    → ((v j : ℕ) → IsNode net v → v ≢ r
+    → IsPairConnectivity net (just r) (just v) j ⊎ IsPairConnectivity net (just v) (just r) j → k ≤ j)
+    → IsProper net X → k ≤ leaving net X
 proper_parts net r k X n least p = elim (cases_Bool (X r)) [
   | inl i ↦
       let v = p.outside.0 in
@@ -148,13 +198,17 @@ parts_least net r k at c = record { reached = first; least = rest }
     e : leaving net X ≡ k
     e = c.reached.2
 
-    pair : (u v : ℕ) → IsNode net u → IsNode net v → X u ≡ true → X v ≡ false → IsPairConnectivity net (just u) (just v) k
+    pair : (u v : ℕ) → IsNode net u → IsNode net v → X u ≡ true → X v ≡ false
+        → IsPairConnectivity net (just u) (just v) k
     pair u v a b i o = record {
       reached = (X, cut_of_two X u v i o, e);
       least = λ Y d. c.least Y (cut_proper net u v Y a.0 a.1 b.0 b.1 d);
     }
 
-    first : (v : ℕ) × IsNode net v × (v ≢ r) × (IsPairConnectivity net (just r) (just v) k ⊎ IsPairConnectivity net (just v) (just r) k)
+    first : (v : ℕ)
+        × IsNode net v
+        × (v ≢ r)
+        × (IsPairConnectivity net (just r) (just v) k ⊎ IsPairConnectivity net (just v) (just r) k)
     first = elim (cases_Bool (X r)) [
       | inl i ↦
           let p = c.reached.1.outside in
@@ -166,20 +220,28 @@ parts_least net r k at c = record { reached = first; least = rest }
           (p.0, (p.1, p.2), (λ f. (let same : X p.0 ≡ X r = ap X f in cc)), inr (pair p.0 r (p.1, p.2) at i o))
     ]
 
-    rest : (v j : ℕ) → IsNode net v → v ≢ r → IsPairConnectivity net (just r) (just v) j ⊎ IsPairConnectivity net (just v) (just r) j → k ≤ j
+    rest : (v j : ℕ) → IsNode net v → v ≢ r
+        → IsPairConnectivity net (just r) (just v) j ⊎ IsPairConnectivity net (just v) (just r) j → k ≤ j
     rest v j b ne d = elim d [
-      | inl p ↦ omega (arith, c.least p.reached.0 (cut_proper net r v p.reached.0 at.0 at.1 b.0 b.1 p.reached.1), p.reached.2)
-      | inr p ↦ omega (arith, c.least p.reached.0 (cut_proper net v r p.reached.0 b.0 b.1 at.0 at.1 p.reached.1), p.reached.2)
+      | inl p ↦
+          omega (arith, c.least p.reached.0 (cut_proper net r v p.reached.0 at.0 at.1 b.0 b.1 p.reached.1), p.reached.2)
+      | inr p ↦
+          omega (arith, c.least p.reached.0 (cut_proper net v r p.reached.0 b.0 b.1 at.0 at.1 p.reached.1), p.reached.2)
     ]
 
 -- the connectivity is the least over one node and every other, both ways
-pub connected_by_pairs : (net : Net) (r k : ℕ) → IsNet net → IsNode net r → IsConnectivity net k ↔ IsLeastOfPairs net r k
+pub connected_by_pairs : (net : Net) (r k : ℕ) → IsNet net → IsNode net r
+    → IsConnectivity net k ↔ IsLeastOfPairs net r k
 connected_by_pairs net r k n at = (
   parts_least net r k at,
   λ l. record { reached = proper_of l.reached; least = λ X p. proper_parts net r k X n l.least p },
 )
   where
-    proper_of : ((v : ℕ) × IsNode net v × (v ≢ r) × (IsPairConnectivity net (just r) (just v) k ⊎ IsPairConnectivity net (just v) (just r) k)) → (X : ℕ → Bool) × IsProper net X × (leaving net X ≡ k)
+    proper_of : ((v : ℕ)
+        × IsNode net v
+        × (v ≢ r)
+        × (IsPairConnectivity net (just r) (just v) k ⊎ IsPairConnectivity net (just v) (just r) k))
+        → (X : ℕ → Bool) × IsProper net X × (leaving net X ≡ k)
     proper_of q = elim q.3 [
       | inl p ↦ (p.reached.0, cut_proper net r q.0 p.reached.0 at.0 at.1 q.1.0 q.1.1 p.reached.1, p.reached.2)
       | inr p ↦ (p.reached.0, cut_proper net q.0 r p.reached.0 q.1.0 q.1.1 at.0 at.1 p.reached.1, p.reached.2)

@@ -1,5 +1,7 @@
 -- Half-arcs: the two of an arc, and what a push does to the residual capacities.
-use Rattle.std.proofs.Common.{◌≡◌, ◌≢◌, ℕ, ◌+◌, ◌-◌, ◌*◌, ◌/◌, ◌%◌, ◌<◌, ◌≤◌, Bool, true, false, not, cond, eqb, List, length, arith, refl, ap, subst, sym, ◌∙◌, inl, inr, get_or-set_same, get_or-set_other, eq-eqb}
+use Rattle.std.proofs.Common.{◌≡◌, ◌≢◌, ℕ, ◌+◌, ◌-◌, ◌*◌, ◌/◌, ◌%◌, ◌<◌, ◌≤◌, Bool, true, false, not, cond, eqb, List}
+use Rattle.std.proofs.Common.{length, arith, refl, ap, subst, sym, ◌∙◌, inl, inr, get_or-set_same, get_or-set_other}
+use Rattle.std.proofs.Common.{eq-eqb}
 use Rattle.std.specs.Prelude.{slice_index}
 use Rattle.std.proofs.lemmas.Bool.{cases_eq, ne_eqb}
 use Rattle.flow_net.specs.declared.networks.Arc.{Arc}
@@ -25,22 +27,34 @@ runs_along-along i = let even : 2 * i % 2 ≡ 0 = omega arith in rw even refl
 pub runs_along-against : (i : ℕ) → runs_along (2 * i + 1) ≡ false
 runs_along-against i = let odd : (2 * i + 1) % 2 ≡ 1 = omega arith in rw odd refl
 
-turned_ends : (b c : Bool) (a : Arc) → c ≡ not b → (cond c a.src a.dst ≡ cond b a.dst a.src) × (cond c a.dst a.src ≡ cond b a.src a.dst)
+turned_ends : (b c : Bool) (a : Arc) → c ≡ not b
+    → (cond c a.src a.dst ≡ cond b a.dst a.src) × (cond c a.dst a.src ≡ cond b a.src a.dst)
 turned_ends true c a e = rw e (refl, refl)
 turned_ends false c a e = rw e (refl, refl)
 
 -- the other half-arc of an arc runs from the head to the tail
-pub ends_of_twin : (net : Net) (h g : ℕ) → g / 2 ≡ h / 2 → runs_along g ≡ not (runs_along h) → (tail_of net g ≡ head_of net h) × (head_of net g ≡ tail_of net h)
+pub ends_of_twin : (net : Net) (h g : ℕ) → g / 2 ≡ h / 2 → runs_along g ≡ not (runs_along h)
+    → (tail_of net g ≡ head_of net h) × (head_of net g ≡ tail_of net h)
 ends_of_twin net h g same turned =
     let e = turned_ends (runs_along h) (runs_along g) (arc_at net (h / 2)) turned in
-    let At : ℕ → Type 0 = λ i. (cond (runs_along g) (arc_at net i).src (arc_at net i).dst ≡ head_of net h) × (cond (runs_along g) (arc_at net i).dst (arc_at net i).src ≡ tail_of net h) in
+    let At : ℕ → Type 0 =
+    λ i. (cond (runs_along g) (arc_at net i).src (arc_at net i).dst ≡ head_of net h)
+    × (cond (runs_along g) (arc_at net i).dst (arc_at net i).src ≡ tail_of net h) in
     subst At (sym same) e
 
 -- two half-arcs of one arc are the same or twins
 pub one_arc_ends : (net : Net) (h g : ℕ) → g / 2 ≡ h / 2 → g ≢ h → runs_along g ≡ not (runs_along h)
 one_arc_ends net h g same apart = elim (cases_eq (h % 2) 0) [
-  | inl e ↦ (let odd : g % 2 ≢ 0 = λ z. apart (omega arith) in let hb : runs_along h ≡ true = eq-eqb (h % 2) 0 e in let gb : runs_along g ≡ false = ne_eqb (g % 2) 0 odd in rw (hb, gb) refl)
-  | inr n ↦ (let even : g % 2 ≡ 0 = omega (arith, odd_even apart n) in let hb : runs_along h ≡ false = ne_eqb (h % 2) 0 n in let gb : runs_along g ≡ true = eq-eqb (g % 2) 0 even in rw (hb, gb) refl)
+  | inl e ↦
+      (let odd : g % 2 ≢ 0 = λ z. apart (omega arith) in
+      let hb : runs_along h ≡ true = eq-eqb (h % 2) 0 e in
+      let gb : runs_along g ≡ false = ne_eqb (g % 2) 0 odd in
+      rw (hb, gb) refl)
+  | inr n ↦
+      (let even : g % 2 ≡ 0 = omega (arith, odd_even apart n) in
+      let hb : runs_along h ≡ false = ne_eqb (h % 2) 0 n in
+      let gb : runs_along g ≡ true = eq-eqb (g % 2) 0 even in
+      rw (hb, gb) refl)
 ]
   where
     odd_even : g ≢ h → h % 2 ≢ 0 → g % 2 ≡ 0
@@ -48,33 +62,45 @@ one_arc_ends net h g same apart = elim (cases_eq (h % 2) 0) [
 
 -- ---- what remains after a push
 
-room-pushed : (b : Bool) (cap x d : ℕ) → cond b (cap - cond b (x + d) (x - d)) (cond b (x + d) (x - d)) ≡ cond b (cap - x) x - d
+room-pushed : (b : Bool) (cap x d : ℕ)
+    → cond b (cap - cond b (x + d) (x - d)) (cond b (x + d) (x - d)) ≡ cond b (cap - x) x - d
 room-pushed true cap x d = omega arith
 room-pushed false cap x d = refl
 
-room-pushed_back : (b : Bool) (cap x d : ℕ) → x ≤ cap → d ≤ cond b (cap - x) x → cond (not b) (cap - cond b (x + d) (x - d)) (cond b (x + d) (x - d)) ≡ cond (not b) (cap - x) x + d
+room-pushed_back : (b : Bool) (cap x d : ℕ) → x ≤ cap → d ≤ cond b (cap - x) x
+    → cond (not b) (cap - cond b (x + d) (x - d)) (cond b (x + d) (x - d)) ≡ cond (not b) (cap - x) x + d
 room-pushed_back true cap x d fits enough = refl
 room-pushed_back false cap x d fits enough = omega arith
 
 -- the half-arc itself has so much less
-pub residual-pushed : (net : Net) (xs : List ℕ) (h d : ℕ) → h / 2 < length xs → residual net (pushed xs h d) h ≡ residual net xs h - d
+pub residual-pushed : (net : Net) (xs : List ℕ) (h d : ℕ) → h / 2 < length xs
+    → residual net (pushed xs h d) h ≡ residual net xs h - d
 residual-pushed net xs h d lt =
     let cap = (arc_at net (h / 2)).cap in let x = slice_index xs (h / 2) in let b = runs_along h in
     ap (λ y. cond b (cap - y) y) (get_or-set_same xs (h / 2) (cond b (x + d) (x - d)) 0 lt) ∙ room-pushed b cap x d
 
 -- its twin has so much more
-pub residual-pushed_back : (net : Net) (xs : List ℕ) (h g d : ℕ) → Fits net xs → h / 2 < length net.arcs → d ≤ residual net xs h → g / 2 ≡ h / 2 → runs_along g ≡ not (runs_along h) → residual net (pushed xs h d) g ≡ residual net xs g + d
+pub residual-pushed_back : (net : Net) (xs : List ℕ) (h g d : ℕ) → Fits net xs → h / 2 < length net.arcs
+    → d ≤ residual net xs h → g / 2 ≡ h / 2 → runs_along g ≡ not (runs_along h)
+    → residual net (pushed xs h d) g ≡ residual net xs g + d
 residual-pushed_back net xs h g d fits lt enough same turned =
     let cap = (arc_at net (h / 2)).cap in let x = slice_index xs (h / 2) in let b = runs_along h in
-    let Is : ℕ → Bool → Type 0 = λ i c. cond c ((arc_at net i).cap - slice_index (pushed xs h d) i) (slice_index (pushed xs h d) i) ≡ cond c ((arc_at net i).cap - slice_index xs i) (slice_index xs i) + d in
+    let Is : ℕ → Bool → Type 0 =
+    λ i c. cond c ((arc_at net i).cap - slice_index (pushed xs h d) i) (slice_index (pushed xs h d) i)
+    ≡ cond c ((arc_at net i).cap - slice_index xs i) (slice_index xs i) + d in
     let in_flows : h / 2 < length xs = let count = fits.count in omega arith in
-    let here : Is (h / 2) (not b) = ap (λ y. cond (not b) (cap - y) y) (get_or-set_same xs (h / 2) (cond b (x + d) (x - d)) 0 in_flows) ∙ room-pushed_back b cap x d (fits.within (h / 2) lt) enough in
+    let here : Is (h / 2) (not b) =
+    ap (λ y. cond (not b) (cap - y) y) (get_or-set_same xs (h / 2) (cond b (x + d) (x - d)) 0 in_flows)
+    ∙ room-pushed_back b cap x d (fits.within (h / 2) lt) enough in
     let At : ℕ → Type 0 = λ i. Is i (runs_along g) in let Turned : Bool → Type 0 = λ c. Is (h / 2) c in
     subst At (sym same) (subst Turned (sym turned) here)
 
 -- the half-arcs of other arcs keep theirs
-pub residual-pushed_other : (net : Net) (xs : List ℕ) (h g d : ℕ) → g / 2 ≢ h / 2 → residual net (pushed xs h d) g ≡ residual net xs g
-residual-pushed_other net xs h g d apart = ap (λ x. half_room (arc_at net (g / 2)) x g) (get_or-set_other xs (h / 2) (g / 2) (half_pushed (slice_index xs (h / 2)) h d) 0 apart)
+pub residual-pushed_other : (net : Net) (xs : List ℕ) (h g d : ℕ) → g / 2 ≢ h / 2
+    → residual net (pushed xs h d) g ≡ residual net xs g
+residual-pushed_other net xs h g d apart =
+    ap (λ x. half_room (arc_at net (g / 2)) x g)
+    (get_or-set_other xs (h / 2) (g / 2) (half_pushed (slice_index xs (h / 2)) h d) 0 apart)
 
 -- ---- self-loops
 
@@ -83,8 +109,11 @@ no_loop true a n e = n e
 no_loop false a n e = n (sym e)
 
 -- a push between two nodes leaves the self-loops empty
-pub no_loops_pushed : (net : Net) (xs : List ℕ) (h d : ℕ) → tail_of net h ≢ head_of net h → HasNoLoops net xs → HasNoLoops net (pushed xs h d)
+pub no_loops_pushed : (net : Net) (xs : List ℕ) (h d : ℕ) → tail_of net h ≢ head_of net h → HasNoLoops net xs
+    → HasNoLoops net (pushed xs h d)
 no_loops_pushed net xs h d n z i l loop = elim (cases_eq i (h / 2)) [
-  | inl e ↦ absurd (no_loop (runs_along h) (arc_at net (h / 2)) n (let P : ℕ → Type 0 = λ j. (arc_at net j).src ≡ (arc_at net j).dst in subst P e loop))
+  | inl e ↦
+      absurd (no_loop (runs_along h) (arc_at net (h / 2)) n
+      (let P : ℕ → Type 0 = λ j. (arc_at net j).src ≡ (arc_at net j).dst in subst P e loop))
   | inr o ↦ get_or-set_other xs (h / 2) i (half_pushed (slice_index xs (h / 2)) h d) 0 o ∙ z i l loop
 ]

@@ -3,7 +3,9 @@ use Rattle.std.proofs.Common.{◌≤◌, ◌++◌, length, map, arith, lit≤, l
 use Rattle.std.proofs.lemmas.List.{length-map}
 use Rattle.std.proofs.lemmas.List.Elements.{All-append, All-map, All-weaker}
 use Rattle.flow_net.specs.declared.limits.TheConstants.{MOST_ARCS}
-use Rattle.flow_net.specs.Nets.{Net, IsNet, IsArcWithin, unit_arc, reversed}
+use Rattle.flow_net.specs.Nets.{Net}
+use Rattle.flow_net.specs.Limits.{IsNet, IsArcWithin}
+use Rattle.flow_net.specs.DerivedNets.{unit_arc, reversed}
 
 -- capacities of 1 keep it
 pub IsNet-unit : (net : Net) → IsNet net → IsNet (record net { arcs = map unit_arc net.arcs })
@@ -11,16 +13,39 @@ IsNet-unit net h = let same = length-map net.arcs unit_arc in let most = h.arcs_
   nodes_least = h.nodes_least;
   nodes_most = h.nodes_most;
   arcs_most = omega arith;
-  arcs_within = All-map (IsArcWithin net.nodes) unit_arc net.arcs (All-weaker (IsArcWithin net.nodes) (λ a. IsArcWithin net.nodes (unit_arc a))
-      (λ a w. record { src_least = w.src_least; src_most = w.src_most; dst_least = w.dst_least; dst_most = w.dst_most; cap_fits = lit≤ tt }) net.arcs h.arcs_within);
+  arcs_within =
+      All-map (IsArcWithin net.nodes) unit_arc net.arcs
+      (All-weaker (IsArcWithin net.nodes) (λ a. IsArcWithin net.nodes (unit_arc a))
+      (λ a w.
+      record {
+        src_least = w.src_least;
+        src_most = w.src_most;
+        dst_least = w.dst_least;
+        dst_most = w.dst_most;
+        cap_fits = lit≤ tt;
+      }) net.arcs h.arcs_within);
 }
 
 -- the reversed arcs keep it, where there is room
-pub IsNet-both_ways : (net : Net) → IsNet net → length net.arcs ≤ MOST_ARCS → IsNet (record net { arcs = net.arcs ++ map reversed net.arcs })
-IsNet-both_ways net h room = let same = length-map net.arcs reversed in let sum = length-append net.arcs (map reversed net.arcs) in record {
-  nodes_least = h.nodes_least;
-  nodes_most = h.nodes_most;
-  arcs_most = omega arith;
-  arcs_within = All-append (IsArcWithin net.nodes) net.arcs (map reversed net.arcs) h.arcs_within (All-map (IsArcWithin net.nodes) reversed net.arcs (All-weaker (IsArcWithin net.nodes) (λ a. IsArcWithin net.nodes (reversed a))
-      (λ a w. record { src_least = w.dst_least; src_most = w.dst_most; dst_least = w.src_least; dst_most = w.src_most; cap_fits = w.cap_fits }) net.arcs h.arcs_within));
-}
+pub IsNet-both_ways : (net : Net) → IsNet net → length net.arcs ≤ MOST_ARCS
+    → IsNet (record net { arcs = net.arcs ++ map reversed net.arcs })
+IsNet-both_ways net h room =
+    let same = length-map net.arcs reversed in
+    let sum = length-append net.arcs (map reversed net.arcs) in
+    record {
+      nodes_least = h.nodes_least;
+      nodes_most = h.nodes_most;
+      arcs_most = omega arith;
+      arcs_within =
+          All-append (IsArcWithin net.nodes) net.arcs (map reversed net.arcs) h.arcs_within
+          (All-map (IsArcWithin net.nodes) reversed net.arcs
+          (All-weaker (IsArcWithin net.nodes) (λ a. IsArcWithin net.nodes (reversed a))
+          (λ a w.
+          record {
+            src_least = w.dst_least;
+            src_most = w.dst_most;
+            dst_least = w.src_least;
+            dst_most = w.src_most;
+            cap_fits = w.cap_fits;
+          }) net.arcs h.arcs_within));
+    }

@@ -37,10 +37,6 @@ pub record IsGreatest (net : Net) (s t : ℕ → Bool) (k : ℕ) : Type 0 where
   pub reached : (xs : List ℕ) × IsFeasible net s t xs × HasValue net s xs k
   pub most : (xs : List ℕ) → IsFeasible net s t xs → out_of s net.arcs xs ≤ k + into s net.arcs xs
 
--- the flow's value is the greatest
-abbrev pub HasGreatestValue : Net → (ℕ → Bool) → (ℕ → Bool) → List ℕ → Type 0
-HasGreatestValue net s t xs = (k : ℕ) × HasValue net s xs k × IsGreatest net s t k
-
 -- no self-loop carries flow
 abbrev pub HasNoLoops : Net → List ℕ → Type 0
 HasNoLoops net xs = (i : ℕ) → i < length net.arcs → (arc_at net i).src ≡ (arc_at net i).dst → slice_index xs i ≡ 0

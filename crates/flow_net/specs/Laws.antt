@@ -1,7 +1,9 @@
 -- The laws that the rest of the toolkit stands on. Each is the contract of a function of `laws`.
 use Rattle.std.specs.Prelude.{◌≢◌, ℕ, ◌+◌, ◌<◌, ◌≤◌, ◌⊎◌, ◌↔◌, Bool, List, length, slice_set, IsTrue, IsFalse}
 use Rattle.flow_net.specs.declared.networks.Arc.{Arc}
-use Rattle.flow_net.specs.Nets.{Net, IsNet, IsNode, arc_at, unit, both_ways}
+use Rattle.flow_net.specs.Nets.{Net, IsNode, arc_at}
+use Rattle.flow_net.specs.Limits.{IsNet}
+use Rattle.flow_net.specs.DerivedNets.{unit, both_ways}
 use Rattle.flow_net.specs.NodeSets.{just}
 use Rattle.flow_net.specs.Flows.{out_of, into, IsFeasible, HasValue, IsGreatest}
 use Rattle.flow_net.specs.Cuts.{IsCut, capacity, IsMinimumCut, IsLeastCapacity, IsInLeastSourceSide, IsInLeastSinkSide}

@@ -1,6 +1,10 @@
 pub mod Nets
+pub mod Limits
+pub mod DerivedNets
 pub mod NodeSets
+pub mod MarkedNodes
 pub mod Flows
+pub mod GreatestFlows
 pub mod Cuts
 pub mod Connectivity
 pub mod Residual

@@ -1,6 +1,8 @@
 -- Orders of the nodes, and the connectivity by terminals that grow along one.
 use Rattle.std.specs.Prelude.{◌≡◌, ℕ, ◌≤◌, ◌<◌, ◌⊎◌, ◌↔◌, Bool, List, length, take, slice_index}
-use Rattle.flow_net.specs.Nets.{Net, IsNet, IsNode, AreDistinct, both_ways}
+use Rattle.flow_net.specs.Nets.{Net, IsNode}
+use Rattle.flow_net.specs.Limits.{IsNet, AreDistinct}
+use Rattle.flow_net.specs.DerivedNets.{both_ways}
 use Rattle.flow_net.specs.NodeSets.{one_of, just}
 use Rattle.flow_net.specs.Connectivity.{IsConnectivity, IsPairConnectivity}
 

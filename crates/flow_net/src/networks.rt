@@ -1,6 +1,8 @@
 //! Networks: a number of nodes and a list of arcs.
 ghost use Rattle.std.specs.Prelude.{◌≡◌, ◌+◌, ◌*◌, ◌<◌, ◌≤◌, ◌↔◌, [], ◌∷◌, ◌++◌, length, map, slice_get, IsTrue, OnOk, OnErr};
-ghost use Rattle.flow_net.specs.Nets.{Net, IsNet, IsArcWithin, arc_at, unit, unit_arc, both_ways, reversed};
+ghost use Rattle.flow_net.specs.Nets.{Net, arc_at};
+ghost use Rattle.flow_net.specs.Limits.{IsNet, IsArcWithin};
+ghost use Rattle.flow_net.specs.DerivedNets.{unit, unit_arc, both_ways, reversed};
 
 use super::limits::{FEWEST_NODES, MOST_ARCS, MOST_ARCS_BOTH_WAYS, MOST_NODES};
 use std::alloc::Global;
@@ -32,7 +34,8 @@ pub struct Network {
 }
 
 impl Model for Network {
-    ghost use Rattle.flow_net.specs.Nets.{Net, IsNet};
+    ghost use Rattle.flow_net.specs.Nets.{Net};
+    ghost use Rattle.flow_net.specs.Limits.{IsNet};
 
     ghost Value = { Net };
 

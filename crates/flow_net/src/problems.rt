@@ -1,6 +1,6 @@
 //! Problems: a network with its sources and sinks.
 ghost use Rattle.std.specs.Prelude.{◌≡◌};
-ghost use Rattle.flow_net.specs.Nets.{IsProblem};
+ghost use Rattle.flow_net.specs.Limits.{IsProblem};
 
 use super::networks::Network;
 use std::marker::Model;
@@ -15,7 +15,8 @@ pub struct Problem {
 }
 
 impl Model for Problem {
-    ghost use Rattle.flow_net.specs.Nets.{Instance, IsProblem};
+    ghost use Rattle.flow_net.specs.Nets.{Instance};
+    ghost use Rattle.flow_net.specs.Limits.{IsProblem};
 
     ghost Value = { Instance };
 

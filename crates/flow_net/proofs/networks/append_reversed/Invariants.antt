@@ -1,5 +1,5 @@
 use Rattle.std.proofs.Common.{◌≡◌, ◌+◌, ◌≤◌, ◌++◌, length, map, take, vec_len, vec_capacity}
-use Rattle.flow_net.specs.Nets.{reversed}
+use Rattle.flow_net.specs.DerivedNets.{reversed}
 use Rattle.flow_net.proofs.networks.append_reversed.Given as goal
 
 abbrev pub invariant-loop-i : goal.invariant-loop-i

@@ -10,4 +10,5 @@ invariant_of-self c = rw c.in_err-append_reversed.ensures.err c.self.invariant
 pub invariant_of-self-2 : goal.invariant_of-self-2
 invariant_of-self-2 c =
     let HasRoom : Net → Type 0 = λ n. length n.arcs ≤ MOST_ARCS in
-    rw c.in_ok-append_reversed.ensures.ok (IsNet-both_ways _ c.self.invariant (subst HasRoom (sym c.self.view_is) c.requires.room))
+    rw c.in_ok-append_reversed.ensures.ok
+    (IsNet-both_ways _ c.self.invariant (subst HasRoom (sym c.self.view_is) c.requires.room))

@@ -1,5 +1,6 @@
 -- The value of a field, digit by digit from its front.
-use Rattle.std.proofs.Common.{◌≡◌, ◌<◌, ◌≤◌, ℕ, suc, ◌+◌, ◌-◌, ◌*◌, ◌^◌, ◌%◌, true, false, List, length, get_or, drop, refl, ◌∙◌, arith, add-one, drop-cons}
+use Rattle.std.proofs.Common.{◌≡◌, ◌<◌, ◌≤◌, ℕ, suc, ◌+◌, ◌-◌, ◌*◌, ◌^◌, ◌%◌, true, false, List, length, get_or, drop}
+use Rattle.std.proofs.Common.{refl, ◌∙◌, arith, add-one, drop-cons}
 use Rattle.std.specs.Char.{is_ascii_digit}
 use Rattle.std.specs.Str.{all_ascii_digits}
 use Rattle.std.proofs.lemmas.List.{drop_all}
@@ -20,21 +21,26 @@ Makes field i value = value_of field ≡ value * 10 ^ length (drop i field) + va
 pub Makes-start : (field : List ℕ) → Makes field 0 0
 Makes-start field = omega arith
 
-pub AreDigits-more : (field : List ℕ) (i : ℕ) → i < length field → is_ascii_digit (get_or field i 0) ≡ true → AreDigits field i → AreDigits field (i + 1)
+pub AreDigits-more : (field : List ℕ) (i : ℕ) → i < length field → is_ascii_digit (get_or field i 0) ≡ true
+    → AreDigits field i → AreDigits field (i + 1)
 AreDigits-more field i h digit so = so ∙ rw (drop-cons field i 0 h, digit, add-one) refl
 
-pub not_digits : (field : List ℕ) (i : ℕ) → i < length field → is_ascii_digit (get_or field i 0) ≡ false → AreDigits field i → all_ascii_digits field ≡ false
+pub not_digits : (field : List ℕ) (i : ℕ) → i < length field → is_ascii_digit (get_or field i 0) ≡ false
+    → AreDigits field i → all_ascii_digits field ≡ false
 not_digits field i h digit so = so ∙ rw (drop-cons field i 0 h, digit) refl
 
 step : (v d n w : ℕ) → v * 10 ^ suc n + (d * 10 ^ n + w) ≡ (v * 10 + d) * 10 ^ n + w
 step v d n w = rw (pow-suc 10 n) (grind arith)
 
-pub Makes-more : (field : List ℕ) (i value : ℕ) → i < length field → Makes field i value → Makes field (i + 1) (value * 10 + (get_or field i 0 - 48))
+pub Makes-more : (field : List ℕ) (i value : ℕ) → i < length field → Makes field i value
+    → Makes field (i + 1) (value * 10 + (get_or field i 0 - 48))
 unfolding value_of
 Makes-more field i value h so = so ∙ rw (drop-cons field i 0 h, add-one) (step value _ (length (drop (suc i) field)) _)
 
 pub Makes-le : (field : List ℕ) (i value : ℕ) → Makes field i value → value ≤ value_of field
-Makes-le field i value so = let one = one-le-pow (length (drop i field)) 10 (omega arith) in omega (arith, mul-le-mul_left value one)
+Makes-le field i value so =
+    let one = one-le-pow (length (drop i field)) 10 (omega arith) in
+    omega (arith, mul-le-mul_left value one)
 
 pub Makes-all : (field : List ℕ) (i value : ℕ) → length field ≤ i → Makes field i value → value_of field ≡ value
 unfolding value_of
@@ -43,10 +49,12 @@ Makes-all field i value h so = so ∙ rw (drop_all i field h) (omega arith)
 pub number_of-not : (field : List ℕ) (limit : ℕ) → all_ascii_digits field ≡ false → number_of field limit ≡ NotDigits
 number_of-not field limit h = grind (arith, common_steps)
 
-pub number_of-value : (field : List ℕ) (limit : ℕ) → 0 < length field → all_ascii_digits field ≡ true → value_of field ≤ limit → number_of field limit ≡ Value (value_of field)
+pub number_of-value : (field : List ℕ) (limit : ℕ) → 0 < length field → all_ascii_digits field ≡ true
+    → value_of field ≤ limit → number_of field limit ≡ Value (value_of field)
 number_of-value field limit some digits h = grind (arith, common_steps)
 
-pub number_of-above : (field : List ℕ) (limit : ℕ) → 0 < length field → all_ascii_digits field ≡ true → limit < value_of field → number_of field limit ≡ Above
+pub number_of-above : (field : List ℕ) (limit : ℕ) → 0 < length field → all_ascii_digits field ≡ true
+    → limit < value_of field → number_of field limit ≡ Above
 number_of-above field limit some digits h = grind (arith, common_steps)
 
 -- a digit more is ten times as much
@@ -54,7 +62,10 @@ pub fits-more : (i v d : ℕ) → d ≤ 9 → v < 10 ^ i → v * 10 + d < 10 ^ (
 fits-more i v d nine h = rw (add-one, pow-suc 10 i) (omega arith)
 
 pub fits-nineteen : (i v : ℕ) → i ≤ 19 → v < 10 ^ i → v < 10000000000000000000
-fits-nineteen i v h fits = let ten : 0 < 10 = omega arith in let le : 10 ^ i ≤ 10 ^ 19 = pow-le-pow_right ten h in omega arith
+fits-nineteen i v h fits =
+    let ten : 0 < 10 = omega arith in
+    let le : 10 ^ i ≤ 10 ^ 19 = pow-le-pow_right ten h in
+    omega arith
 
 pub AreDigits-all : (field : List ℕ) (i : ℕ) → length field ≤ i → AreDigits field i → all_ascii_digits field ≡ true
 AreDigits-all field i h so = so ∙ rw (drop_all i field h) refl
@@ -63,10 +74,12 @@ pub digit-le : (c : ℕ) → is_ascii_digit c ≡ true → c - 48 ≤ 9
 digit-le c h = grind (arith, common_steps)
 
 -- one digit more passes 128 bits, and so the whole does
-pub Makes-past : (field : List ℕ) (i value : ℕ) → i < length field → Makes field i value → 2 ^ 128 ≤ value * 10 + (get_or field i 0 - 48) → 2 ^ 128 ≤ value_of field
+pub Makes-past : (field : List ℕ) (i value : ℕ) → i < length field → Makes field i value
+    → 2 ^ 128 ≤ value * 10 + (get_or field i 0 - 48) → 2 ^ 128 ≤ value_of field
 Makes-past field i value h so past = let le = Makes-le field (i + 1) _ (Makes-more field i value h so) in omega arith
 
--- a byte from which that of the digit 0 is taken, in 64 bits that wrap: the digit's value, and above 9 for any other byte
+-- a byte from which that of the digit 0 is taken, in 64 bits that wrap: the digit's value, and above 9 for any other
+-- byte
 abbrev pub less_zero : ℕ → ℕ
 less_zero c = (c + 18446744073709551568) % 18446744073709551616
 

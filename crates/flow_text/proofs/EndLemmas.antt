@@ -1,8 +1,11 @@
 -- What a reader knows once the text has ended.
-use Rattle.std.proofs.Common.{◌≡◌, ◌<◌, ℕ, ◌+◌, true, false, List, [], ◌∷◌, ◌++◌, length, refl, ap, ◌∙◌, sym, arith, append-nil, length-append, Option, Some, None, Result, Ok, Err, nat_lt, rules as std_rules}
+use Rattle.std.proofs.Common.{◌≡◌, ◌<◌, ℕ, ◌+◌, true, false, List, [], ◌∷◌, ◌++◌, length, refl, ap, ◌∙◌, sym, arith}
+use Rattle.std.proofs.Common.{append-nil, length-append, Option, Some, None, Result, Ok, Err, nat_lt}
+use Rattle.std.proofs.Common.{rules as std_rules}
 use Rattle.flow_text.specs.Lines.{ended, rest, lines}
-use Rattle.flow_text.specs.Rules.{Rules, fault_of, told, is_comment, first_fault, whole_fault, accepted}
-use Rattle.flow_text.specs.Reading.{State, HasRead, Adds, with_line, EndsLine, Finals, TellsAt, Tells, AnswersAs, fault_from}
+use Rattle.flow_text.specs.Rules.{Rules, fault_of, is_comment, first_fault, whole_fault}
+use Rattle.flow_text.specs.Reading.{told, accepted, State, HasRead, Adds, with_line, EndsLine, Finals, TellsAt, Tells}
+use Rattle.flow_text.specs.Reading.{AnswersAs, fault_from}
 use Rattle.flow_text.specs.declared.faults.FaultCode.{FaultCode}
 use Rattle.flow_text.specs.declared.faults.ReadFault.{ReadFault}
 use Rattle.flow_text.specs.declared.faults.ReadFault.TheVariants.{Fault, OutOfMemory}
@@ -25,14 +28,18 @@ comment-some (c ∷ line) h = omega arith
 
 -- what is known once the last line has been judged
 abbrev pub IsFinal : {K : Type 0} → Rules K → (List (List ℕ) → K) → List ℕ → K → ℕ → Type 0
-IsFinal rules known_of b known count = (first_fault rules known_of [] (lines b) ≡ None) × (known ≡ known_of (lines b)) × (count ≡ told (length (lines b)))
+IsFinal rules known_of b known count =
+    (first_fault rules known_of [] (lines b) ≡ None) × (known ≡ known_of (lines b)) × (count ≡ told (length (lines b)))
 
-pub Finals-none : {K : Type 0} (rules : Rules K) (known_of : List (List ℕ) → K) (old : State K) (b : List ℕ) → HasRead rules known_of old b → length (rest b) ≡ 0
+pub Finals-none : {K : Type 0} (rules : Rules K) (known_of : List (List ℕ) → K) (old : State K) (b : List ℕ)
+    → HasRead rules known_of old b → length (rest b) ≡ 0
     → IsFinal rules known_of b old.known old.count
 Finals-none rules known_of old b r h = rw (lines-none b h) ((early-parts rules known_of b r.fine).0, r.knows, r.counts)
 
-pub Finals-line : {K : Type 0} (rules : Rules K) (known_of : List (List ℕ) → K) (with_record : K → List (List ℕ) → K) → Adds rules known_of with_record
-    → (old new : State K) (b : List ℕ) (r : Result (Unit {0}) Refusal) → HasRead rules known_of old b → 0 < length (rest b)
+pub Finals-line : {K : Type 0} (rules : Rules K) (known_of : List (List ℕ) → K) (with_record : K → List (List ℕ) → K)
+    → Adds rules known_of with_record
+    → (old new : State K) (b : List ℕ) (r : Result (Unit {0}) Refusal) → HasRead rules known_of old b
+    → 0 < length (rest b)
     → EndsLine rules with_record old [] (told (old.count + 1)) r new → Finals rules known_of b r new
 Finals-line rules known_of with_record adds old new b (Ok done) r some e =
     let j = judged rules known_of with_record old new b [] _ r e in
@@ -45,42 +52,56 @@ Finals-line rules known_of with_record adds old new b (Ok done) r some e =
     )
 Finals-line rules known_of with_record adds old new b (Err Memory) r some e = tt
 Finals-line rules known_of with_record adds old new b (Err (Code code)) r some e =
-    let is : fault_of rules (known_of (ended b)) (rest b ++ []) ≡ Some code = rw (← holds_plain rules known_of old b r e.plain, ← r.knows) e.tells in
+    let is : fault_of rules (known_of (ended b)) (rest b ++ []) ≡ Some code =
+    rw (← holds_plain rules known_of old b r e.plain, ← r.knows) e.tells in
     let is' : fault_of rules (known_of (ended b)) (rest b) ≡ Some code = rw (append-nil (rest b)) at is in
-    rw (lines-some b some) (first_fault-push rules known_of (ended b) (rest b) ∙ rw ((early-parts rules known_of b r.fine).0, is')
-    (ap (λ (n : ℕ). Some (n, code)) (sym (told-more (length (ended b))) ∙ ap (λ (n : ℕ). told (n + 1)) (sym (e.counts ∙ r.counts)))))
+    rw (lines-some b some)
+    (first_fault-push rules known_of (ended b) (rest b)
+    ∙ rw ((early-parts rules known_of b r.fine).0, is')
+    (ap (λ (n : ℕ). Some (n, code))
+    (sym (told-more (length (ended b))) ∙ ap (λ (n : ℕ). told (n + 1)) (sym (e.counts ∙ r.counts)))))
 
 -- an end that is reached
-pub closes-fine : {K : Type 0} (rules : Rules K) (known_of : List (List ℕ) → K) (b : List ℕ) (known : K) (count : ℕ) → IsFinal rules known_of b known count
+pub closes-fine : {K : Type 0} (rules : Rules K) (known_of : List (List ℕ) → K) (b : List ℕ) (known : K) (count : ℕ)
+    → IsFinal rules known_of b known count
     → None ≡ rules.end_fault known → whole_fault rules known_of b ≡ None
 unfolding whole_fault
-closes-fine rules known_of b known count c is = let end : rules.end_fault (known_of (lines b)) ≡ None = rw (← c.1) (sym is) in rw (c.0, end) refl
+closes-fine rules known_of b known count c is =
+    let end : rules.end_fault (known_of (lines b)) ≡ None = rw (← c.1) (sym is) in
+    rw (c.0, end) refl
 
-pub closes-end : {K : Type 0} (rules : Rules K) (known_of : List (List ℕ) → K) (b : List ℕ) (known : K) (count : ℕ) (code : FaultCode) → IsFinal rules known_of b known count
+pub closes-end : {K : Type 0} (rules : Rules K) (known_of : List (List ℕ) → K) (b : List ℕ) (known : K) (count : ℕ)
+    (code : FaultCode) → IsFinal rules known_of b known count
     → Some code ≡ rules.end_fault known → whole_fault rules known_of b ≡ Some (told (count + 1), code)
 unfolding whole_fault
 closes-end rules known_of b known count code c is =
     let end : rules.end_fault (known_of (lines b)) ≡ Some code = rw (← c.1) (sym is) in
-    rw (c.0, end) (ap (λ (n : ℕ). Some (n, code)) (sym (told-more (length (lines b))) ∙ ap (λ (n : ℕ). told (n + 1)) (sym c.2)))
+    rw (c.0, end)
+    (ap (λ (n : ℕ). Some (n, code)) (sym (told-more (length (lines b))) ∙ ap (λ (n : ℕ). told (n + 1)) (sym c.2)))
 
-pub closes-fault : {K : Type 0} (rules : Rules K) (known_of : List (List ℕ) → K) (b : List ℕ) (fault : ℕ × FaultCode) → first_fault rules known_of [] (lines b) ≡ Some fault
+pub closes-fault : {K : Type 0} (rules : Rules K) (known_of : List (List ℕ) → K) (b : List ℕ) (fault : ℕ × FaultCode)
+    → first_fault rules known_of [] (lines b) ≡ Some fault
     → whole_fault rules known_of b ≡ Some fault
 unfolding whole_fault
 closes-fault rules known_of b fault is = rw is refl
 
-pub Tells-from : (count : ℕ) (refusal : Refusal) (fault : Option (ℕ × FaultCode)) → TellsAt count refusal fault → Tells (fault_from count refusal) fault
+pub Tells-from : (count : ℕ) (refusal : Refusal) (fault : Option (ℕ × FaultCode)) → TellsAt count refusal fault
+    → Tells (fault_from count refusal) fault
 Tells-from count (Code code) fault h = h
 Tells-from count Memory fault h = tt
 
-pub closes-refused : {K : Type 0} (rules : Rules K) (known_of : List (List ℕ) → K) (b : List ℕ) (count : ℕ) (refusal : Refusal) → TellsAt count refusal (first_fault rules known_of [] (lines b))
+pub closes-refused : {K : Type 0} (rules : Rules K) (known_of : List (List ℕ) → K) (b : List ℕ) (count : ℕ)
+    (refusal : Refusal) → TellsAt count refusal (first_fault rules known_of [] (lines b))
     → Tells (fault_from count refusal) (whole_fault rules known_of b)
 closes-refused rules known_of b count (Code code) h = closes-fault rules known_of b _ h
 closes-refused rules known_of b count Memory h = tt
 
 -- what is answered where a text is accepted, and where it isn't
-pub accepted-fine : {A : Type 0} (said found : A) (fault : Option (ℕ × FaultCode)) → fault ≡ None → found ≡ said → accepted said fault ≡ Ok found
+pub accepted-fine : {A : Type 0} (said found : A) (fault : Option (ℕ × FaultCode)) → fault ≡ None → found ≡ said
+    → accepted said fault ≡ Ok found
 accepted-fine said found fault none is = rw none (ap (λ (x : _). let r : Result _ (ℕ × FaultCode) = Ok x in r) (sym is))
 
-pub accepted-fault : {A : Type 0} (said : A) (fault : Option (ℕ × FaultCode)) (told : ReadFault) → Tells told fault → AnswersAs (accepted said fault) (Err told)
+pub accepted-fault : {A : Type 0} (said : A) (fault : Option (ℕ × FaultCode)) (told : ReadFault) → Tells told fault
+    → AnswersAs (accepted said fault) (Err told)
 accepted-fault said fault (Fault line code) tells = rw tells refl
 accepted-fault said fault OutOfMemory tells = tt

@@ -1,10 +1,11 @@
 -- What a reader is after a line's end, or after more of a line.
-use Rattle.std.proofs.Common.{◌≡◌, ◌<◌, ◌≤◌, ℕ, ◌+◌, true, false, List, [], ◌∷◌, ◌++◌, length, refl, ap, ◌∙◌, sym, arith, inl, inr, length-append, Some, None, nat_lt, rules as std_rules}
+use Rattle.std.proofs.Common.{◌≡◌, ◌<◌, ◌≤◌, ℕ, ◌+◌, true, false, List, [], ◌∷◌, ◌++◌, length, refl, ap, ◌∙◌, sym}
+use Rattle.std.proofs.Common.{arith, inl, inr, length-append, Some, None, nat_lt, rules as std_rules}
 use Rattle.std.proofs.lemmas.Bool.{cases_Bool}
 use Rattle.flow_text.specs.Lines.{ended, rest}
 use Rattle.flow_text.specs.LineParts.{HasNoEnd}
-use Rattle.flow_text.specs.Rules.{Rules, fault_of, early_fault, at_line, told, is_comment, unended_fault}
-use Rattle.flow_text.specs.Reading.{State, HasRead, Adds, with_line, Ends, Fails, Holds, held_of, TellsAt}
+use Rattle.flow_text.specs.Rules.{Rules, fault_of, early_fault, at_line, is_comment, unended_fault}
+use Rattle.flow_text.specs.Reading.{told, State, HasRead, Adds, with_line, Ends, Fails, Holds, held_of, TellsAt}
 use Rattle.flow_text.specs.declared.faults.FaultCode.TheVariants.{LineTooLong}
 use Rattle.flow_text.specs.declared.machine.Refusal.{Refusal}
 use Rattle.flow_text.specs.declared.machine.Refusal.TheVariants.{Code, Memory}
@@ -26,16 +27,20 @@ held_of-plain : (line : List ℕ) → is_comment line ≡ false → held_of line
 held_of-plain line h = rw h refl
 
 -- what is held of a line that is no comment
-pub holds_plain : {K : Type 0} (rules : Rules K) (known_of : List (List ℕ) → K) (old : State K) (b : List ℕ) → HasRead rules known_of old b → old.comment ≡ false → old.held ≡ rest b
+pub holds_plain : {K : Type 0} (rules : Rules K) (known_of : List (List ℕ) → K) (old : State K) (b : List ℕ)
+    → HasRead rules known_of old b → old.comment ≡ false → old.held ≡ rest b
 holds_plain rules known_of old b r h = r.holds ∙ held_of-plain (rest b) (sym r.in_comment ∙ h)
 
 -- the line that has ended is judged, a comment too
-pub judged : {K : Type 0} (rules : Rules K) (known_of : List (List ℕ) → K) (with_record : K → List (List ℕ) → K) (old new : State K) (b tail : List ℕ) (count : ℕ)
+pub judged : {K : Type 0} (rules : Rules K) (known_of : List (List ℕ) → K) (with_record : K → List (List ℕ) → K)
+    (old new : State K) (b tail : List ℕ) (count : ℕ)
     → HasRead rules known_of old b → Ends rules with_record old tail count new
-    → (fault_of rules (known_of (ended b)) (rest b ++ tail) ≡ None) × (new.known ≡ with_line with_record (known_of (ended b)) (rest b ++ tail))
+    → (fault_of rules (known_of (ended b)) (rest b ++ tail) ≡ None)
+    × (new.known ≡ with_line with_record (known_of (ended b)) (rest b ++ tail))
 judged rules known_of with_record old new b tail count r e = elim (cases_Bool old.comment) [
   | inl yes' ↦
-      let of = of_comment rules with_record (known_of (ended b)) (rest b ++ tail) (comment-front (rest b) tail (sym r.in_comment ∙ yes')) in
+      let of = of_comment rules with_record (known_of (ended b)) (rest b ++ tail)
+      (comment-front (rest b) tail (sym r.in_comment ∙ yes')) in
       (of.0, e.skipped yes' ∙ r.knows ∙ of.1)
   | inr no' ↦
       let j = e.judged no' in
@@ -45,8 +50,10 @@ judged rules known_of with_record old new b tail count r e = elim (cases_Bool ol
 pub told-more : (n : ℕ) → told (told n + 1) ≡ told (n + 1)
 told-more n = omega arith
 
-pub HasRead-ends : {K : Type 0} (rules : Rules K) (known_of : List (List ℕ) → K) (with_record : K → List (List ℕ) → K) → Adds rules known_of with_record → (old new : State K) (b tail : List ℕ)
-    → HasNoEnd tail → HasRead rules known_of old b → Ends rules with_record old tail (told (old.count + 1)) new → HasRead rules known_of new (b ++ (tail ++ 10 ∷ []))
+pub HasRead-ends : {K : Type 0} (rules : Rules K) (known_of : List (List ℕ) → K) (with_record : K → List (List ℕ) → K)
+    → Adds rules known_of with_record → (old new : State K) (b tail : List ℕ)
+    → HasNoEnd tail → HasRead rules known_of old b → Ends rules with_record old tail (told (old.count + 1)) new
+    → HasRead rules known_of new (b ++ (tail ++ 10 ∷ []))
 HasRead-ends rules known_of with_record adds old new b tail none r e =
     let j = judged rules known_of with_record old new b tail _ r e in
     record {
@@ -59,13 +66,17 @@ HasRead-ends rules known_of with_record adds old new b tail none r e =
     }
 
 -- a line's fault stays, whatever follows
-pub Tells-ends : {K : Type 0} (rules : Rules K) (known_of : List (List ℕ) → K) (old new : State K) (b tail more : List ℕ) (refusal : Refusal) → HasNoEnd tail → HasRead rules known_of old b
+pub Tells-ends : {K : Type 0} (rules : Rules K) (known_of : List (List ℕ) → K) (old new : State K)
+    (b tail more : List ℕ) (refusal : Refusal) → HasNoEnd tail → HasRead rules known_of old b
     → Fails rules old tail refusal new
     → TellsAt new.count refusal (early_fault rules known_of ((b ++ (tail ++ 10 ∷ [])) ++ more))
 Tells-ends rules known_of old new b tail more Memory none r h = tt
 Tells-ends rules known_of old new b tail more (Code code) none r h =
-    let is : fault_of rules (known_of (ended b)) (rest b ++ tail) ≡ Some code = rw (← holds_plain rules known_of old b r h.plain, ← r.knows) h.tells in
-    early-fault rules known_of b tail more code none r.fine is ∙ ap (λ (n : ℕ). Some (n, code)) (sym (told-more (length (ended b))) ∙ ap (λ (n : ℕ). told (n + 1)) (sym (h.counts ∙ r.counts)))
+    let is : fault_of rules (known_of (ended b)) (rest b ++ tail) ≡ Some code =
+    rw (← holds_plain rules known_of old b r h.plain, ← r.knows) h.tells in
+    early-fault rules known_of b tail more code none r.fine is
+    ∙ ap (λ (n : ℕ). Some (n, code))
+    (sym (told-more (length (ended b))) ∙ ap (λ (n : ℕ). told (n + 1)) (sym (h.counts ∙ r.counts)))
 
 within_limit : (line : List ℕ) (k : ℕ) → length (held_of line) ≤ LONGEST_LINE → at_line k (unended_fault line) ≡ None
 within_limit line k short = elim (cases_Bool (is_comment line)) [
@@ -77,7 +88,8 @@ within_limit line k short = elim (cases_Bool (is_comment line)) [
 ]
 
 -- what is held of the line as far as it has come
-after : {K : Type 0} (rules : Rules K) (known_of : List (List ℕ) → K) (old new : State K) (b tail : List ℕ) → HasRead rules known_of old b → Holds old tail new
+after : {K : Type 0} (rules : Rules K) (known_of : List (List ℕ) → K) (old new : State K) (b tail : List ℕ)
+    → HasRead rules known_of old b → Holds old tail new
     → (new.comment ≡ is_comment (rest b ++ tail)) × (new.held ≡ held_of (rest b ++ tail))
 after rules known_of old new b tail r e = elim (cases_Bool old.comment) [
   | inl yes' ↦
@@ -87,24 +99,34 @@ after rules known_of old new b tail r e = elim (cases_Bool old.comment) [
   | inr no' ↦ rw (← holds_plain rules known_of old b r no') (e.in_comment no', e.holds no')
 ]
 
-pub HasRead-holds : {K : Type 0} (rules : Rules K) (known_of : List (List ℕ) → K) (old new : State K) (b tail : List ℕ) → HasNoEnd tail → HasRead rules known_of old b → Holds old tail new
+pub HasRead-holds : {K : Type 0} (rules : Rules K) (known_of : List (List ℕ) → K) (old new : State K) (b tail : List ℕ)
+    → HasNoEnd tail → HasRead rules known_of old b → Holds old tail new
     → HasRead rules known_of new (b ++ tail)
 HasRead-holds rules known_of old new b tail none r e =
-    let is_held : (new.comment ≡ is_comment (rest b ++ tail)) × (new.held ≡ held_of (rest b ++ tail)) = after rules known_of old new b tail r e in
+    let is_held : (new.comment ≡ is_comment (rest b ++ tail)) × (new.held ≡ held_of (rest b ++ tail)) =
+    after rules known_of old new b tail r e in
     record {
       going = e.going ∙ r.going;
       counts = e.counts ∙ r.counts ∙ rw (ended_within b tail none) refl;
       knows = e.knows ∙ r.knows ∙ rw (ended_within b tail none) refl;
       in_comment = is_held.0 ∙ rw (rest_within b tail none) refl;
       holds = is_held.1 ∙ rw (rest_within b tail none) refl;
-      fine = early-within rules known_of b tail none r.fine ∙ within_limit (rest b ++ tail) _ (rw (is_held.1) at e.short);
+      fine =
+          early-within rules known_of b tail none r.fine ∙ within_limit (rest b ++ tail) _ (rw (is_held.1) at e.short);
     }
 
-pub Tells-holds : {K : Type 0} (rules : Rules K) (known_of : List (List ℕ) → K) (old new : State K) (b tail : List ℕ) (refusal : Refusal) → HasNoEnd tail → HasRead rules known_of old b
-    → (old.comment ≡ false) × (new.count ≡ old.count) × (is_comment (old.held ++ tail) ≡ false) × (LONGEST_LINE < length (old.held ++ tail)) × (refusal ≡ Code LineTooLong)
+pub Tells-holds : {K : Type 0} (rules : Rules K) (known_of : List (List ℕ) → K) (old new : State K) (b tail : List ℕ)
+    (refusal : Refusal) → HasNoEnd tail → HasRead rules known_of old b
+    → (old.comment ≡ false)
+    × (new.count ≡ old.count)
+    × (is_comment (old.held ++ tail) ≡ false)
+    × (LONGEST_LINE < length (old.held ++ tail))
+    × (refusal ≡ Code LineTooLong)
     → TellsAt new.count refusal (early_fault rules known_of (b ++ tail))
 Tells-holds rules known_of old new b tail refusal none r h =
     let plain : is_comment (rest b ++ tail) ≡ false = rw (← holds_plain rules known_of old b r h.0) h.2 in
     let len : LONGEST_LINE < length (rest b ++ tail) = rw (← holds_plain rules known_of old b r h.0) h.3 in
     let long : nat_lt LONGEST_LINE (length (rest b ++ tail)) ≡ true = search (std_rules, arith) in
-    rw (h.4, early-within rules known_of b tail none r.fine, plain, long) (ap (λ (n : ℕ). Some (n, LineTooLong)) (sym (told-more (length (ended b))) ∙ ap (λ (n : ℕ). told (n + 1)) (sym (h.1 ∙ r.counts))))
+    rw (h.4, early-within rules known_of b tail none r.fine, plain, long)
+    (ap (λ (n : ℕ). Some (n, LineTooLong))
+    (sym (told-more (length (ended b))) ∙ ap (λ (n : ℕ). told (n + 1)) (sym (h.1 ∙ r.counts))))

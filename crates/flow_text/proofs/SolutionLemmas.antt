@@ -1,14 +1,16 @@
 -- The fault of a solution's line and what it adds, by its fields.
-use Rattle.std.proofs.Common.{◌≡◌, ℕ, Bool, true, false, cond, not, ◌&&◌, ◌||◌, List, [], ◌∷◌, ◌++◌, length, take, refl, ap, ◌∙◌, sym, ◌<◌, arith, Some, None, nat_lt, nat_le, is_some, rules as std_rules}
+use Rattle.std.proofs.Common.{◌≡◌, ℕ, Bool, true, false, cond, not, ◌&&◌, ◌||◌, List, [], ◌∷◌, ◌++◌, length, take, refl}
+use Rattle.std.proofs.Common.{ap, ◌∙◌, sym, ◌<◌, arith, Some, None, nat_lt, nat_le, is_some, rules as std_rules}
 use Rattle.std.proofs.lemmas.Grind.{common_steps}
 use Rattle.std.specs.Str.{bytes_eq}
 use Rattle.std.specs.Prelude.{codes}
 use Rattle.flow_text.specs.Fields.{fields_of}
 use Rattle.flow_text.specs.Tests.{first_failed}
 use Rattle.flow_text.specs.Rules.{is_comment, names, is_kind, fault_of}
-use Rattle.flow_text.specs.Solution.{Stated, stated_of, solution_record_fault, solution_rules, solution_tests, flow_tests, given_of, flow_of}
+use Rattle.flow_text.specs.Solution.{Stated, stated_of, solution_record_fault, solution_rules, solution_tests}
+use Rattle.flow_text.specs.Solution.{flow_tests}
+use Rattle.flow_text.specs.SolutionReading.{given_of, flow_of, with_solution_record, IsLineWithin}
 use Rattle.flow_text.specs.Reading.{with_line, Adds}
-use Rattle.flow_text.specs.SolutionReading.{with_solution_record, IsLineWithin}
 use Rattle.flow_text.specs.declared.solutions.FlowLine.{FlowLine}
 use Rattle.flow_text.specs.declared.faults.FaultCode.TheVariants.{UnknownLine, FlowOutOfRange}
 use Rattle.flow_text.specs.UsualLines.{IsUsual}
@@ -23,22 +25,27 @@ s_not_f [] is = refl
 s_not_f (c ∷ cs) is = grind (arith, common_steps)
 
 pub of_solution : (k : Stated) (kind : List ℕ) (others : List (List ℕ)) → bytes_eq kind (codes "s") ≡ true
-    → (solution_record_fault k (kind ∷ others) ≡ first_failed (solution_tests k (kind ∷ others))) × (with_solution_record k (kind ∷ others) ≡ record k { value = Some (given_of (kind ∷ others)) })
+    → (solution_record_fault k (kind ∷ others) ≡ first_failed (solution_tests k (kind ∷ others)))
+    × (with_solution_record k (kind ∷ others) ≡ record k { value = Some (given_of (kind ∷ others)) })
 unfolding solution_record_fault with_solution_record
 of_solution k kind others is = (simp is, simp (is, s_not_f kind is))
 
-pub of_flow : (k : Stated) (kind : List ℕ) (others : List (List ℕ)) → bytes_eq kind (codes "s") ≡ false → bytes_eq kind (codes "f") ≡ true
-    → (solution_record_fault k (kind ∷ others) ≡ first_failed (flow_tests k (kind ∷ others))) × (with_solution_record k (kind ∷ others) ≡ record k { lines = k.lines ++ flow_of (kind ∷ others) ∷ [] })
+pub of_flow : (k : Stated) (kind : List ℕ) (others : List (List ℕ)) → bytes_eq kind (codes "s") ≡ false
+    → bytes_eq kind (codes "f") ≡ true
+    → (solution_record_fault k (kind ∷ others) ≡ first_failed (flow_tests k (kind ∷ others)))
+    × (with_solution_record k (kind ∷ others) ≡ record k { lines = k.lines ++ flow_of (kind ∷ others) ∷ [] })
 unfolding solution_record_fault with_solution_record
 of_flow k kind others s is = (simp (s, is), simp (s, is))
 
-pub of_unknown : (k : Stated) (kind : List ℕ) (others : List (List ℕ)) → bytes_eq kind (codes "s") ≡ false → bytes_eq kind (codes "f") ≡ false
+pub of_unknown : (k : Stated) (kind : List ℕ) (others : List (List ℕ)) → bytes_eq kind (codes "s") ≡ false
+    → bytes_eq kind (codes "f") ≡ false
     → solution_record_fault k (kind ∷ others) ≡ Some UnknownLine
 unfolding solution_record_fault
 of_unknown k kind others s f = simp (s, f)
 
 -- a second solution line has a fault
-no_value : (k : Stated) (line : List ℕ) → is_kind (codes "s") line ≡ true → fault_of solution_rules k line ≡ None → k.value ≡ None
+no_value : (k : Stated) (line : List ℕ) → is_kind (codes "s") line ≡ true → fault_of solution_rules k line ≡ None
+    → k.value ≡ None
 unfolding fault_of solution_record_fault
 no_value k line is fine =
     let parts = both (is_comment line) (names (codes "s") (fields_of line)) is in
@@ -61,23 +68,32 @@ pub Adds-solution : (nodes : ℕ) → Adds solution_rules (stated_of nodes) with
 unfolding stated_of with_line
 Adds-solution nodes = λ before line fine.
     rw (
-      first-push (λ (l : List ℕ). given_of (fields_of l)) (is_kind (codes "s")) before line (λ is. no_value (stated_of nodes before) line is fine),
+      first-push (λ (l : List ℕ). given_of (fields_of l)) (is_kind (codes "s")) before line
+          (λ is. no_value (stated_of nodes before) line is fine),
       list-push (λ (l : List ℕ). flow_of (fields_of l)) (is_kind (codes "f")) before line,
     )
     (by_kind (is_comment line) (fields_of line) (stated_of nodes before))
 
 -- a flow line of the usual form, with no fault
-pub of_usual : (old : Stated) (text : List ℕ) (flow : FlowLine) (at : ℕ) → IsUsual 102 text flow.src flow.dst flow.flow at → is_some old.value ≡ true → length old.lines < MOST_FLOW_LINES → IsLineWithin old.nodes flow
+pub of_usual : (old : Stated) (text : List ℕ) (flow : FlowLine) (at : ℕ)
+    → IsUsual 102 text flow.src flow.dst flow.flow at → is_some old.value ≡ true → length old.lines < MOST_FLOW_LINES
+    → IsLineWithin old.nodes flow
     → (fault_of solution_rules old (take at text) ≡ None)
     × (record old { lines = old.lines ++ flow ∷ [] } ≡ with_line with_solution_record old (take at text))
 of_usual old text flow at u some room within =
     let fields = u.src_field ∷ u.dst_field ∷ u.number_field ∷ [] in
-    let of = of_fields solution_rules with_solution_record old (take at text) (102 ∷ []) fields u.plain u.short u.fields in
+    let of = of_fields solution_rules with_solution_record old (take at text) (102 ∷ []) fields u.plain u.short
+    u.fields in
     let as_flow = of_flow old (102 ∷ []) fields refl refl in
     let is : flow_of ((102 ∷ []) ∷ fields) ≡ flow = rw (u.src_value, u.dst_value, u.number_value) refl in
     let few : nat_le MOST_FLOW_LINES (length old.lines) ≡ false = search (std_rules, arith) in
     let fits = within.flow_fits in
     let passes : first_failed (flow_tests old ((102 ∷ []) ∷ fields)) ≡ None =
-    rw (some, few) (ends-pass old.nodes FlowOutOfRange (102 ∷ []) u.src_field u.dst_field u.number_field
-    u.src_digits (rw u.src_value (within.src_least, within.src_most)) u.dst_digits (rw u.dst_value (within.dst_least, within.dst_most)) u.number_digits (rw u.number_value (omega arith))) in
-    (of.0 ∙ as_flow.0 ∙ passes, sym (of.1 ∙ as_flow.1 ∙ ap (λ (f : FlowLine). let stated : Stated = record old { lines = old.lines ++ f ∷ [] } in stated) is))
+    rw (some, few)
+    (ends-pass old.nodes FlowOutOfRange (102 ∷ []) u.src_field u.dst_field u.number_field u.src_digits
+    (rw u.src_value (within.src_least, within.src_most)) u.dst_digits
+    (rw u.dst_value (within.dst_least, within.dst_most)) u.number_digits (rw u.number_value (omega arith))) in (
+      of.0 ∙ as_flow.0 ∙ passes,
+      sym (of.1 ∙ as_flow.1
+          ∙ ap (λ (f : FlowLine). let stated : Stated = record old { lines = old.lines ++ f ∷ [] } in stated) is),
+    )

@@ -1,16 +1,19 @@
 -- What a line of the usual form says.
-use Rattle.std.proofs.Common.{◌≡◌, ◌<◌, ◌≤◌, ℕ, suc, ◌+◌, ◌-◌, ◌*◌, ◌^◌, Bool, true, false, ◌&&◌, List, [], ◌∷◌, ◌++◌, length, get_or, take, drop, refl, ap, ◌∙◌, sym, subst, arith, add-one, drop-cons, append_assoc, length-append, Some, None, nat_lt, rules as std_rules}
+use Rattle.std.proofs.Common.{◌≡◌, ◌<◌, ◌≤◌, ℕ, suc, ◌+◌, ◌-◌, ◌*◌, ◌^◌, Bool, true, false, ◌&&◌, List, [], ◌∷◌, ◌++◌}
+use Rattle.std.proofs.Common.{length, get_or, take, drop, refl, ap, ◌∙◌, sym, subst, arith, add-one, drop-cons}
+use Rattle.std.proofs.Common.{append_assoc, length-append, Some, None, nat_lt, rules as std_rules}
 use Rattle.std.specs.List.{All}
 use Rattle.std.specs.Char.{is_ascii_digit}
 use Rattle.std.specs.Str.{all_ascii_digits}
 use Rattle.std.proofs.lemmas.Grind.{common_steps}
 use Rattle.std.proofs.lemmas.Bool.{true≢false}
-use Rattle.std.proofs.lemmas.List.{take-append-drop, drop-drop, get_or-drop, length-drop, length-take-le, take_more, get_or_append_left}
+use Rattle.std.proofs.lemmas.List.{take-append-drop, drop-drop, get_or-drop, length-drop, length-take-le, take_more}
+use Rattle.std.proofs.lemmas.List.{get_or_append_left}
 use Rattle.std.proofs.lemmas.List.Elements.{All-cons, All-append, All-get_or}
 use Rattle.std.proofs.Math.Nat.{pow-suc}
 use Rattle.std.proofs.Math.Seq.{take-append_seam, get_or-append_seam}
 use Rattle.memchr.specs.Find.{IsFirstByte, is_byte}
-use Rattle.flow_text.specs.Lines.{is_end}
+use Rattle.flow_text.specs.LineParts.{is_end}
 use Rattle.flow_text.specs.Fields.{fields_of, is_blank}
 use Rattle.flow_text.specs.Digits.{value_of, is_number}
 use Rattle.flow_text.specs.Rules.{is_comment}
@@ -35,16 +38,22 @@ and-parts : (a b : Bool) → (a && b) ≡ true → (a ≡ true) × (b ≡ true)
 and-parts true b h = (refl, h)
 and-parts false b h = cc
 
-pub digits-push : (xs : List ℕ) (c : ℕ) → all_ascii_digits xs ≡ true → is_ascii_digit c ≡ true → all_ascii_digits (xs ++ c ∷ []) ≡ true
+pub digits-push : (xs : List ℕ) (c : ℕ) → all_ascii_digits xs ≡ true → is_ascii_digit c ≡ true
+    → all_ascii_digits (xs ++ c ∷ []) ≡ true
 digits-push [] c h digit = rw digit refl
-digits-push (x ∷ xs) c h digit = let parts = and-parts (is_ascii_digit x) (all_ascii_digits xs) h in rw (parts.0) (digits-push xs c parts.1 digit)
+digits-push (x ∷ xs) c h digit =
+    let parts = and-parts (is_ascii_digit x) (all_ascii_digits xs) h in
+    rw (parts.0) (digits-push xs c parts.1 digit)
 
 -- one digit more
-pub IsLeading-more : (text : List ℕ) (value i : ℕ) → i < length text → is_ascii_digit (get_or text i 0) ≡ true → get_or text i 0 - 48 ≤ 9 → IsLeading text value i
+pub IsLeading-more : (text : List ℕ) (value i : ℕ) → i < length text → is_ascii_digit (get_or text i 0) ≡ true
+    → get_or text i 0 - 48 ≤ 9 → IsLeading text value i
     → IsLeading text (value * 10 + (get_or text i 0 - 48)) (i + 1)
 IsLeading-more text value i inside digit nine so = record {
   digits = rw (take_more text i 0 inside) (digits-push (take i text) (get_or text i 0) so.digits digit);
-  value_is = rw (take_more text i 0 inside) (ap (λ v. v * 10 + (get_or text i 0 - 48)) so.value_is ∙ sym (value_of-push (take i text) (get_or text i 0)));
+  value_is =
+      rw (take_more text i 0 inside)
+      (ap (λ v. v * 10 + (get_or text i 0 - 48)) so.value_is ∙ sym (value_of-push (take i text) (get_or text i 0)));
   fits = let f = so.fits in rw (add-one, pow-suc 10 i) (omega arith);
 }
 
@@ -53,9 +62,12 @@ unfolding value_of
 IsLeading-none text = record { digits = refl; value_is = refl; fits = omega arith }
 
 -- digits are no blanks, and they end no line
-All-digits : (P : ℕ → Type 0) → ((c : ℕ) → is_ascii_digit c ≡ true → P c) → (xs : List ℕ) → all_ascii_digits xs ≡ true → All P xs
+All-digits : (P : ℕ → Type 0) → ((c : ℕ) → is_ascii_digit c ≡ true → P c) → (xs : List ℕ) → all_ascii_digits xs ≡ true
+    → All P xs
 All-digits P each [] h = search std_rules
-All-digits P each (x ∷ xs) h = let parts = and-parts (is_ascii_digit x) (all_ascii_digits xs) h in All-cons P x xs (each x parts.0) (All-digits P each xs parts.1)
+All-digits P each (x ∷ xs) h =
+    let parts = and-parts (is_ascii_digit x) (all_ascii_digits xs) h in
+    All-cons P x xs (each x parts.0) (All-digits P each xs parts.1)
 
 solid : (c : ℕ) → is_ascii_digit c ≡ true → is_blank c ≡ false
 solid c h = grind (arith, common_steps)
@@ -67,22 +79,27 @@ number-of : (field : List ℕ) → 0 < length field → all_ascii_digits field �
 number-of field some digits = grind (arith, common_steps)
 
 -- a text that begins with a number and a byte
-pub split-number : (text : List ℕ) (end value count : ℕ) → IsNumberUntil text end value count → text ≡ take count text ++ end ∷ drop (count + 1) text
+pub split-number : (text : List ℕ) (end value count : ℕ) → IsNumberUntil text end value count
+    → text ≡ take count text ++ end ∷ drop (count + 1) text
 split-number text end value count n =
-    sym (take-append-drop count text) ∙ ap (λ more. take count text ++ more)
-    (drop-cons text count 0 n.within ∙ ap (λ c. c ∷ drop (suc count) text) n.ends ∙ ap (λ k. end ∷ drop k text) (sym (add-one count)))
+    sym (take-append-drop count text)
+    ∙ ap (λ more. take count text ++ more)
+    (drop-cons text count 0 n.within ∙ ap (λ c. c ∷ drop (suc count) text) n.ends
+    ∙ ap (λ k. end ∷ drop k text) (sym (add-one count)))
 
 -- the fields of a line of the usual form
 usual : ℕ → List ℕ → List ℕ → List ℕ → List ℕ
 usual letter src dst number = letter ∷ 32 ∷ (src ++ 32 ∷ (dst ++ 32 ∷ number))
 
 fields-usual : (letter : ℕ) (src dst number : List ℕ) → is_blank letter ≡ false
-    → (0 < length src) × (all_ascii_digits src ≡ true) → (0 < length dst) × (all_ascii_digits dst ≡ true) → (0 < length number) × (all_ascii_digits number ≡ true)
+    → (0 < length src) × (all_ascii_digits src ≡ true) → (0 < length dst) × (all_ascii_digits dst ≡ true)
+    → (0 < length number) × (all_ascii_digits number ≡ true)
     → fields_of (usual letter src dst number) ≡ (letter ∷ []) ∷ src ∷ dst ∷ number ∷ []
 unfolding usual
 fields-usual letter src dst number plain s d n =
     let P : ℕ → Type 0 = λ c. is_blank c ≡ false in
-    fields_of-field (letter ∷ []) 32 (src ++ 32 ∷ (dst ++ 32 ∷ number)) (omega arith) (All-cons P letter [] plain (search std_rules)) refl
+    fields_of-field (letter ∷ []) 32 (src ++ 32 ∷ (dst ++ 32 ∷ number)) (omega arith)
+    (All-cons P letter [] plain (search std_rules)) refl
     ∙ ap (λ fs. (letter ∷ []) ∷ fs) (fields_of-blank 32 (src ++ 32 ∷ (dst ++ 32 ∷ number)) refl
     ∙ fields_of-field src 32 (dst ++ 32 ∷ number) s.0 (All-digits P solid src s.1) refl
     ∙ ap (λ fs. src ∷ fs) (fields_of-blank 32 (dst ++ 32 ∷ number) refl
@@ -90,53 +107,70 @@ fields-usual letter src dst number plain s d n =
     ∙ ap (λ fs. dst ∷ fs) (fields_of-blank 32 number refl ∙ fields_of-last number n.0 (All-digits P solid number n.1))))
 
 -- a line of the usual form, and its byte 10
-inside-usual : (letter : ℕ) (src dst number : List ℕ) → is_end letter ≡ false → all_ascii_digits src ≡ true → all_ascii_digits dst ≡ true → all_ascii_digits number ≡ true
+inside-usual : (letter : ℕ) (src dst number : List ℕ) → is_end letter ≡ false → all_ascii_digits src ≡ true
+    → all_ascii_digits dst ≡ true → all_ascii_digits number ≡ true
     → All (λ c. is_end c ≡ false) (usual letter src dst number)
 unfolding usual
 inside-usual letter src dst number end s d n =
     let P : ℕ → Type 0 = λ c. is_end c ≡ false in
-    let last = All-append P dst (32 ∷ number) (All-digits P inner dst d) (All-cons P 32 number refl (All-digits P inner number n)) in
-    All-cons P letter (32 ∷ (src ++ 32 ∷ (dst ++ 32 ∷ number))) end (All-cons P 32 (src ++ 32 ∷ (dst ++ 32 ∷ number)) refl
-    (All-append P src (32 ∷ (dst ++ 32 ∷ number)) (All-digits P inner src s) (All-cons P 32 (dst ++ 32 ∷ number) refl last)))
+    let last = All-append P dst (32 ∷ number) (All-digits P inner dst d)
+    (All-cons P 32 number refl (All-digits P inner number n)) in
+    All-cons P letter (32 ∷ (src ++ 32 ∷ (dst ++ 32 ∷ number))) end
+    (All-cons P 32 (src ++ 32 ∷ (dst ++ 32 ∷ number)) refl
+    (All-append P src (32 ∷ (dst ++ 32 ∷ number)) (All-digits P inner src s)
+    (All-cons P 32 (dst ++ 32 ∷ number) refl last)))
 
-first-end : (line more : List ℕ) → All (λ c. is_end c ≡ false) line → IsFirstByte (is_byte 10) (line ++ 10 ∷ more) (Some (length line))
+first-end : (line more : List ℕ) → All (λ c. is_end c ≡ false) line
+    → IsFirstByte (is_byte 10) (line ++ 10 ∷ more) (Some (length line))
 first-end line more none = (
   record {
     low = omega arith;
     high = omega (arith, length-append line (10 ∷ more));
-    before = λ k low high is. true≢false (sym (rw (get_or_append_left line (10 ∷ more) 0 k high) at is) ∙ All-get_or (λ c. is_end c ≡ false) line k 0 high none);
+    before = λ k low high is.
+        true≢false (sym (rw (get_or_append_left line (10 ∷ more) 0 k high) at is)
+        ∙ All-get_or (λ c. is_end c ≡ false) line k 0 high none);
   },
   rw (get_or-append_seam line 10 more 0) refl,
 )
 
-text-usual : (letter : ℕ) (text src dst number more : List ℕ) → text ≡ letter ∷ 32 ∷ (src ++ 32 ∷ (dst ++ 32 ∷ (number ++ 10 ∷ more))) → text ≡ usual letter src dst number ++ 10 ∷ more
+text-usual : (letter : ℕ) (text src dst number more : List ℕ)
+    → text ≡ letter ∷ 32 ∷ (src ++ 32 ∷ (dst ++ 32 ∷ (number ++ 10 ∷ more)))
+    → text ≡ usual letter src dst number ++ 10 ∷ more
 unfolding usual
 text-usual letter text src dst number more is =
     is ∙ ap (λ rest. letter ∷ 32 ∷ rest) (
     ap (λ rest. src ++ 32 ∷ rest) (sym (append_assoc dst (32 ∷ number) (10 ∷ more)))
     ∙ sym (append_assoc src (32 ∷ (dst ++ 32 ∷ number)) (10 ∷ more)))
 
-length-usual : (letter : ℕ) (src dst number : List ℕ) → length (usual letter src dst number) ≡ length src + length dst + length number + 4
+length-usual : (letter : ℕ) (src dst number : List ℕ)
+    → length (usual letter src dst number) ≡ length src + length dst + length number + 4
 unfolding usual
-length-usual letter src dst number = omega (arith, length-append src (32 ∷ (dst ++ 32 ∷ number)), length-append dst (32 ∷ number))
+length-usual letter src dst number =
+    omega (arith, length-append src (32 ∷ (dst ++ 32 ∷ number)), length-append dst (32 ∷ number))
 
-comment-usual : (letter : ℕ) (src dst number : List ℕ) → is_comment (letter ∷ []) ≡ false → is_comment (usual letter src dst number) ≡ false
+comment-usual : (letter : ℕ) (src dst number : List ℕ) → is_comment (letter ∷ []) ≡ false
+    → is_comment (usual letter src dst number) ≡ false
 unfolding usual
 comment-usual letter src dst number h = h
 
 -- three numbers behind the letter
-pub IsUsual-from : (letter : ℕ) (text : List ℕ) (src dst number first second third : ℕ) → IsLetter letter → 2 ≤ length text → get_or text 0 0 ≡ letter → get_or text 1 0 ≡ 32
-    → IsNumberUntil (drop 2 text) 32 src first → IsNumberUntil (drop (first + 3) text) 32 dst second → IsNumberUntil (drop (first + second + 4) text) 10 number third
+pub IsUsual-from : (letter : ℕ) (text : List ℕ) (src dst number first second third : ℕ) → IsLetter letter
+    → 2 ≤ length text → get_or text 0 0 ≡ letter → get_or text 1 0 ≡ 32
+    → IsNumberUntil (drop 2 text) 32 src first → IsNumberUntil (drop (first + 3) text) 32 dst second
+    → IsNumberUntil (drop (first + second + 4) text) 10 number third
     → IsUsual letter text src dst number (first + second + third + 4)
 IsUsual-from letter text src dst number first second third l long is_letter is_blank' a b c =
     let s = take first (drop 2 text) in
     let d = take second (drop (first + 3) text) in
     let n = take third (drop (first + second + 4) text) in
     let more = drop (third + 1) (drop (first + second + 4) text) in
-    let a_end : drop (first + 1) (drop 2 text) ≡ drop (first + 3) text = drop-drop (first + 1) 2 text ∙ ap (λ k. drop k text) (omega arith) in
-    let b_end : drop (second + 1) (drop (first + 3) text) ≡ drop (first + second + 4) text = drop-drop (second + 1) (first + 3) text ∙ ap (λ k. drop k text) (omega arith) in
+    let a_end : drop (first + 1) (drop 2 text) ≡ drop (first + 3) text =
+    drop-drop (first + 1) 2 text ∙ ap (λ k. drop k text) (omega arith) in
+    let b_end : drop (second + 1) (drop (first + 3) text) ≡ drop (first + second + 4) text =
+    drop-drop (second + 1) (first + 3) text ∙ ap (λ k. drop k text) (omega arith) in
     let front : text ≡ letter ∷ 32 ∷ drop 2 text =
-    drop-cons text 0 0 (omega arith) ∙ ap (λ x. x ∷ drop 1 text) is_letter ∙ ap (λ rest. letter ∷ rest) (drop-cons text 1 0 (omega arith) ∙ ap (λ x. x ∷ drop 2 text) is_blank') in
+    drop-cons text 0 0 (omega arith) ∙ ap (λ x. x ∷ drop 1 text) is_letter
+    ∙ ap (λ rest. letter ∷ rest) (drop-cons text 1 0 (omega arith) ∙ ap (λ x. x ∷ drop 2 text) is_blank') in
     let whole : text ≡ letter ∷ 32 ∷ (s ++ 32 ∷ (d ++ 32 ∷ (n ++ 10 ∷ more))) =
     front ∙ ap (λ rest. letter ∷ 32 ∷ rest) (split-number (drop 2 text) 32 src first a
     ∙ ap (λ rest. s ++ 32 ∷ rest) (a_end ∙ split-number (drop (first + 3) text) 32 dst second b
@@ -147,18 +181,24 @@ IsUsual-from letter text src dst number first second third l long is_letter is_b
     let b_len = length-take-le second (drop (first + 3) text) (omega (arith, b.within)) in
     let c_len = length-take-le third (drop (first + second + 4) text) (omega (arith, c.within)) in
     let len : length line ≡ first + second + third + 4 = length-usual letter s d n ∙ omega arith in
-    let taken : take (first + second + third + 4) text ≡ line = ap (λ k. take k text) (sym len) ∙ ap (take (length line)) is ∙ take-append_seam line (10 ∷ more) in
+    let taken : take (first + second + third + 4) text ≡ line =
+    ap (λ k. take k text) (sym len) ∙ ap (take (length line)) is ∙ take-append_seam line (10 ∷ more) in
     let a_some = a.some in let b_some = b.some in let c_some = c.some in
     let a_short = a.short in let b_short = b.short in let c_short = c.short in
     record {
-      first = subst (λ k. IsFirstByte (is_byte 10) text (Some k)) len (subst (λ t. IsFirstByte (is_byte 10) t (Some (length line))) (sym is)
-          (first-end line more (inside-usual letter s d n l.inner a.leading.digits b.leading.digits c.leading.digits)));
+      first =
+          subst (λ k. IsFirstByte (is_byte 10) text (Some k)) len
+          (subst (λ t. IsFirstByte (is_byte 10) t (Some (length line))) (sym is)
+          (first-end line more
+          (inside-usual letter s d n l.inner a.leading.digits b.leading.digits c.leading.digits)));
       short = rw (taken, len) (omega arith);
       plain = rw taken (comment-usual letter s d n l.plain);
       src_field = s;
       dst_field = d;
       number_field = n;
-      fields = rw taken (fields-usual letter s d n l.solid (omega arith, a.leading.digits) (omega arith, b.leading.digits) (omega arith, c.leading.digits));
+      fields =
+          rw taken (fields-usual letter s d n l.solid (omega arith, a.leading.digits) (omega arith, b.leading.digits)
+          (omega arith, c.leading.digits));
       src_digits = number-of s (omega arith) a.leading.digits;
       src_value = sym a.leading.value_is;
       dst_digits = number-of d (omega arith) b.leading.digits;
@@ -168,24 +208,30 @@ IsUsual-from letter text src dst number first second third l long is_letter is_b
     }
 
 -- the same by the places of the bytes behind the numbers
-pub IsUsual-at : (letter : ℕ) (text : List ℕ) (src dst number first second at : ℕ) → IsLetter letter → 2 ≤ length text → get_or text 0 0 ≡ letter → get_or text 1 0 ≡ 32
+pub IsUsual-at : (letter : ℕ) (text : List ℕ) (src dst number first second at : ℕ) → IsLetter letter → 2 ≤ length text
+    → get_or text 0 0 ≡ letter → get_or text 1 0 ≡ 32
     → 2 ≤ first → first + 1 ≤ second → second + 1 ≤ at
-    → IsNumberUntil (drop 2 text) 32 src (first - 2) → IsNumberUntil (drop (first + 1) text) 32 dst (second - (first + 1)) → IsNumberUntil (drop (second + 1) text) 10 number (at - (second + 1))
+    → IsNumberUntil (drop 2 text) 32 src (first - 2)
+    → IsNumberUntil (drop (first + 1) text) 32 dst (second - (first + 1))
+    → IsNumberUntil (drop (second + 1) text) 10 number (at - (second + 1))
     → IsUsual letter text src dst number at
 IsUsual-at letter text src dst number first second at l long is_letter is_blank' low_first low_second low_at a b c =
     let b_at : first + 1 ≡ first - 2 + 3 = omega arith in
     let c_at : second + 1 ≡ first - 2 + (second - (first + 1)) + 4 = omega arith in
     let last : first - 2 + (second - (first + 1)) + (at - (second + 1)) + 4 ≡ at = omega arith in
-    subst (λ k. IsUsual letter text src dst number k) last (IsUsual-from letter text src dst number (first - 2) (second - (first + 1)) (at - (second + 1)) l long is_letter is_blank' a
-    (subst (λ k. IsNumberUntil (drop k text) 32 dst (second - (first + 1))) b_at b)
+    subst (λ k. IsUsual letter text src dst number k) last
+    (IsUsual-from letter text src dst number (first - 2) (second - (first + 1)) (at - (second + 1)) l long is_letter
+    is_blank' a (subst (λ k. IsNumberUntil (drop k text) 32 dst (second - (first + 1))) b_at b)
     (subst (λ k. IsNumberUntil (drop k text) 10 number (at - (second + 1))) c_at c))
 
 -- a digit more, by its place in the whole text
-pub IsLeading-at : (text : List ℕ) (value start i : ℕ) → start ≤ i → i < length text → is_ascii_digit (get_or text i 0) ≡ true → get_or text i 0 - 48 ≤ 9 → IsLeading (drop start text) value (i - start)
+pub IsLeading-at : (text : List ℕ) (value start i : ℕ) → start ≤ i → i < length text
+    → is_ascii_digit (get_or text i 0) ≡ true → get_or text i 0 - 48 ≤ 9 → IsLeading (drop start text) value (i - start)
     → IsLeading (drop start text) (value * 10 + (get_or text i 0 - 48)) (i + 1 - start)
 IsLeading-at text value start i low inside digit nine so =
     let place : start + (i - start) ≡ i = omega arith in
-    let same : get_or (drop start text) (i - start) 0 ≡ get_or text i 0 = get_or-drop start text (i - start) 0 ∙ ap (λ k. get_or text k 0) place in
+    let same : get_or (drop start text) (i - start) 0 ≡ get_or text i 0 =
+    get_or-drop start text (i - start) 0 ∙ ap (λ k. get_or text k 0) place in
     let next : i - start + 1 ≡ i + 1 - start = omega arith in
     let long : i - start < length (drop start text) = omega (arith, length-drop start text) in
     subst (λ k. IsLeading (drop start text) (value * 10 + (get_or text i 0 - 48)) k) next

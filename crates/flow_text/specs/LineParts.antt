@@ -1,7 +1,17 @@
--- What a text is joined of.
-use Rattle.std.specs.Prelude.{◌≡◌, ℕ, false, List, [], ◌∷◌, ◌++◌}
+-- The parts of a text between the bytes 10, and what a text is joined of.
+use Rattle.std.specs.Prelude.{◌≡◌, ℕ, ◌-◌, Bool, false, ◌==◌, List, [], ◌∷◌, ◌++◌, length, take, slice_index_or}
 use Rattle.std.specs.List.{All}
-use Rattle.flow_text.specs.Lines.{is_end}
+
+-- whether a byte ends a line
+abbrev pub is_end : ℕ → Bool
+is_end c = c == 10
+
+-- all parts but the last, and the last
+abbrev pub front : List (List ℕ) → List (List ℕ)
+front parts = take (length parts - 1) parts
+
+abbrev pub last_part : List (List ℕ) → List ℕ
+last_part parts = slice_index_or parts (length parts - 1) []
 
 -- no byte of it is byte 10
 abbrev pub HasNoEnd : List ℕ → Type 0

@@ -1,5 +1,5 @@
 -- The bytes that the program writes. Every line has its byte 10, and a number is written in its fewest decimal digits.
-use Rattle.std.specs.Prelude.{ℕ, Bool, List, ◌++◌, codes, decimal, filter, if◌then◌else◌}
+use Rattle.std.specs.Prelude.{ℕ, Bool, List, [], ◌++◌, codes, decimal, filter, if◌then◌else◌}
 use Rattle.std.specs.List.{flat_map, zip, range_with_len}
 use Rattle.std.specs.Fmt.{signed_decimal}
 use Rattle.flow_net.specs.declared.networks.Arc.{Arc}
@@ -51,18 +51,11 @@ arc_flow_line (arc, flow) = flow_line arc.src arc.dst flow
 abbrev pub nodes_inside : Net → (ℕ → Bool) → List ℕ
 nodes_inside net X = filter X (range_with_len 1 net.nodes)
 
--- A solve with its value alone.
-unfoldable pub value_text : ℕ → List ℕ
-value_text value = solution_line value
+-- A solve: the value, then, unless it is asked for alone, the flow of every arc in order. Parallel arcs have a line each.
+unfoldable pub solve_text : Bool → Net → ℕ → List ℕ → List ℕ
+solve_text value_only net value flows = solution_line value ++ (if value_only then [] else flat_map arc_flow_line (zip net.arcs flows))
 
--- A solve: the value, then the flow of every arc in order. Parallel arcs have a line each.
-unfoldable pub solve_text : Net → ℕ → List ℕ → List ℕ
-solve_text net value flows = solution_line value ++ flat_map arc_flow_line (zip net.arcs flows)
-
--- A cut: the value, then the nodes of its source side, rising.
-unfoldable pub cut_text : Net → ℕ → (ℕ → Bool) → List ℕ
-cut_text net value X = solution_line value ++ flat_map node_line (nodes_inside net X)
-
--- A cut with its arcs: then also the arcs that leave the source side, in order.
-unfoldable pub cut_text_with_arcs : Net → ℕ → (ℕ → Bool) → List ℕ
-cut_text_with_arcs net value X = cut_text net value X ++ flat_map arc_line (filter (leaves X) net.arcs)
+-- A cut: the value, the nodes of its source side, rising, and where they are asked for the arcs that leave it, in order.
+unfoldable pub cut_text : Bool → Net → ℕ → (ℕ → Bool) → List ℕ
+cut_text arcs net value X =
+    solution_line value ++ flat_map node_line (nodes_inside net X) ++ (if arcs then flat_map arc_line (filter (leaves X) net.arcs) else [])

@@ -1,31 +1,19 @@
 -- Problem files of the DIMACS format (1990): which fault a text has, or which problem it is.
-use Rattle.std.specs.Prelude.{ℕ, Bool, not, ◌&&◌, ◌||◌, ◌==◌, nat_lt, nat_le, List, [], ◌∷◌, ◌++◌, length, map, filter, Option, Some, is_some, Result, if◌then◌else◌, codes}
+use Rattle.std.specs.Prelude.{ℕ, Bool, not, ◌&&◌, ◌||◌, ◌==◌, nat_lt, nat_le, List, [], ◌∷◌, ◌++◌, length, map, filter, Option, Some, is_some, Result, Ok, Err, if◌then◌else◌, codes}
 use Rattle.std.specs.List.{find}
-use Rattle.std.specs.Option.{option_map, unwrap_or}
+use Rattle.std.specs.Option.{option_map, option_map_or, unwrap_or}
 use Rattle.std.specs.Str.{bytes_eq}
 use Rattle.flow_net.specs.declared.networks.Arc.{Arc}
 use Rattle.flow_net.specs.Nets.{Net, Instance}
 use Rattle.flow_text.specs.Lines.{lines}
 use Rattle.flow_text.specs.Fields.{fields_of, field_at}
-use Rattle.flow_text.specs.Digits.{value_of}
+use Rattle.flow_text.specs.Digits.{value_of, number_at}
 use Rattle.flow_text.specs.Tests.{first_failed, number_tests, ends_tests, Test}
 use Rattle.flow_text.specs.Terminals.{Marks, is_marked}
-use Rattle.flow_text.specs.Rules.{Rules, names, is_kind, early_fault, whole_fault, accepted}
+use Rattle.flow_text.specs.Rules.{Rules, names, is_kind, early_fault, whole_fault}
 use Rattle.flow_text.specs.declared.faults.FaultCode.{FaultCode}
 use Rattle.flow_text.specs.declared.faults.FaultCode.TheVariants.{UnknownLine, WrongFields, SecondProblemLine, ProblemLineMissing, NotMax, NodesOutOfRange, ArcsOutOfRange, NodeOutOfRange, NodeLineAfterArcLine, NotTerminal, TerminalsMissing, AlreadyTerminal, TooManyArcs, CapacityOutOfRange, TooFewArcs}
 use Rattle.flow_net.specs.declared.limits.TheConstants.{MOST_ARCS, MOST_NODES, FEWEST_NODES}
-
--- NODES and ARCS of `p max NODES ARCS`
-abbrev pub size_of : List (List ℕ) → ℕ × ℕ
-size_of fields = (value_of (field_at fields 2), value_of (field_at fields 3))
-
--- ID of `n ID s` or `n ID t`
-abbrev pub node_of : List (List ℕ) → ℕ
-node_of fields = value_of (field_at fields 1)
-
--- the arc of `a SRC DST CAP`
-abbrev pub arc_of : List (List ℕ) → Arc
-arc_of fields = record { src = value_of (field_at fields 1); dst = value_of (field_at fields 2); cap = value_of (field_at fields 3) }
 
 -- a node line with this letter in its third field
 abbrev pub is_terminal : List ℕ → List ℕ → Bool
@@ -37,15 +25,17 @@ pub record Known : Type 0 where
   pub marks : Marks
   pub arcs : List Arc
 
--- NODES and ARCS of the first problem line, the sources and the sinks of the node lines and the arcs of the arc lines, in order
+-- NODES and ARCS of the first line `p max NODES ARCS`, the sources of the lines `n ID s` and the sinks of the lines `n ID t`,
+-- and the arcs of the lines `a SRC DST CAP`, in order
 unfoldable pub known_of : List (List ℕ) → Known
 known_of before = record {
-  size = option_map (λ line. size_of (fields_of line)) (find (is_kind (codes "p")) before);
+  size = option_map (λ line. (number_at line 2, number_at line 3)) (find (is_kind (codes "p")) before);
   marks = record {
-    sources = map (λ line. node_of (fields_of line)) (filter (is_terminal (codes "s")) before);
-    sinks = map (λ line. node_of (fields_of line)) (filter (is_terminal (codes "t")) before);
+    sources = map (λ line. number_at line 1) (filter (is_terminal (codes "s")) before);
+    sinks = map (λ line. number_at line 1) (filter (is_terminal (codes "t")) before);
   };
-  arcs = map (λ line. arc_of (fields_of line)) (filter (is_kind (codes "a")) before);
+  arcs = map (λ line. record { src = number_at line 1; dst = number_at line 2; cap = number_at line 3 })
+      (filter (is_kind (codes "a")) before);
 }
 
 abbrev pub nodes : Known → ℕ
@@ -75,7 +65,7 @@ mark_tests nodes marks fields =
     (not (length fields == 3), WrongFields)
     ∷ number_tests (field_at fields 1) 1 nodes NodeOutOfRange
     ++ (not (bytes_eq (field_at fields 2) (codes "s") || bytes_eq (field_at fields 2) (codes "t")), NotTerminal)
-    ∷ (is_marked marks (node_of fields), AlreadyTerminal)
+    ∷ (is_marked marks (value_of (field_at fields 1)), AlreadyTerminal)
     ∷ []
 
 abbrev pub node_tests : Known → List (List ℕ) → List Test
@@ -126,4 +116,4 @@ early b = early_fault problem_rules known_of b
 
 -- the first fault of a whole problem text, or the problem that it says
 unfoldable pub problem : List ℕ → Result Instance (ℕ × FaultCode)
-problem b = accepted (instance_of (known_of (lines b))) (whole_fault problem_rules known_of b)
+problem b = option_map_or Err (whole_fault problem_rules known_of b) (Ok (instance_of (known_of (lines b))))

@@ -4,17 +4,31 @@ use Rattle.std.specs.Str.{bytes_eq}
 use Rattle.std.specs.List.{All}
 use Rattle.std.specs.Option.{option_map}
 use Rattle.flow_net.specs.declared.networks.Arc.{Arc}
-use Rattle.flow_net.specs.Nets.{Net, Instance, IsNode, IsArcWithin}
+use Rattle.flow_net.specs.Nets.{Net, Instance, IsNode}
+use Rattle.flow_net.specs.Limits.{IsArcWithin}
 use Rattle.flow_text.specs.Fields.{field_at}
+use Rattle.flow_text.specs.Digits.{value_of}
 use Rattle.flow_text.specs.Rules.{names}
 use Rattle.flow_text.specs.Terminals.{Marks}
-use Rattle.flow_text.specs.Problem.{Known, known_of, lacks_terminals, size_of, node_of, arc_of, net_of, problem_rules}
+use Rattle.flow_text.specs.Problem.{Known, known_of, net_of, lacks_terminals, problem_rules}
 use Rattle.flow_text.specs.Reading.{State, HasRead, FeedsBy, AnswersAs}
 use Rattle.flow_text.specs.declared.faults.FaultCode.{FaultCode}
 use Rattle.flow_text.specs.declared.faults.ReadFault.{ReadFault}
 use Rattle.flow_text.specs.declared.machine.Refusal.{Refusal}
 use Rattle.flow_text.specs.declared.machine.Refusal.TheVariants.{Memory}
 use Rattle.flow_net.specs.declared.limits.TheConstants.{MOST_ARCS}
+
+-- NODES and ARCS of `p max NODES ARCS`
+abbrev pub size_of : List (List ℕ) → ℕ × ℕ
+size_of fields = (value_of (field_at fields 2), value_of (field_at fields 3))
+
+-- ID of `n ID s` or `n ID t`
+abbrev pub node_of : List (List ℕ) → ℕ
+node_of fields = value_of (field_at fields 1)
+
+-- the arc of `a SRC DST CAP`
+abbrev pub arc_of : List (List ℕ) → Arc
+arc_of fields = record { src = value_of (field_at fields 1); dst = value_of (field_at fields 2); cap = value_of (field_at fields 3) }
 
 -- the terminals after a node line with these fields
 abbrev pub with_node : Marks → List (List ℕ) → Marks
@@ -32,22 +46,22 @@ with_problem_record known fields = record {
 }
 
 -- what is known from a problem line on: NODES, ARCS, the terminals and the arcs
-pub record Sized : Type 0 where
+pub record ProblemSoFar : Type 0 where
   pub nodes : ℕ
   pub declared : ℕ
   pub marks : Marks
   pub arcs : List Arc
 
-abbrev pub known_with : Sized → Known
+abbrev pub known_with : ProblemSoFar → Known
 known_with sized = record { size = Some (sized.nodes, sized.declared); marks = sized.marks; arcs = sized.arcs }
 
 -- what is known: nothing before a problem line
-abbrev pub known_from : Option Sized → Known
+abbrev pub known_from : Option ProblemSoFar → Known
 known_from None = record { size = None; marks = record { sources = []; sinks = [] }; arcs = [] }
 known_from (Some sized) = known_with sized
 
 -- what the keeper of an arc answers: whether the arc line has no fault, and the arc is kept
-abbrev pub KeepsArc : Sized → Arc → Result Bool Refusal → Sized → Type 0
+abbrev pub KeepsArc : ProblemSoFar → Arc → Result Bool Refusal → ProblemSoFar → Type 0
 KeepsArc old arc (Ok true) new =
     (lacks_terminals old.marks ≡ false) × (length old.arcs < old.declared) × IsArcWithin old.nodes arc × (new ≡ record old { arcs = old.arcs ++ arc ∷ [] })
 KeepsArc old arc (Ok false) new = new ≡ old

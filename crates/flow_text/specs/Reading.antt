@@ -1,16 +1,25 @@
 -- What a reader keeps of a text that comes in pieces, and what it answers.
-use Rattle.std.specs.Prelude.{◌≡◌, ℕ, ◌+◌, ◌<◌, ◌≤◌, Bool, true, false, not, ◌||◌, nat_lt, List, [], ◌∷◌, ◌++◌, length, take, Option, None, Some, Result, Ok, Err, if◌then◌else◌}
+use Rattle.std.specs.Prelude.{◌≡◌, ℕ, ◌+◌, ◌<◌, ◌≤◌, Bool, true, false, not, ◌||◌, nat_lt, min, List, [], ◌∷◌, ◌++◌, length, take, Option, None, Some, Result, Ok, Err, if◌then◌else◌}
+use Rattle.std.specs.Option.{option_map_or}
 use Rattle.memchr.specs.Find.{IsFirstByte, is_byte}
 use Rattle.flow_text.specs.Lines.{ended, rest, lines}
 use Rattle.flow_text.specs.Fields.{fields_of}
-use Rattle.flow_text.specs.Rules.{Rules, is_comment, fault_of, first_fault, early_fault, whole_fault, told}
+use Rattle.flow_text.specs.Rules.{Rules, is_comment, fault_of, first_fault, early_fault, whole_fault}
 use Rattle.flow_text.specs.declared.faults.FaultCode.{FaultCode}
 use Rattle.flow_text.specs.declared.faults.FaultCode.TheVariants.{LineTooLong}
 use Rattle.flow_text.specs.declared.faults.ReadFault.{ReadFault}
 use Rattle.flow_text.specs.declared.faults.ReadFault.TheVariants.{Fault, OutOfMemory}
 use Rattle.flow_text.specs.declared.machine.Refusal.{Refusal}
 use Rattle.flow_text.specs.declared.machine.Refusal.TheVariants.{Code, Memory}
-use Rattle.flow_text.specs.declared.limits.TheConstants.{LONGEST_LINE}
+use Rattle.flow_text.specs.declared.limits.TheConstants.{LONGEST_LINE, GREATEST_LINE_NUMBER}
+
+-- a line number as it is told
+abbrev pub told : ℕ → ℕ
+told k = min k GREATEST_LINE_NUMBER
+
+-- what a text says, or its fault
+abbrev pub accepted : {A : Type 0} → A → Option (ℕ × FaultCode) → Result A (ℕ × FaultCode)
+accepted said fault = option_map_or Err fault (Ok said)
 
 -- what a reader keeps: its refusal, how many lines have ended, what they say, whether the line that goes on is a comment, and
 -- the bytes of that line

@@ -1,5 +1,5 @@
 -- What holds for every kind of file: comments, empty lines, lines that are too long, and which fault is the first.
-use Rattle.std.specs.Prelude.{ℕ, ◌+◌, Bool, false, not, ◌&&◌, ◌==◌, nat_lt, min, List, [], ◌∷◌, ◌++◌, length, Option, None, Some, Result, Ok, Err, if◌then◌else◌}
+use Rattle.std.specs.Prelude.{ℕ, ◌+◌, Bool, false, not, ◌&&◌, ◌==◌, nat_lt, min, List, [], ◌∷◌, ◌++◌, length, Option, None, Some, if◌then◌else◌}
 use Rattle.std.specs.Option.{option_map, option_or}
 use Rattle.std.specs.Str.{bytes_eq}
 use Rattle.flow_text.specs.Lines.{ended, rest, lines}
@@ -35,13 +35,9 @@ fault_of rules known line =
     else if not (nat_lt 0 (length (fields_of line))) then None
     else rules.record_fault known (fields_of line)
 
--- a line number as it is told
-abbrev pub told : ℕ → ℕ
-told k = min k GREATEST_LINE_NUMBER
-
--- a fault with its line, if there is one
+-- a fault with its line, if there is one; every line past the greatest number that is told has that number
 abbrev pub at_line : ℕ → Option FaultCode → Option (ℕ × FaultCode)
-at_line k fault = option_map (λ code. (told k, code)) fault
+at_line k fault = option_map (λ code. (min k GREATEST_LINE_NUMBER, code)) fault
 
 -- the fault of the first of these lines that has one, where other lines stand before them; `known_of` tells what lines say
 unfoldable pub first_fault : {K : Type 0} → Rules K → (List (List ℕ) → K) → List (List ℕ) → List (List ℕ) → Option (ℕ × FaultCode)
@@ -62,8 +58,3 @@ early_fault rules known_of b =
 unfoldable pub whole_fault : {K : Type 0} → Rules K → (List (List ℕ) → K) → List ℕ → Option (ℕ × FaultCode)
 whole_fault rules known_of b =
     option_or (first_fault rules known_of [] (lines b)) (at_line (length (lines b) + 1) (rules.end_fault (known_of (lines b))))
-
--- what a text says, or its fault
-abbrev pub accepted : {A : Type 0} → A → Option (ℕ × FaultCode) → Result A (ℕ × FaultCode)
-accepted said None = Ok said
-accepted said (Some fault) = Err fault

@@ -1,24 +1,16 @@
 -- Solution files of the DIMACS format (1990): which fault a text has, or which value and flow lines it gives.
-use Rattle.std.specs.Prelude.{ℕ, not, ◌==◌, nat_le, List, ◌∷◌, length, map, filter, Option, None, Some, is_some, Result, if◌then◌else◌, codes}
+use Rattle.std.specs.Prelude.{ℕ, not, ◌==◌, nat_le, List, ◌∷◌, length, map, filter, Option, None, Some, is_some, Result, Ok, Err, if◌then◌else◌, codes}
 use Rattle.std.specs.List.{find}
-use Rattle.std.specs.Option.{option_map, unwrap_or}
+use Rattle.std.specs.Option.{option_map, option_map_or, unwrap_or}
 use Rattle.flow_text.specs.Lines.{lines}
-use Rattle.flow_text.specs.Fields.{fields_of, field_at}
-use Rattle.flow_text.specs.Digits.{value_of}
+use Rattle.flow_text.specs.Fields.{field_at}
+use Rattle.flow_text.specs.Digits.{number_at}
 use Rattle.flow_text.specs.Tests.{first_failed, number_tests, ends_tests, Test}
-use Rattle.flow_text.specs.Rules.{Rules, names, is_kind, early_fault, whole_fault, accepted}
+use Rattle.flow_text.specs.Rules.{Rules, names, is_kind, early_fault, whole_fault}
 use Rattle.flow_text.specs.declared.faults.FaultCode.{FaultCode}
 use Rattle.flow_text.specs.declared.faults.FaultCode.TheVariants.{UnknownLine, WrongFields, SecondSolutionLine, SolutionLineMissing, TooManyFlowLines, FlowOutOfRange, ValueOutOfRange}
 use Rattle.flow_text.specs.declared.solutions.FlowLine.{FlowLine}
 use Rattle.flow_text.specs.declared.limits.TheConstants.{GREATEST_VALUE, MOST_FLOW_LINES}
-
--- VALUE of `s VALUE`
-abbrev pub given_of : List (List ℕ) → ℕ
-given_of fields = value_of (field_at fields 1)
-
--- SRC, DST and FLOW of `f SRC DST FLOW`
-abbrev pub flow_of : List (List ℕ) → FlowLine
-flow_of fields = record { src = value_of (field_at fields 1); dst = value_of (field_at fields 2); flow = value_of (field_at fields 3) }
 
 -- What the lines before a line say: VALUE and the flow lines; and NODES of the problem.
 pub record Stated : Type 0 where
@@ -26,12 +18,13 @@ pub record Stated : Type 0 where
   pub value : Option ℕ
   pub lines : List FlowLine
 
--- VALUE of the first solution line, and the flow lines in order
+-- VALUE of the first line `s VALUE`, and SRC, DST and FLOW of the lines `f SRC DST FLOW`, in order
 unfoldable pub stated_of : ℕ → List (List ℕ) → Stated
 stated_of nodes before = record {
   nodes = nodes;
-  value = option_map (λ line. given_of (fields_of line)) (find (is_kind (codes "s")) before);
-  lines = map (λ line. flow_of (fields_of line)) (filter (is_kind (codes "f")) before);
+  value = option_map (λ line. number_at line 1) (find (is_kind (codes "s")) before);
+  lines = map (λ line. record { src = number_at line 1; dst = number_at line 2; flow = number_at line 3 })
+      (filter (is_kind (codes "f")) before);
 }
 
 -- the tests of a solution line, after that of a second one
@@ -73,4 +66,4 @@ early_solution b nodes = early_fault solution_rules (stated_of nodes) b
 
 -- the first fault of a whole solution text, or what it says
 unfoldable pub solution : List ℕ → ℕ → Result Written (ℕ × FaultCode)
-solution b nodes = accepted (written_of (stated_of nodes (lines b))) (whole_fault solution_rules (stated_of nodes) b)
+solution b nodes = option_map_or Err (whole_fault solution_rules (stated_of nodes) b) (Ok (written_of (stated_of nodes (lines b))))

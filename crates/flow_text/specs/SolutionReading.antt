@@ -1,8 +1,10 @@
 -- What the reader of a solution keeps and answers.
 use Rattle.std.specs.Prelude.{◌≡◌, ℕ, Bool, true, false, ◌≤◌, ◌<◌, ◌^◌, ◌++◌, List, [], ◌∷◌, length, Some, is_some, Result, Ok, Err, codes, if◌then◌else◌}
 use Rattle.std.specs.List.{All}
+use Rattle.flow_text.specs.Fields.{field_at}
+use Rattle.flow_text.specs.Digits.{value_of}
 use Rattle.flow_text.specs.Rules.{names}
-use Rattle.flow_text.specs.Solution.{Stated, stated_of, given_of, flow_of, Written, solution_rules}
+use Rattle.flow_text.specs.Solution.{Stated, stated_of, Written, solution_rules}
 use Rattle.flow_text.specs.Reading.{State, HasRead, FeedsBy, AnswersAs}
 use Rattle.flow_text.specs.declared.faults.FaultCode.{FaultCode}
 use Rattle.flow_text.specs.declared.faults.ReadFault.{ReadFault}
@@ -11,6 +13,14 @@ use Rattle.flow_text.specs.declared.machine.Refusal.TheVariants.{Memory}
 use Rattle.flow_text.specs.declared.solutions.FlowLine.{FlowLine}
 use Rattle.flow_text.specs.declared.solutions.Solution.{Solution}
 use Rattle.flow_text.specs.declared.limits.TheConstants.{GREATEST_VALUE, MOST_FLOW_LINES}
+
+-- VALUE of `s VALUE`
+abbrev pub given_of : List (List ℕ) → ℕ
+given_of fields = value_of (field_at fields 1)
+
+-- SRC, DST and FLOW of `f SRC DST FLOW`
+abbrev pub flow_of : List (List ℕ) → FlowLine
+flow_of fields = record { src = value_of (field_at fields 1); dst = value_of (field_at fields 2); flow = value_of (field_at fields 3) }
 
 -- what is known after a line with these fields
 unfoldable pub with_solution_record : Stated → List (List ℕ) → Stated

@@ -1,7 +1,8 @@
 -- The laws of lines, and of faults of a text that goes on.
 use Rattle.std.specs.Prelude.{◌≡◌, ℕ, List, ◌++◌, Some, Ok, Err}
 use Rattle.std.specs.List.{All}
-use Rattle.flow_net.specs.Nets.{Instance, IsNet, IsProblem}
+use Rattle.flow_net.specs.Nets.{Instance}
+use Rattle.flow_net.specs.Limits.{IsNet, IsProblem}
 use Rattle.flow_text.specs.Lines.{ended, rest}
 use Rattle.flow_text.specs.LineParts.{joined, HasNoEnd}
 use Rattle.flow_text.specs.Problem.{early, problem}

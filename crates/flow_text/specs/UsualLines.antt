@@ -2,7 +2,7 @@
 use Rattle.std.specs.Prelude.{◌≡◌, ℕ, ◌^◌, ◌<◌, ◌≤◌, true, false, List, [], ◌∷◌, length, take, slice_index, Some}
 use Rattle.std.specs.Str.{all_ascii_digits}
 use Rattle.memchr.specs.Find.{IsFirstByte, is_byte}
-use Rattle.flow_text.specs.Lines.{is_end}
+use Rattle.flow_text.specs.LineParts.{is_end}
 use Rattle.flow_text.specs.Fields.{fields_of, is_blank}
 use Rattle.flow_text.specs.Digits.{value_of, is_number}
 use Rattle.flow_text.specs.Rules.{is_comment}

@@ -1,8 +1,8 @@
-//! The machine under both readers. It cuts a text that comes in pieces into lines and has each line judged, and keeps at most
-//! so many bytes of the line that goes on as a line may have, of a comment none.
+//! The machine under both readers. It cuts a text that comes in pieces into lines and has each line judged. Of a line whose
+//! end hasn't come yet it keeps the bytes so far, at most as many as a line may have; of a comment it keeps none.
 ghost use Rattle.std.specs.Prelude.{◌≡◌, ◌+◌, ◌++◌, ◌∷◌, [], List, ℕ, None, Some, Err, false, IsErrOf, IfOk, is_some, true, MatchOption};
-ghost use Rattle.flow_text.specs.Rules.{Rules, is_comment, fault_of, told};
-ghost use Rattle.flow_text.specs.Reading.{Adds, HasRead, Refuses, FeedsBy, ClosesBy, Judges, JudgesFirst, with_line, EndsLine, EndsFirst, HoldsTail, Takes, Finals, fault_from};
+ghost use Rattle.flow_text.specs.Rules.{Rules, is_comment, fault_of};
+ghost use Rattle.flow_text.specs.Reading.{told, Adds, HasRead, Refuses, FeedsBy, ClosesBy, Judges, JudgesFirst, with_line, EndsLine, EndsFirst, HoldsTail, Takes, Finals, fault_from};
 ghost use Rattle.flow_text.specs.declared.faults.ReadFault.{ReadFault};
 
 use crate::faults::{FaultCode, ReadFault};
@@ -42,7 +42,7 @@ pub(crate) trait Judge: Drop {
         ensures { result ≡ rules.end_fault self.now };
 }
 
-/// A judge, and the line that goes on.
+/// A judge, and what has come of the line whose end hasn't come yet.
 #[derive(Drop)]
 pub(crate) struct Machine<J> {
     refused: Option<ReadFault>,
@@ -65,7 +65,7 @@ impl<J> Model for Machine<J> {
     ghost invariant = { λ m. record { plain : is_comment m.held.items ≡ false; short : length m.held.items ≤ LONGEST_LINE; empty : m.comment ≡ true → m.held.items ≡ [] } };
 }
 
-// Whether a line is a comment, by its first byte.
+/// Whether a line is a comment, by its first byte.
 #[inline(always)]
 fn begins_comment(line: &[u8]) -> bool
     ensures { result ≡ is_comment line.now }
@@ -76,7 +76,7 @@ fn begins_comment(line: &[u8]) -> bool
     }
 }
 
-// A refusal in the line after so many.
+/// A refusal in the line that follows so many lines.
 fn read_fault(count: u64, refusal: Refusal) -> ReadFault
     ensures { result ≡ fault_from count refusal }
 {
@@ -89,7 +89,7 @@ fn read_fault(count: u64, refusal: Refusal) -> ReadFault
     }
 }
 
-// Judges a whole line.
+/// Judges a whole line.
 fn judge_line<J: Judge>(judge: &mut J, line: &[u8]) -> Result<(), Refusal>
     ensures { Judges (fault_of J.rules judge.old line.now) (with_line J.with_record judge.old line.now) result judge.new }
 {
@@ -120,7 +120,7 @@ impl<J: Judge> Machine<J> {
         }
     }
 
-    // Judges the line that goes on, which ends with these bytes.
+    /// Judges the line that was begun in earlier pieces, if one was, and that ends with these bytes.
     fn judge_rest(&mut self, tail: &[u8]) -> Result<(), Refusal>
         ensures { EndsLine J.rules J.with_record self.old tail.now self.old.count result self.new }
     {
@@ -144,7 +144,7 @@ impl<J: Judge> Machine<J> {
         }
     }
 
-    // The line that goes on ends with these bytes.
+    /// Judges the line that ends with these bytes, and counts it.
     fn end_line(&mut self, tail: &[u8]) -> Result<(), Refusal>
         ensures { EndsLine J.rules J.with_record self.old tail.now (told (self.old.count + 1)) result self.new }
     {
@@ -157,7 +157,7 @@ impl<J: Judge> Machine<J> {
         }
     }
 
-    // Ends the line that ends first in the text, and tells where, if one ends there.
+    /// Judges the line that ends first in the text, and answers the place of its byte 10, if a line ends there.
     fn end_first(&mut self, text: &[u8]) -> Result<Option<usize>, Refusal>
         ensures { EndsFirst J.rules J.with_record self.old text.now result self.new }
     {
@@ -180,7 +180,7 @@ impl<J: Judge> Machine<J> {
         }
     }
 
-    // The line that goes on goes on with these bytes.
+    /// Keeps the last bytes of a piece, in which no line ends, for the line that they begin or continue.
     fn hold(&mut self, tail: &[u8]) -> Result<(), Refusal>
         ensures { HoldsTail self.old tail.now result self.new }
     {
@@ -197,7 +197,7 @@ impl<J: Judge> Machine<J> {
         }
     }
 
-    // Takes a piece, line by line.
+    /// Takes a piece: judges each line that ends in it, and keeps what is left.
     fn take(&mut self, piece: &[u8]) -> Result<(), Refusal>
         ensures { (known_of : List (List ℕ) → J) → Adds J.rules known_of J.with_record → (b : List ℕ) → HasRead J.rules known_of self.old b → Takes J.rules known_of (b ++ piece.now) result self.new }
     {
@@ -229,7 +229,7 @@ impl<J: Judge> Machine<J> {
         }
     }
 
-    // Judges the last line, if no byte 10 ends it.
+    /// Judges the last line, if no byte 10 ends it.
     fn end_text(&mut self) -> Result<(), Refusal>
         ensures { (known_of : List (List ℕ) → J) → Adds J.rules known_of J.with_record → (b : List ℕ) → HasRead J.rules known_of self.old b → Finals J.rules known_of b result self.new }
     {

@@ -88,7 +88,7 @@ pub fn push_node_line<const N: usize>(lines: &mut ArrayVec<u8, N>, node: u32)
     let end = put_number(&mut bytes, node as u64, 15);
     let start = end - 1;
     bytes[start] = b'n';
-    push_bytes(lines, &bytes[start..]);
+    push_short(lines, &bytes[start..]);
 }
 
 /// The line `k VALUE` of the edge connectivity.
@@ -132,7 +132,7 @@ pub fn fault_line(solution: bool, line: u64, code: FaultCode) -> Line
     message_line(b"flow: line ", line, code)
 }
 
-// A word that ends with a blank, and a number.
+/// A word that ends with a blank, and a number.
 fn number_line<I: Integer>(word: &[u8], n: I) -> Line
     requires word { length word.now ≤ 20 }
     requires number { I.MAX_STR_LEN ≤ 40 }
@@ -145,8 +145,8 @@ fn number_line<I: Integer>(word: &[u8], n: I) -> Line
     line
 }
 
-// Appends a letter, two nodes and an amount, which take 45 bytes at most. A solve has a line of this form for every arc,
-// so it is written backwards into bytes of its own, in front of the last, which is the line's end, and copied once.
+/// Appends a letter, two nodes and an amount, which take 45 bytes at most. A solve has a line of this form for every arc,
+/// so it is written backwards into bytes of its own, in front of the last, which is the line's end, and copied once.
 #[tactic(auto, using(crate::proofs::OutputLemmas::decimal_10, crate::proofs::OutputLemmas::decimal_20))]
 #[inline(always)]
 fn push_pair<const N: usize>(
@@ -168,7 +168,7 @@ fn push_pair<const N: usize>(
     push_bytes(line, &bytes[start..]);
 }
 
-// Writes a blank and the digits of a number so that they end at `end`, and answers where the blank stands.
+/// Writes a blank and the digits of a number so that they end at `end`, and answers where the blank stands.
 #[inline(always)]
 fn put_number(bytes: &mut [u8], n: u64, end: usize) -> usize
     requires room { length (decimal n) < end }
@@ -226,7 +226,7 @@ fn value_line(given: u128, found: i128) -> Line
     line
 }
 
-// The beginning of a message, a line number and the words of a fault.
+/// The beginning of a message, a line number and the words of a fault.
 #[tactic(auto, using(crate::proofs::OutputLemmas::fault_text_short))]
 fn message_line(start: &[u8], line: u64, code: FaultCode) -> Line
     requires { length start.now ≤ 20 }
@@ -241,7 +241,7 @@ fn message_line(start: &[u8], line: u64, code: FaultCode) -> Line
     message
 }
 
-// Appends bytes for which there is room.
+/// Appends bytes for which there is room.
 #[inline]
 fn push_bytes<const N: usize>(line: &mut ArrayVec<u8, N>, bytes: &[u8])
     requires { array_vec_len line.old + length bytes.now ≤ N }
@@ -250,7 +250,23 @@ fn push_bytes<const N: usize>(line: &mut ArrayVec<u8, N>, bytes: &[u8])
     line.try_extend_from_slice(bytes).unwrap();
 }
 
-// Appends a number in its fewest digits, for which there is room.
+/// Appends a short line for which there is room. A copy takes no call where its length is known, so the lengths of the
+/// lines of nodes of four to seven digits are told apart.
+#[inline(always)]
+fn push_short<const N: usize>(lines: &mut ArrayVec<u8, N>, line: &[u8])
+    requires { array_vec_len lines.old + length line.now ≤ N }
+    ensures { lines.new.items ≡ lines.old.items ++ line.now }
+{
+    match line.len() {
+        7 => push_bytes(lines, &line[..7]),
+        8 => push_bytes(lines, &line[..8]),
+        9 => push_bytes(lines, &line[..9]),
+        10 => push_bytes(lines, &line[..10]),
+        _ => push_bytes(lines, line),
+    }
+}
+
+/// Appends a number in its fewest digits, for which there is room.
 #[inline]
 fn push_number<I: Integer>(line: &mut Line, n: I)
     requires { array_vec_len line.old + I.MAX_STR_LEN ≤ MOST_LINE_BYTES }

@@ -3,9 +3,9 @@ ghost use Rattle.std.specs.Prelude.{◌≡◌, ◌≤◌, [], ◌∷◌, ◌++�
 ghost use Rattle.flow_text.specs.Tests.{first_failed};
 ghost use Rattle.flow_text.specs.Terminals.{is_marked};
 ghost use Rattle.flow_text.specs.TerminalMarks.{with_mark};
-ghost use Rattle.flow_text.specs.Problem.{Known, known_of, size_of, size_tests, problem_tests, node_of, mark_tests, node_tests, arc_of, arc_tests, end_tests, problem_rules, instance_of};
+ghost use Rattle.flow_text.specs.Problem.{Known, known_of, size_tests, problem_tests, mark_tests, node_tests, arc_tests, end_tests, problem_rules, instance_of};
+ghost use Rattle.flow_text.specs.ProblemReading.{size_of, node_of, arc_of, KeepsArc, known_with, with_node, with_problem_record, known_net};
 ghost use Rattle.flow_text.specs.Reading.{Judges};
-ghost use Rattle.flow_text.specs.ProblemReading.{KeepsArc, known_with, with_node, with_problem_record, known_net};
 
 use crate::faults::FaultCode;
 use crate::line_fields::Fields;
@@ -17,7 +17,7 @@ use flow_net::{Arc, FEWEST_NODES, MOST_ARCS, MOST_NODES, Network, Problem};
 use std::alloc::Global;
 use std::marker::Model;
 
-// What `p max NODES ARCS` says behind its letter: NODES and ARCS.
+/// What `p max NODES ARCS` says behind its letter: NODES and ARCS.
 #[tactic(auto, unfolding(crate::specs::Problem::size_tests))]
 fn size_in(others: Fields<'_>) -> Result<(u32, u32), FaultCode>
     ensures tests { (kind : List ℕ) → MatchResult result
@@ -43,7 +43,7 @@ fn size_in(others: Fields<'_>) -> Result<(u32, u32), FaultCode>
     Ok((nodes as u32, arcs as u32))
 }
 
-// What `n ID s` or `n ID t` says behind its letter: the node, and whether it is a source.
+/// What `n ID s` or `n ID t` says behind its letter: the node, and whether it is a source.
 #[tactic(auto, unfolding(crate::specs::Problem::mark_tests))]
 fn mark_in(others: Fields<'_>, nodes: u32, marks: &Terminals) -> Result<(u32, bool), FaultCode>
     ensures tests { (kind : List ℕ) → MatchResult result
@@ -78,9 +78,9 @@ struct Declared {
 }
 
 impl Model for Declared {
-    ghost use Rattle.flow_text.specs.ProblemReading.{Sized, IsKept};
+    ghost use Rattle.flow_text.specs.ProblemReading.{ProblemSoFar, IsKept};
 
-    ghost Value = { Sized };
+    ghost Value = { ProblemSoFar };
 
     ghost view = { λ d. record { nodes = d.net.nodes; declared = d.arcs; marks = d.terminals; arcs = d.net.arcs } };
 
@@ -108,7 +108,7 @@ impl Declared {
         &self.net
     }
 
-    // Judges a node line, and keeps its terminal.
+    /// Judges a node line, and keeps its terminal.
     fn node_line(&mut self, others: Fields<'_>) -> Result<(), Refusal>
         ensures { (kind : List ℕ) → Judges (first_failed (node_tests (known_with self.old) (kind ∷ others.entry)))
             (record self.old { marks = with_node self.old.marks (kind ∷ others.entry) }) result self.new }
@@ -125,7 +125,7 @@ impl Declared {
         }
     }
 
-    // Judges an arc line, and keeps its arc.
+    /// Judges an arc line, and keeps its arc.
     fn arc_line(&mut self, others: Fields<'_>) -> Result<(), Refusal>
         ensures { (kind : List ℕ) → Judges (first_failed (arc_tests (known_with self.old) (kind ∷ others.entry)))
             (record self.old { arcs = self.old.arcs ++ arc_of (kind ∷ others.entry) ∷ [] }) result self.new }
@@ -145,7 +145,7 @@ impl Declared {
         }
     }
 
-    // Keeps an arc whose line has no fault, and tells whether it did.
+    /// Keeps an arc whose line has no fault, and tells whether it did.
     #[inline(always)]
     fn keep_arc(&mut self, src: u64, dst: u64, cap: u64) -> Result<bool, Refusal>
         ensures { KeepsArc self.old (record { src = src; dst = dst; cap = cap }) result self.new }
@@ -168,7 +168,7 @@ impl Declared {
         }
     }
 
-    // The fault of the end of input.
+    /// The fault of the end of input.
     fn end_fault(&self) -> Option<FaultCode>
         ensures { result ≡ first_failed (end_tests (known_with self.now)) }
     {
@@ -181,7 +181,7 @@ impl Declared {
         }
     }
 
-    // The problem, where the end of input has no fault.
+    /// The problem, where the end of input has no fault.
     fn into_problem(self) -> Problem
         requires { first_failed (end_tests (known_with self)) ≡ None }
         ensures { result ≡ instance_of (known_with self) }
@@ -224,7 +224,7 @@ impl ProblemLines {
         }
     }
 
-    // Judges a problem line, and keeps what it declares.
+    /// Judges a problem line, and keeps what it declares.
     fn problem_line(&mut self, others: Fields<'_>) -> Result<(), Refusal>
         ensures { (kind : List ℕ) → Judges (first_failed (problem_tests self.old (kind ∷ others.entry)))
             (record self.old { size = Some (size_of (kind ∷ others.entry)) }) result self.new }
@@ -241,7 +241,7 @@ impl ProblemLines {
         }
     }
 
-    // Judges a node line.
+    /// Judges a node line.
     fn node_line(&mut self, others: Fields<'_>) -> Result<(), Refusal>
         ensures { (kind : List ℕ) → Judges (first_failed (node_tests self.old (kind ∷ others.entry)))
             (record self.old { marks = with_node self.old.marks (kind ∷ others.entry) }) result self.new }
@@ -252,7 +252,7 @@ impl ProblemLines {
         declared.node_line(others)
     }
 
-    // Judges an arc line.
+    /// Judges an arc line.
     fn arc_line(&mut self, others: Fields<'_>) -> Result<(), Refusal>
         ensures { (kind : List ℕ) → Judges (first_failed (arc_tests self.old (kind ∷ others.entry)))
             (record self.old { arcs = self.old.arcs ++ arc_of (kind ∷ others.entry) ∷ [] }) result self.new }

@@ -7,7 +7,7 @@ use std::alloc::Global;
 use std::process::Abort;
 use std::test::Fail;
 
-// Problems of two nodes without arcs, whose source is node 1 and whose sink is node 2.
+/// Problems of two nodes without arcs, whose source is node 1 and whose sink is node 2.
 const PROBLEMS: [&str; 4] = [
     "p max 2 0\nn 1 s\nn 2 t\n",
     "p max 0002 00\nn 1 s\nn 2 t\n",
@@ -15,7 +15,7 @@ const PROBLEMS: [&str; 4] = [
     "p\u{9}max\u{9}2\u{9}0\nn\u{9}1\u{9}s\nn\u{9}2\u{9}t\n",
 ];
 
-// Solutions to a problem of two nodes, with their values, and the flow of their flow line from node 1 to node 2 if they have one.
+/// Solutions to a problem of two nodes, with their values, and the flow of their flow line from node 1 to node 2 if they have one.
 const SOLUTIONS: [(&str, u128, Option<u64>); 3] = [
     (
         "s 73786976294838206460000000\n",
@@ -26,7 +26,7 @@ const SOLUTIONS: [(&str, u128, Option<u64>); 3] = [
     ("s 1\nf 1 2 1000000000001\n", 1, Some(1_000_000_000_001)),
 ];
 
-// Reads a problem in pieces, the first so long, the others at most so long, and checks what it says.
+/// Reads a problem in pieces, the first so long, the others at most so long, and checks what it says.
 fn check_problem(rt: &impl Abort, alloc: Global, text: &str, first: usize, len: usize)
     requires { 0 < len }
 {
@@ -37,7 +37,7 @@ fn check_problem(rt: &impl Abort, alloc: Global, text: &str, first: usize, len: 
     assert_eq!(rt; problem.sinks(), [2].as_slice(), "{text}");
 }
 
-// The same of a solution, which is to have this value, and one flow line of this flow or none.
+/// The same of a solution, which is to have this value, and one flow line of this flow or none.
 fn check_solution(
     rt: &impl Abort,
     alloc: Global,
@@ -56,7 +56,7 @@ fn check_solution(
     assert!(rt; lines.next().is_none(), "{text}");
 }
 
-// Checks a problem whole, cut in two at each place, and one byte at a time.
+/// Checks a problem whole, cut in two at each place, and one byte at a time.
 fn check_problem_cut(rt: &impl Abort, alloc: Global, text: &str) {
     for first in 0..text.len() + 1 {
         check_problem(rt, alloc, text, first, 4096);
@@ -64,7 +64,7 @@ fn check_problem_cut(rt: &impl Abort, alloc: Global, text: &str) {
     check_problem(rt, alloc, text, 0, 1);
 }
 
-// The same of a solution.
+/// The same of a solution.
 fn check_solution_cut(rt: &impl Abort, alloc: Global, row: (&str, u128, Option<u64>)) {
     for first in 0..row.0.len() + 1 {
         check_solution(rt, alloc, row, first, 4096);
@@ -114,7 +114,7 @@ fn what_was_read_is_lent(rt: HostRuntime) {
     );
 }
 
-// Arcs of a problem whose lines have the usual form or nearly so, with the longest numbers that such lines have.
+/// Arcs of a problem whose lines have the usual form or nearly so, with the longest numbers that such lines have.
 const ARCS: [(&str, u64); 8] = [
     ("a 1 2 7\n", 7),
     ("a 2 1 18446744073709551615\n", u64::MAX),
@@ -129,7 +129,7 @@ const ARCS: [(&str, u64); 8] = [
     ("a\t1 2 8\n", 8),
 ];
 
-// A problem whose arc lines are these, then as many of the first.
+/// A problem whose arc lines are these, then as many of the first.
 fn problem_of_arcs(alloc: Global) -> Result<String, Fail> {
     let mut text = String::new(alloc);
     text.push_str("p max 2 16\nn 1 s\nn 2 t\n")?;

@@ -14,7 +14,7 @@ pub fn fields(line: &[u8]) -> Fields<'_>
     Fields::new(line)
 }
 
-// The number that a digit makes at the end of one, if it fits.
+/// A number with one digit more at its end, if it has 128 bits.
 fn with_digit(value: u128, digit: u8) -> Option<u128>
     requires { digit < 10 }
     ensures { MatchOption result (2 ^ 128 ≤ value * 10 + digit) (λ v. v ≡ value * 10 + digit) }
@@ -22,7 +22,7 @@ fn with_digit(value: u128, digit: u8) -> Option<u128>
     value.checked_mul(10)?.checked_add(digit as u128)
 }
 
-// `number` of at most `SHORT_DIGITS` digits, which fit 64 bits.
+/// `number` of a field of at most `SHORT_DIGITS` bytes, whose value has 64 bits.
 #[inline(always)]
 fn short_number(field: &[u8], limit: u128) -> Number
     requires some { 0 < length field.now }
@@ -43,7 +43,7 @@ fn short_number(field: &[u8], limit: u128) -> Number
     }
 }
 
-// `number` of any digits.
+/// `number` of a field of any length.
 #[inline(never)]
 #[cold]
 fn long_number(field: &[u8], limit: u128) -> Number

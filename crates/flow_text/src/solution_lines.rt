@@ -1,9 +1,9 @@
 //! The judge of the lines of a solution.
 ghost use Rattle.std.specs.Prelude.{◌≡◌, ◌≤◌, [], ◌∷◌, ◌++◌, List, ℕ, Some, None, is_some, true, length, IfOk, MatchResult};
 ghost use Rattle.flow_text.specs.Tests.{first_failed};
-ghost use Rattle.flow_text.specs.Solution.{stated_of, given_of, value_tests, solution_tests, flow_of, flow_tests, solution_rules, written_of};
+ghost use Rattle.flow_text.specs.Solution.{stated_of, value_tests, solution_tests, flow_tests, solution_rules, written_of};
+ghost use Rattle.flow_text.specs.SolutionReading.{given_of, flow_of, KeepsLine, with_solution_record, written_in, IsWithinLimits};
 ghost use Rattle.flow_text.specs.Reading.{Judges};
-ghost use Rattle.flow_text.specs.SolutionReading.{KeepsLine, with_solution_record, written_in, IsWithinLimits};
 
 use crate::faults::FaultCode;
 use crate::limits::{GREATEST_VALUE, MOST_FLOW_LINES};
@@ -15,7 +15,7 @@ use crate::usual_lines::usual_line;
 use std::alloc::Global;
 use std::marker::Model;
 
-// What `s VALUE` says behind its letter.
+/// What `s VALUE` says behind its letter.
 #[tactic(auto, unfolding(crate::specs::Solution::value_tests))]
 fn value_in(others: Fields<'_>) -> Result<u128, FaultCode>
     ensures tests { (kind : List ℕ) → MatchResult result
@@ -61,7 +61,7 @@ impl SolutionLines {
         }
     }
 
-    // Judges a solution line, and keeps its value.
+    /// Judges a solution line, and keeps its value.
     fn solution_line(&mut self, others: Fields<'_>) -> Result<(), Refusal>
         ensures { (kind : List ℕ) → Judges (first_failed (solution_tests self.old (kind ∷ others.entry)))
             (record self.old { value = Some (given_of (kind ∷ others.entry)) }) result self.new }
@@ -78,7 +78,7 @@ impl SolutionLines {
         }
     }
 
-    // Judges a flow line, and keeps it.
+    /// Judges a flow line, and keeps it.
     fn flow_line(&mut self, others: Fields<'_>) -> Result<(), Refusal>
         ensures { (kind : List ℕ) → Judges (first_failed (flow_tests self.old (kind ∷ others.entry)))
             (record self.old { lines = self.old.lines ++ flow_of (kind ∷ others.entry) ∷ [] }) result self.new }
@@ -98,7 +98,7 @@ impl SolutionLines {
         }
     }
 
-    // Keeps a flow line that has no fault, and tells whether it did.
+    /// Keeps a flow line that has no fault, and tells whether it did.
     #[inline(always)]
     fn keep_line(&mut self, src: u64, dst: u64, flow: u64) -> Result<bool, Refusal>
         ensures { KeepsLine self.old (record { src = src; dst = dst; flow = flow }) result self.new }

@@ -1,6 +1,6 @@
 //! The terminals that the node lines name.
 ghost use Rattle.std.specs.Prelude.{◌≡◌, ◌++◌, [], OnOk, OnErr, false};
-ghost use Rattle.flow_net.specs.Nets.{AreDistinct};
+ghost use Rattle.flow_net.specs.Limits.{AreDistinct};
 ghost use Rattle.flow_text.specs.Terminals.{is_marked};
 ghost use Rattle.flow_text.specs.TerminalMarks.{with_mark};
 ghost use Rattle.flow_text.specs.Problem.{lacks_terminals};
@@ -21,7 +21,7 @@ impl Model for Terminals {
     ghost use Rattle.std.specs.Prelude.{◌≡◌, ◌++◌, ℕ};
     ghost use Rattle.std.specs.Ordering.{nat_cmp};
     ghost use Rattle.std.specs.BTreeSet as sorted;
-    ghost use Rattle.flow_net.specs.Nets.{AreDistinct};
+    ghost use Rattle.flow_net.specs.Limits.{AreDistinct};
     ghost use Rattle.flow_text.specs.Terminals.{Marks, is_marked};
 
     ghost Value = { Marks };

@@ -7,7 +7,7 @@ use std::alloc::Global;
 use std::process::Abort;
 use std::test::Fail;
 
-// Refused problems: the text, the line of the fault and its words.
+/// Refused problems: the text, the line of the fault and its words.
 const PROBLEM_FAULTS: [(&str, u64, &str); 24] = [
     ("p max 2 0\nx\n", 2, "unknown line"),
     ("p max 2 0\npp max 2 0\n", 2, "unknown line"),
@@ -43,7 +43,7 @@ const PROBLEM_FAULTS: [(&str, u64, &str); 24] = [
     ("c only\n", 2, "problem line missing"),
 ];
 
-// Refused solutions to a problem of two nodes, in the same way.
+/// Refused solutions to a problem of two nodes, in the same way.
 const SOLUTION_FAULTS: [(&str, u64, &str); 10] = [
     ("", 1, "solution line missing"),
     ("f\n", 1, "solution line missing"),
@@ -62,10 +62,10 @@ const TOO_MANY_FLOW_LINES: ReadFault = ReadFault::Fault {
     code: FaultCode::TooManyFlowLines,
 };
 
-// The greatest number of 128 bits.
+/// The greatest number of 128 bits.
 const GREATEST: u128 = 340_282_366_920_938_463_463_374_607_431_768_211_455;
 
-// Fields, limits, and what `number` answers.
+/// Fields, limits, and what `number` answers.
 const NUMBERS: [(&[u8], u128, Number); 10] = [
     (b"", 5, Number::NotDigits),
     (b"5", 5, Number::Value(5)),
@@ -83,7 +83,7 @@ const NUMBERS: [(&[u8], u128, Number); 10] = [
     (&[b'0'; 150], 0, Number::Value(0)),
 ];
 
-// Reads a problem whose first piece is so long and whose other pieces are at most so long, and checks that a refusal stays.
+/// Reads a problem whose first piece is so long and whose other pieces are at most so long, and checks that a refusal stays.
 pub(crate) fn read_problem(
     rt: &impl Abort,
     alloc: Global,
@@ -110,7 +110,7 @@ pub(crate) fn read_problem(
     reader.finish()
 }
 
-// The same of a solution to a problem of two nodes.
+/// The same of a solution to a problem of two nodes.
 pub(crate) fn read_solution(
     rt: &impl Abort,
     alloc: Global,
@@ -137,7 +137,7 @@ pub(crate) fn read_solution(
     reader.finish()
 }
 
-// The line and the words of a refusal.
+/// The line and the words of a refusal.
 fn told<T: Drop>(rt: &impl Abort, answer: Result<T, ReadFault>) -> Option<(u64, &'static str)> {
     match answer {
         Ok(_) => None,
@@ -146,7 +146,7 @@ fn told<T: Drop>(rt: &impl Abort, answer: Result<T, ReadFault>) -> Option<(u64, 
     }
 }
 
-// Reads a problem whole, cut in two at each place, and one byte at a time, and checks what each reading is refused with.
+/// Reads a problem whole, cut in two at each place, and one byte at a time, and checks what each reading is refused with.
 fn check_problem_fault(rt: &impl Abort, alloc: Global, text: &str, line: u64, words: &str) {
     let bytes = text.as_bytes();
     for first in 0..bytes.len() + 1 {
@@ -157,7 +157,7 @@ fn check_problem_fault(rt: &impl Abort, alloc: Global, text: &str, line: u64, wo
     assert_eq!(rt; told(rt, answer), Some((line, words)), "{text}");
 }
 
-// The same of a solution to a problem of two nodes.
+/// The same of a solution to a problem of two nodes.
 fn check_solution_fault(rt: &impl Abort, alloc: Global, text: &str, line: u64, words: &str) {
     let bytes = text.as_bytes();
     for first in 0..bytes.len() + 1 {
@@ -198,10 +198,10 @@ fn lines_of_the_greatest_length(rt: HostRuntime) {
     }
 }
 
-// The bytes of a solution of one flow line more than there may be: 4, and 8 for each flow line.
+/// The bytes of a solution of one flow line more than there may be: 4, and 8 for each flow line.
 const TOO_MANY_BYTES: usize = 4 + 8 * (MOST_FLOW_LINES + 1);
 
-// Such a solution.
+/// Such a solution.
 fn too_long_solution(alloc: Global) -> Result<Vec<u8>, Fail> {
     let mut text = Vec::with_capacity(alloc, TOO_MANY_BYTES)?;
     text.extend_from_slice(b"s 0\n")?;
@@ -211,8 +211,8 @@ fn too_long_solution(alloc: Global) -> Result<Vec<u8>, Fail> {
     Ok(text)
 }
 
-// Feeds a solution to a problem of two nodes in pieces of so many bytes: how many were taken and how many flow lines were
-// kept before the first that was refused, and its refusal, which stays.
+/// Feeds a solution to a problem of two nodes in pieces of so many bytes: how many were taken and how many flow lines were
+/// kept before the first that was refused, and its refusal, which stays.
 fn first_refused(
     rt: &impl Abort,
     alloc: Global,
@@ -250,7 +250,7 @@ fn too_many_flow_lines_at_once(rt: HostRuntime) -> Result<(), Fail> {
     Ok(())
 }
 
-// Byte 10 of the last line is refused.
+/// Byte 10 of the last line is refused.
 #[test]
 fn too_many_flow_lines_byte_by_byte(rt: HostRuntime) -> Result<(), Fail> {
     let text = too_long_solution(rt.alloc())?;
@@ -262,8 +262,8 @@ fn too_many_flow_lines_byte_by_byte(rt: HostRuntime) -> Result<(), Fail> {
     Ok(())
 }
 
-// Pieces of 7 bytes cut lines of 8 bytes at each of their places: of the whole pieces and 2 bytes, these 2 are refused.
-// Two pieces cut at every place of the text would be 32 million readings of it, which is out of reach.
+/// Pieces of 7 bytes cut lines of 8 bytes at each of their places: of the whole pieces and 2 bytes, these 2 are refused.
+/// Two pieces cut at every place of the text would be 32 million readings of it, which is out of reach.
 #[test]
 fn too_many_flow_lines_in_pieces(rt: HostRuntime) -> Result<(), Fail> {
     let text = too_long_solution(rt.alloc())?;

@@ -6,10 +6,10 @@ ghost use Rattle.flow_text.specs.UsualLines.{IsLeading, IsNumberUntil, IsLetter,
 
 use crate::limits::SHORT_DIGITS;
 
-// The letter, a blank, and three numbers with the byte behind each.
+/// The letter, a blank, and three numbers with the byte behind each.
 const USUAL_BYTES: usize = 2 + 3 * (SHORT_DIGITS + 1);
 
-// The value of the digits from `start` on, at most `SHORT_DIGITS`, and the place behind them.
+/// The value of the digits from `start` on, at most `SHORT_DIGITS`, and the place behind them.
 #[inline(always)]
 fn leading_digits(text: &[u8], start: usize) -> (u64, usize)
     requires { start + SHORT_DIGITS ≤ length text.now }
@@ -28,8 +28,8 @@ fn leading_digits(text: &[u8], start: usize) -> (u64, usize)
     (value, start + SHORT_DIGITS)
 }
 
-// The value of the number that begins at `start`, where it has at most `SHORT_DIGITS` digits and this byte is behind it, and the place of
-// that byte.
+/// The value of the number that begins at `start`, where it has at most `SHORT_DIGITS` digits and this byte is behind it, and the place of
+/// that byte.
 #[inline(always)]
 fn number_until(text: &[u8], start: usize, end: u8) -> Option<(u64, usize)>
     requires { start + SHORT_DIGITS + 1 ≤ length text.now }

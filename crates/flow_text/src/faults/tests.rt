@@ -1,6 +1,6 @@
 use crate::FaultCode;
 
-// The words of the faults of a problem.
+/// The words of the faults of a problem.
 const PROBLEM_WORDS: [(FaultCode, &str); 17] = [
     (FaultCode::LineTooLong, "line too long"),
     (FaultCode::UnknownLine, "unknown line"),
@@ -24,7 +24,7 @@ const PROBLEM_WORDS: [(FaultCode, &str); 17] = [
     (FaultCode::AlreadyTerminal, "node is already a terminal"),
 ];
 
-// The words of the faults that only a solution has.
+/// The words of the faults that only a solution has.
 const SOLUTION_WORDS: [(FaultCode, &str); 5] = [
     (FaultCode::SecondSolutionLine, "second solution line"),
     (FaultCode::SolutionLineMissing, "solution line missing"),

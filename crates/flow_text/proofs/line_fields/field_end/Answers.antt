@@ -4,7 +4,10 @@ use Rattle.flow_text.proofs.line_fields.field_end.Goals as goal
 
 pub returns-then-is_blank_byte-clause-first : goal.returns-then-is_blank_byte-clause-first
 returns-then-is_blank_byte-clause-first c =
-    fields_of-at c.args.line.now c.args.start c.loop-i.i (omega arith) (omega arith) c.loop-i.invariant (λ h. sym c.is_blank_byte.ensures ∙ c.if-is_blank_byte.true)
+    fields_of-at c.args.line.now c.args.start c.loop-i.i (omega arith) (omega arith) c.loop-i.invariant
+    (λ h. sym c.is_blank_byte.ensures ∙ c.if-is_blank_byte.true)
 
 pub returns-clause-first : goal.returns-clause-first
-returns-clause-first c = fields_of-at c.args.line.now c.args.start (length c.args.line.now) (omega arith) (omega arith) (λ k low high. c.loop-i.invariant k low (omega arith)) (λ h. absurd (omega arith))
+returns-clause-first c =
+    fields_of-at c.args.line.now c.args.start (length c.args.line.now) (omega arith) (omega arith)
+    (λ k low high. c.loop-i.invariant k low (omega arith)) (λ h. absurd (omega arith))

@@ -3,17 +3,22 @@ use Rattle.flow_text.proofs.RuleLemmas.{of_comment, of_long, of_empty, of_fields
 use Rattle.flow_text.proofs.machine.judge_line.Goals as goal
 
 pub returns-then-begins_comment : goal.returns-then-begins_comment
-returns-then-begins_comment g c = of_comment g.J.Judge.rules g.J.Judge.with_record _ _ (sym c.begins_comment.ensures ∙ c.if-begins_comment.true)
+returns-then-begins_comment g c =
+    of_comment g.J.Judge.rules g.J.Judge.with_record _ _ (sym c.begins_comment.ensures ∙ c.if-begins_comment.true)
 
 pub returns-then-line-gt-LONGEST_LINE : goal.returns-then-line-gt-LONGEST_LINE
-returns-then-line-gt-LONGEST_LINE g c = of_long g.J.Judge.rules _ _ (sym c.begins_comment.ensures ∙ c.if-begins_comment.false) c.if-line-gt-LONGEST_LINE.true
+returns-then-line-gt-LONGEST_LINE g c =
+    of_long g.J.Judge.rules _ _ (sym c.begins_comment.ensures ∙ c.if-begins_comment.false)
+    c.if-line-gt-LONGEST_LINE.true
 
 pub returns-in_default : goal.returns-in_default
 returns-in_default g c =
-    of_empty g.J.Judge.rules g.J.Judge.with_record _ _ (sym c.begins_comment.ensures ∙ c.if-begins_comment.false) c.if-line-gt-LONGEST_LINE.false (sym c.fields-others.ensures ∙ c.in_default.ensures.steps.0)
+    of_empty g.J.Judge.rules g.J.Judge.with_record _ _ (sym c.begins_comment.ensures ∙ c.if-begins_comment.false)
+    c.if-line-gt-LONGEST_LINE.false (sym c.fields-others.ensures ∙ c.in_default.ensures.steps.0)
 
 pub returns : goal.returns
 returns g c =
     Judges-along _ _ _ _ _ c.judge.result
-    (of_fields g.J.Judge.rules g.J.Judge.with_record _ _ _ _ (sym c.begins_comment.ensures ∙ c.if-begins_comment.false) c.if-line-gt-LONGEST_LINE.false (sym c.fields-others.ensures ∙ c.in-Some.ensures.steps))
-    c.judge.ensures
+    (of_fields g.J.Judge.rules g.J.Judge.with_record _ _ _ _
+    (sym c.begins_comment.ensures ∙ c.if-begins_comment.false) c.if-line-gt-LONGEST_LINE.false
+    (sym c.fields-others.ensures ∙ c.in-Some.ensures.steps)) c.judge.ensures

@@ -7,5 +7,6 @@ pub returns : goal.returns
 unfolding node_line
 returns g c =
     let room : 0 < c.put_number-end.result = omega (arith, decimal_10 c.args.node c.ranges.node.fits) in
-    let front = written_front c.put_number-end.new.bytes 16 c.put_number-end.result 110 (omega arith) room (omega arith) in
-    simp (c.push_bytes.ensures, front, c.put_number-end.ensures.written, append_assoc)
+    let front = written_front c.put_number-end.new.bytes 16 c.put_number-end.result 110 (omega arith) room
+    (omega arith) in
+    simp (c.push_short.ensures, front, c.put_number-end.ensures.written, append_assoc)

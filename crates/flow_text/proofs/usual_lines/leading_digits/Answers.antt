@@ -7,16 +7,21 @@ use Rattle.flow_text.proofs.usual_lines.leading_digits.Goals as goal
 pub loop-i-init : goal.loop-i-init
 loop-i-init c =
     let none : 0 ≡ c.args.start - c.args.start = omega arith in
-    subst (λ k. IsLeading (drop c.args.start c.args.text.now) 0 k) none (IsLeading-none (drop c.args.start c.args.text.now))
+    subst (λ k. IsLeading (drop c.args.start c.args.text.now) 0 k) none
+    (IsLeading-none (drop c.args.start c.args.text.now))
 
 pub overflow_mul-value : goal.overflow_mul-value
 overflow_mul-value c =
-    let more : c.loop-i.value * 10 + 9 < 10000000000000000000 = fits-nineteen (c.loop-i.i - c.args.start + 1) _ (omega arith) (fits-more _ _ 9 (omega arith) c.loop-i.invariant.fits) in
+    let more : c.loop-i.value * 10 + 9 < 10000000000000000000 =
+    fits-nineteen (c.loop-i.i - c.args.start + 1) _ (omega arith)
+    (fits-more _ _ 9 (omega arith) c.loop-i.invariant.fits) in
     omega arith
 
 pub overflow_add-value : goal.overflow_add-value
 overflow_add-value c =
-    let more : c.loop-i.value * 10 + 9 < 10000000000000000000 = fits-nineteen (c.loop-i.i - c.args.start + 1) _ (omega arith) (fits-more _ _ 9 (omega arith) c.loop-i.invariant.fits) in
+    let more : c.loop-i.value * 10 + 9 < 10000000000000000000 =
+    fits-nineteen (c.loop-i.i - c.args.start + 1) _ (omega arith)
+    (fits-more _ _ 9 (omega arith) c.loop-i.invariant.fits) in
     omega arith
 
 pub loop-i-preserved : goal.loop-i-preserved
@@ -26,5 +31,6 @@ loop-i-preserved c =
     let fits : byte < 256 = omega arith in
     let nine : less_zero byte ≤ 9 = c.if-digit-gt9.false in
     let digit : byte - 48 ≡ less_zero byte = less_zero-digit byte fits nine in
-    subst (λ d. IsLeading (drop c.args.start c.args.text.now) (c.loop-i.value * 10 + d) (c.loop-i.i + 1 - c.args.start)) digit
-    (IsLeading-at c.args.text.now c.loop-i.value c.args.start c.loop-i.i (omega arith) (omega arith) (is_digit-less_zero byte fits nine) (omega arith) c.loop-i.invariant)
+    subst (λ d. IsLeading (drop c.args.start c.args.text.now) (c.loop-i.value * 10 + d) (c.loop-i.i + 1 - c.args.start))
+    digit (IsLeading-at c.args.text.now c.loop-i.value c.args.start c.loop-i.i (omega arith) (omega arith)
+    (is_digit-less_zero byte fits nine) (omega arith) c.loop-i.invariant)

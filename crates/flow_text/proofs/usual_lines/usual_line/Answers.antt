@@ -7,5 +7,5 @@ returns c =
     let a = c.in_ok-src.ensures in
     let b = c.in_ok-dst.ensures in
     let n = c.in_ok-number.ensures in
-    IsUsual-at c.args.letter c.args.text.now _ _ _ c.in_ok-src.first c.in_ok-dst.second c.in_ok-number.at c.requires (omega arith) c.if-text-letter.false c.if-text-ne32.false
-    a.0 b.0 n.0 a.2 b.2 n.2
+    IsUsual-at c.args.letter c.args.text.now _ _ _ c.in_ok-src.first c.in_ok-dst.second c.in_ok-number.at c.requires
+    (omega arith) c.if-text-letter.false c.if-text-ne32.false a.0 b.0 n.0 a.2 b.2 n.2

@@ -13,14 +13,16 @@ none : (n : ℕ) → true ≡ (n == 0) → n ≡ 0
 none n h = grind arith
 
 -- what is held, where the line is no comment
-held_len : {K : Type 0} (rules : Rules K) (known_of : List (List ℕ) → K) (old : State K) (b : List ℕ) (items : List ℕ) → HasRead rules known_of old b → old.comment ≡ false → items ≡ old.held
+held_len : {K : Type 0} (rules : Rules K) (known_of : List (List ℕ) → K) (old : State K) (b : List ℕ) (items : List ℕ)
+    → HasRead rules known_of old b → old.comment ≡ false → items ≡ old.held
     → length items ≡ length (rest b)
 held_len rules known_of old b items r plain same = ap length (same ∙ holds_plain rules known_of old b r plain)
 
 pub returns-then-self : goal.returns-then-self
 returns-then-self g c = λ known_of adds b r.
     let comment : c.args.self.now.comment ≡ true = rw (← c.self.view_is) c.if-self.true in
-    Finals-line g.J.Judge.rules known_of g.J.Judge.with_record adds _ _ b _ r (comment-some (rest b) (sym r.in_comment ∙ comment)) c.end_line.ensures
+    Finals-line g.J.Judge.rules known_of g.J.Judge.with_record adds _ _ b _ r
+    (comment-some (rest b) (sym r.in_comment ∙ comment)) c.end_line.ensures
 
 pub returns-then-is_empty : goal.returns-then-is_empty
 returns-then-is_empty g c = λ known_of adds b r.
@@ -32,4 +34,5 @@ pub returns : goal.returns
 returns g c = λ known_of adds b r.
     let plain : c.args.self.now.comment ≡ false = rw (← c.self.view_is) c.if-self.false in
     let len = held_len g.J.Judge.rules known_of _ b _ r plain (ap (λ s. s.held) c.self.view_is) in
-    Finals-line g.J.Judge.rules known_of g.J.Judge.with_record adds _ _ b _ r (rw (← len) (some _ c.if-is_empty.ensures)) c.end_line-2.ensures
+    Finals-line g.J.Judge.rules known_of g.J.Judge.with_record adds _ _ b _ r
+    (rw (← len) (some _ c.if-is_empty.ensures)) c.end_line-2.ensures

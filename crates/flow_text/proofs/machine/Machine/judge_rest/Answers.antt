@@ -1,4 +1,5 @@
-use Rattle.std.proofs.Common.{refl, sym, ◌∙◌, arith, length, ◌<◌, ◌≡◌, ◌≤◌, ◌==◌, ◌+◌, ℕ, true, false, length-append, inl, inr, true≢false}
+use Rattle.std.proofs.Common.{refl, sym, ◌∙◌, arith, length, ◌<◌, ◌≡◌, ◌≤◌, ◌==◌, ◌+◌, ℕ, true, false, length-append}
+use Rattle.std.proofs.Common.{inl, inr, true≢false}
 use Rattle.std.proofs.lemmas.Bool.{cases_lt}
 use Rattle.flow_text.proofs.ReaderLemmas.{comment-append}
 use Rattle.flow_text.proofs.RuleLemmas.{of_long}
@@ -14,9 +15,13 @@ above n m h = elim (cases_lt m n) [ inl lt ↦ lt | inr le ↦ absurd (true≢fa
 
 pub returns-in-Err : goal.returns-in-Err
 returns-in-Err g c =
-    let long : LONGEST_LINE < length c.self.inside.held.items + length c.args.tail.now = above _ LONGEST_LINE c.in-Err.ensures.variant.1 in
+    let long : LONGEST_LINE < length c.self.inside.held.items + length c.args.tail.now =
+    above _ LONGEST_LINE c.in-Err.ensures.variant.1 in
     rw (← c.self.view_is) (record {
       plain = c.if-self.false;
       counts = refl;
-      tells = of_long g.J.Judge.rules _ _ (comment-append c.self.inside.held.items c.args.tail.now (some _ c.if-is_empty.ensures) ∙ c.self.invariant.plain) (rw length-append long);
+      tells =
+          of_long g.J.Judge.rules _ _ (comment-append c.self.inside.held.items c.args.tail.now
+          (some _ c.if-is_empty.ensures) ∙ c.self.invariant.plain)
+          (rw length-append long);
     })

@@ -3,29 +3,37 @@ use Rattle.std.proofs.lemmas.List.{take_rest, length-drop}
 use Rattle.flow_text.specs.Rules.{early_fault}
 use Rattle.flow_text.specs.Reading.{TellsAt, HasRead, Takes}
 use Rattle.flow_text.proofs.ReaderLemmas.{HasRead-ends, Tells-ends}
-use Rattle.flow_text.proofs.PieceLemmas.{Found-from, no_end_left, text-more, text-all, text-last, Takes-from}
+use Rattle.flow_text.proofs.PieceLemmas.{LineEndsAt-from, no_end_left, text-more, text-all, text-last, Takes-from}
 use Rattle.flow_text.proofs.machine.Machine.take.Goals as goal
 
 pub loop-at-preserved : goal.loop-at-preserved
 loop-at-preserved g c =
     let ends = rw (c.in-Ok-Some.field-0-is, take_rest c.args.piece.now c.loop-at.start) at c.in-Ok-Some.ensures in
-    let f = Found-from (drop c.loop-at.start c.args.piece.now) c.in-Ok-Some.at ends.0 in
+    let f = LineEndsAt-from (drop c.loop-at.start c.args.piece.now) c.in-Ok-Some.at ends.0 in
     record {
       within = omega (arith, f.within, length-drop c.loop-at.start c.args.piece.now);
-      reads = λ known_of adds b r. subst (λ (text : List ℕ). HasRead g.J.Judge.rules known_of c.end_first.new.self text) (text-more b c.args.piece.now c.loop-at.start c.in-Ok-Some.at f)
-          (HasRead-ends g.J.Judge.rules known_of g.J.Judge.with_record adds _ _ _ _ f.none (c.loop-at.invariant.reads known_of adds b r) ends.1);
+      reads = λ known_of adds b r.
+          subst (λ (text : List ℕ). HasRead g.J.Judge.rules known_of c.end_first.new.self text)
+          (text-more b c.args.piece.now c.loop-at.start c.in-Ok-Some.at f)
+          (HasRead-ends g.J.Judge.rules known_of g.J.Judge.with_record adds _ _ _ _ f.none
+          (c.loop-at.invariant.reads known_of adds b r) ends.1);
     }
 
 pub returns-in-Ok-None : goal.returns-in-Ok-None
 returns-in-Ok-None g c = λ known_of adds b r.
     let none = rw (c.in-Ok-None.field-0-is, take_rest c.args.piece.now c.loop-at.start) at c.in-Ok-None.ensures in
     let held = rw (take_rest c.args.piece.now c.loop-at.start, none.1) at c.hold.ensures in
-    subst (λ (text : List ℕ). Takes g.J.Judge.rules known_of text c.hold.result c.hold.new.self) (text-last b c.args.piece.now c.loop-at.start)
-    (Takes-from g.J.Judge.rules known_of c.loop-at.self _ _ _ _ (no_end_left _ none.0) (c.loop-at.invariant.reads known_of adds b r) held)
+    subst (λ (text : List ℕ). Takes g.J.Judge.rules known_of text c.hold.result c.hold.new.self)
+    (text-last b c.args.piece.now c.loop-at.start)
+    (Takes-from g.J.Judge.rules known_of c.loop-at.self _ _ _ _ (no_end_left _ none.0)
+    (c.loop-at.invariant.reads known_of adds b r) held)
 
 pub returns-in-Err : goal.returns-in-Err
 returns-in-Err g c = λ known_of adds b r.
     let fails = rw (take_rest c.args.piece.now c.loop-at.start) at c.in-Err.ensures in
-    let f = Found-from (drop c.loop-at.start c.args.piece.now) fails.0 fails.1 in
-    subst (λ (text : List ℕ). TellsAt c.end_first.new.self.count c.in-Err.refusal (early_fault g.J.Judge.rules known_of text)) (text-all b c.args.piece.now c.loop-at.start fails.0 f)
-    (Tells-ends g.J.Judge.rules known_of c.loop-at.self c.end_first.new.self _ _ (drop (c.loop-at.start + (fails.0 + 1)) c.args.piece.now) _ f.none (c.loop-at.invariant.reads known_of adds b r) fails.2)
+    let f = LineEndsAt-from (drop c.loop-at.start c.args.piece.now) fails.0 fails.1 in
+    subst (λ (text : List ℕ). TellsAt c.end_first.new.self.count c.in-Err.refusal
+    (early_fault g.J.Judge.rules known_of text)) (text-all b c.args.piece.now c.loop-at.start fails.0 f)
+    (Tells-ends g.J.Judge.rules known_of c.loop-at.self c.end_first.new.self _ _
+    (drop (c.loop-at.start + (fails.0 + 1)) c.args.piece.now) _ f.none
+    (c.loop-at.invariant.reads known_of adds b r) fails.2)

@@ -5,7 +5,8 @@ use Rattle.flow_text.proofs.machine.Machine.take.Given as goal
 abbrev pub invariant-loop-at : goal.invariant-loop-at
 invariant-loop-at g l = record {
   within : l.start ≤ length l.piece;
-  reads : (known_of : List (List ℕ) → _) → Adds g.J.Judge.rules known_of g.J.Judge.with_record → (b : List ℕ) → HasRead g.J.Judge.rules known_of l.fn.self b
+  reads : (known_of : List (List ℕ) → _) → Adds g.J.Judge.rules known_of g.J.Judge.with_record → (b : List ℕ)
+      → HasRead g.J.Judge.rules known_of l.fn.self b
       → HasRead g.J.Judge.rules known_of l.self (b ++ take l.start l.piece);
 }
 

@@ -7,6 +7,16 @@ use Rattle.flow_text.proofs.problem_lines.ProblemLines.problem_line.Goals as goa
 pub returns-in-Ok : goal.returns-in-Ok
 returns-in-Ok c = λ kind.
     let ok = c.in-Ok.ensures.tests kind in
-    let none : c.self.inside.declared ≡ None = none_from c.self.inside.declared (sym c.is_some.ensures ∙ c.if-is_some.false) in
+    let none : c.self.inside.declared ≡ None =
+    none_from c.self.inside.declared (sym c.is_some.ensures ∙ c.if-is_some.false) in
     let now : c.args.self.now ≡ known_from None = sym c.self.view_is ∙ ap known_from none in
-    rw (now, c.new.ensures) (ok.0, ap (λ (size : ℕ × ℕ). let k : Known = record { size = Some size; marks = (known_from None).marks; arcs = (known_from None).arcs } in k) ok.1)
+    rw (now, c.new.ensures) (
+      ok.0,
+      ap (λ (size : ℕ × ℕ).
+          let k : Known = record {
+            size = Some size;
+            marks = (known_from None).marks;
+            arcs = (known_from None).arcs;
+          } in
+          k) ok.1,
+    )

@@ -11,7 +11,9 @@ returns c =
     rw now (elim c.match-keep_arc.branch [
       | in-Ok-true w ↦
           let kept = rw w.in-Ok-true.field-0-test at w.in-Ok-true.ensures in
-          let of = of_usual c.in-Some.declared c.args.text.now (record { src = c.in-Some-usual_line.src; dst = c.in-Some-usual_line.dst; cap = c.in-Some-usual_line.cap }) c.in-Some-usual_line.at u kept.0 kept.1 kept.2 in
+          let of = of_usual c.in-Some.declared c.args.text.now
+          (record { src = c.in-Some-usual_line.src; dst = c.in-Some-usual_line.dst; cap = c.in-Some-usual_line.cap })
+          c.in-Some-usual_line.at u kept.0 kept.1 kept.2 in
           rw w.result-is (u.first, of.0, ap known_with kept.3 ∙ of.1)
       | in-Ok-false w ↦
           let kept = rw w.in-Ok-false.field-0-test at w.in-Ok-false.ensures in

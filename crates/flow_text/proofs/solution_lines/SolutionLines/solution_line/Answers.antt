@@ -7,5 +7,11 @@ returns-in-Ok c = λ kind.
     let ok = c.in-Ok.ensures.tests kind in
     rw (← c.self.view_is) (
       rw (sym c.is_some.ensures ∙ c.if-is_some.false) ok.0,
-      ap (λ (value : ℕ). let stated : Stated = record { nodes = c.self.inside.nodes; value = Some value; lines = c.self.inside.lines.items } in stated) ok.1,
+      ap (λ (value : ℕ).
+          let stated : Stated = record {
+            nodes = c.self.inside.nodes;
+            value = Some value;
+            lines = c.self.inside.lines.items;
+          } in
+          stated) ok.1,
     )

@@ -21,4 +21,5 @@ returns-in-Ok-clause-limits c = λ nodes b r.
 pub returns-in-Err-clause-whole : goal.returns-in-Err-clause-whole
 unfolding solution
 returns-in-Err-clause-whole c = λ nodes b r.
-    accepted-fault _ _ c.in-Err.fault (c.in-Err.ensures.whole (stated_of nodes) (Adds-solution nodes) b (rw (← c.self.view_is) at r))
+    accepted-fault _ _ c.in-Err.fault
+    (c.in-Err.ensures.whole (stated_of nodes) (Adds-solution nodes) b (rw (← c.self.view_is) at r))

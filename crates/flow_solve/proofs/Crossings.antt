@@ -1,7 +1,9 @@
 -- Half-arcs as a search meets them: packed by the node that they leave, and crossed in the search's direction.
-use Rattle.std.proofs.Common.{◌≡◌, ◌≢◌, ℕ, ◌+◌, ◌-◌, ◌*◌, ◌/◌, ◌%◌, ◌≤◌, ◌<◌, Bool, true, false, IsTrue, cond, eqb, List, length, get_or, refl, ◌∙◌, sym, ap, subst, inl, inr, eq-eqb, arith}
+use Rattle.std.proofs.Common.{◌≡◌, ◌≢◌, ℕ, ◌+◌, ◌-◌, ◌*◌, ◌/◌, ◌%◌, ◌≤◌, ◌<◌, Bool, true, false, IsTrue, cond, eqb}
+use Rattle.std.proofs.Common.{List, length, get_or, refl, ◌∙◌, sym, ap, subst, inl, inr, eq-eqb, arith}
 use Rattle.std.proofs.lemmas.Bool.{cases_eq, ne_eqb}
-use Rattle.flow_net.specs.Nets.{Net, IsNet, arc_at}
+use Rattle.flow_net.specs.Nets.{Net, arc_at}
+use Rattle.flow_net.specs.Limits.{IsNet}
 use Rattle.flow_net.specs.Residual.{half_tail, half_head, tail_of, head_of, residual}
 use Rattle.flow_net.proofs.Zips.{tail_is_node}
 use Rattle.flow_solve.specs.declared.searching.Direction.{Direction}
@@ -30,15 +32,23 @@ twin_twin h = elim (cases_eq (h % 2) 0) [
 -- it runs the other way
 turned : (T : Type 0) (a b : T) (h : ℕ) → cond (eqb (twin_of h % 2) 0) a b ≡ cond (eqb (h % 2) 0) b a
 turned T a b h = elim (cases_eq (h % 2) 0) [
-  | inl e ↦ let t = twin_even h e in ap (λ c. cond c a b) (ne_eqb (twin_of h % 2) 0 (omega arith)) ∙ sym (ap (λ c. cond c b a) (eq-eqb (h % 2) 0 e))
-  | inr n ↦ let t = twin_odd h n in ap (λ c. cond c a b) (eq-eqb (twin_of h % 2) 0 (omega arith)) ∙ sym (ap (λ c. cond c b a) (ne_eqb (h % 2) 0 n))
+  | inl e ↦
+      let t = twin_even h e in
+      ap (λ c. cond c a b) (ne_eqb (twin_of h % 2) 0 (omega arith)) ∙ sym (ap (λ c. cond c b a) (eq-eqb (h % 2) 0 e))
+  | inr n ↦
+      let t = twin_odd h n in
+      ap (λ c. cond c a b) (eq-eqb (twin_of h % 2) 0 (omega arith)) ∙ sym (ap (λ c. cond c b a) (ne_eqb (h % 2) 0 n))
 ]
 
 pub tail_twin : (net : Net) (h : ℕ) → tail_of net (twin_of h) ≡ head_of net h
-tail_twin net h = ap (λ i. half_tail (arc_at net i) (twin_of h)) (twin_arc h) ∙ turned ℕ (arc_at net (h / 2)).src (arc_at net (h / 2)).dst h
+tail_twin net h =
+    ap (λ i. half_tail (arc_at net i) (twin_of h)) (twin_arc h)
+    ∙ turned ℕ (arc_at net (h / 2)).src (arc_at net (h / 2)).dst h
 
 pub head_twin : (net : Net) (h : ℕ) → head_of net (twin_of h) ≡ tail_of net h
-head_twin net h = ap (λ i. half_head (arc_at net i) (twin_of h)) (twin_arc h) ∙ turned ℕ (arc_at net (h / 2)).dst (arc_at net (h / 2)).src h
+head_twin net h =
+    ap (λ i. half_head (arc_at net i) (twin_of h)) (twin_arc h)
+    ∙ turned ℕ (arc_at net (h / 2)).dst (arc_at net (h / 2)).src h
 
 -- the ends of the half-arc that is crossed
 pub near_crossed : (dir : Direction) (net : Net) (h : ℕ) → near_end dir net (crossed dir h) ≡ tail_of net h
@@ -61,21 +71,30 @@ crossed_within Backwards h m l = omega (arith, twin_arc h)
 grouped : (b : Bool) (nodes tail p : ℕ) → cond b nodes (tail - 1) ≡ p → p < nodes → 1 ≤ tail → tail ≡ p + 1
 grouped b nodes tail p e l t = grind arith
 
-pub group_tail : (net : Net) (h p : ℕ) → IsNet net → h < 2 * length net.arcs → group_of net h ≡ p → p < net.nodes → tail_of net h ≡ p + 1
-group_tail net h p n l e m = grouped (eqb (arc_at net (h / 2)).src (arc_at net (h / 2)).dst) net.nodes (tail_of net h) p e m (tail_is_node net h n l).0
+pub group_tail : (net : Net) (h p : ℕ) → IsNet net → h < 2 * length net.arcs → group_of net h ≡ p → p < net.nodes
+    → tail_of net h ≡ p + 1
+group_tail net h p n l e m =
+    grouped (eqb (arc_at net (h / 2)).src (arc_at net (h / 2)).dst) net.nodes (tail_of net h) p e m
+    (tail_is_node net h n l).0
 
 loop_ends : (b : Bool) (u v : ℕ) → u ≡ v → cond b u v ≡ cond b v u
 loop_ends true u v e = e
 loop_ends false u v e = sym e
 
 pub tail_group : (net : Net) (h : ℕ) → tail_of net h ≢ head_of net h → group_of net h ≡ tail_of net h - 1
-tail_group net h n = ap (λ b. cond b net.nodes (tail_of net h - 1))
-    (ne_eqb (arc_at net (h / 2)).src (arc_at net (h / 2)).dst (λ e. n (loop_ends (eqb (h % 2) 0) (arc_at net (h / 2)).src (arc_at net (h / 2)).dst e)))
+tail_group net h n =
+    ap (λ b. cond b net.nodes (tail_of net h - 1))
+    (ne_eqb (arc_at net (h / 2)).src (arc_at net (h / 2)).dst
+    (λ e. n (loop_ends (eqb (h % 2) 0) (arc_at net (h / 2)).src (arc_at net (h / 2)).dst e)))
 
 -- a search came over a half-arc that leaves a marked place
-pub come_new : (net : Net) (flows : List ℕ) (dir : Direction) (dist via : List ℕ) (p h place : ℕ) → IsNet net → h < 2 * length net.arcs → place < net.nodes → group_of net h ≡ place → head_of net h ≡ p + 1 → 1 ≤ residual net flows (crossed dir h) → IsMarked dist place → get_or dist p 0 ≡ get_or dist place 0 + 1 → get_or via p 0 ≡ crossed dir h → IsCome net flows dir dist via p
+pub come_new : (net : Net) (flows : List ℕ) (dir : Direction) (dist via : List ℕ) (p h place : ℕ) → IsNet net
+    → h < 2 * length net.arcs → place < net.nodes → group_of net h ≡ place → head_of net h ≡ p + 1
+    → 1 ≤ residual net flows (crossed dir h) → IsMarked dist place → get_or dist p 0 ≡ get_or dist place 0 + 1
+    → get_or via p 0 ≡ crossed dir h → IsCome net flows dir dist via p
 come_new net flows dir dist via p h place n l inside e leads r m level by =
-    let near : near_end dir net (crossed dir h) ≡ place + 1 = near_crossed dir net h ∙ group_tail net h place n l e inside in
+    let near : near_end dir net (crossed dir h) ≡ place + 1 =
+    near_crossed dir net h ∙ group_tail net h place n l e inside in
     let back : place + 1 - 1 ≡ place = omega arith in
     let at : near_end dir net (get_or via p 0) ≡ place + 1 = ap (near_end dir net) by ∙ near in
     let at_place : near_end dir net (get_or via p 0) - 1 ≡ place = ap (λ v. v - 1) at ∙ back in
@@ -90,7 +109,11 @@ come_new net flows dir dist via p h place n l inside e leads r m level by =
     }
 
 -- a closed set takes in where it leads
-pub closed_step : (net : Net) (flows : List ℕ) (dir : Direction) (side : ℕ → Bool) (h place : ℕ) → IsNet net → h < 2 * length net.arcs → place < net.nodes → group_of net h ≡ place → IsClosedFor dir net flows side → IsTrue (side (place + 1)) → 1 ≤ residual net flows (crossed dir h) → IsTrue (side (head_of net h))
+pub closed_step : (net : Net) (flows : List ℕ) (dir : Direction) (side : ℕ → Bool) (h place : ℕ) → IsNet net
+    → h < 2 * length net.arcs → place < net.nodes → group_of net h ≡ place → IsClosedFor dir net flows side
+    → IsTrue (side (place + 1)) → 1 ≤ residual net flows (crossed dir h) → IsTrue (side (head_of net h))
 closed_step net flows dir side h place n l inside e closed t r =
-    let near : near_end dir net (crossed dir h) ≡ place + 1 = near_crossed dir net h ∙ group_tail net h place n l e inside in
-    subst (λ v. IsTrue (side v)) (far_crossed dir net h) (closed (crossed dir h) (crossed_within dir h (length net.arcs) l) (subst (λ v. IsTrue (side v)) (sym near) t) r)
+    let near : near_end dir net (crossed dir h) ≡ place + 1 =
+    near_crossed dir net h ∙ group_tail net h place n l e inside in
+    subst (λ v. IsTrue (side v)) (far_crossed dir net h)
+    (closed (crossed dir h) (crossed_within dir h (length net.arcs) l) (subst (λ v. IsTrue (side v)) (sym near) t) r)

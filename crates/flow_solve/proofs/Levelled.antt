@@ -1,9 +1,12 @@
 -- The ranks and levels that a search backwards gives.
-use Rattle.std.proofs.Common.{◌≡◌, ◌≢◌, ℕ, zero, suc, ◌+◌, ◌-◌, ◌*◌, ◌≤◌, ◌<◌, ◌⊎◌, Bool, true, false, IsTrue, IsFalse, cond, eqb, ◌||◌, List, [], ◌∷◌, length, get_or, refl, ◌∙◌, sym, ap, subst, inl, inr, arith}
+use Rattle.std.proofs.Common.{◌≡◌, ◌≢◌, ℕ, zero, suc, ◌+◌, ◌-◌, ◌*◌, ◌≤◌, ◌<◌, ◌⊎◌, Bool, true, false, IsTrue, IsFalse}
+use Rattle.std.proofs.Common.{cond, eqb, ◌||◌, List, [], ◌∷◌, length, get_or, refl, ◌∙◌, sym, ap, subst, inl, inr}
+use Rattle.std.proofs.Common.{arith}
 use Rattle.std.specs.Prelude.{slice_index}
 use Rattle.std.specs.List.{All}
 use Rattle.std.proofs.lemmas.Bool.{cases_eq, cases_lt, cases_Bool, ne_eqb}
-use Rattle.flow_net.specs.Nets.{Net, IsNet, IsNode}
+use Rattle.flow_net.specs.Nets.{Net, IsNode}
+use Rattle.flow_net.specs.Limits.{IsNet}
 use Rattle.flow_net.specs.NodeSets.{one_of}
 use Rattle.flow_net.specs.Residual.{tail_of, head_of, residual}
 use Rattle.flow_net.proofs.Zips.{tail_is_node}
@@ -51,7 +54,10 @@ just_one w (suc n) = elim (cases_eq w (n + 1)) [
 
 both_total : (w : ℕ) (ws : List ℕ) (n : ℕ) → total (wanted_at (w ∷ ws)) n ≤ total (is_just w) n + total (wanted_at ws) n
 both_total w ws zero = omega arith
-both_total w ws (suc n) = let old = both_total w ws n in let s = either_step (eqb w (n + 1)) (one_of ws (n + 1)) 0 0 (omega arith) in omega arith
+both_total w ws (suc n) =
+    let old = both_total w ws n in
+    let s = either_step (eqb w (n + 1)) (one_of ws (n + 1)) 0 0 (omega arith) in
+    omega arith
 
 none_total : (n : ℕ) → total (wanted_at []) n ≡ 0
 none_total zero = refl
@@ -69,16 +75,24 @@ total_few ws zero = omega arith
 total_few ws (suc n) = one_more (one_of ws (n + 1)) (total (wanted_at ws) n) n (total_few ws n)
 
 wanted_few : (s dist : List ℕ) (wanted : ℕ) → IsCount s dist wanted → wanted ≤ length dist
-wanted_few s dist wanted c = omega (arith, c.count, spread_most (wanted_at s) dist (length dist), total_few s (length dist))
+wanted_few s dist wanted c =
+    omega (arith, c.count, spread_most (wanted_at s) dist (length dist), total_few s (length dist))
 
 -- where as many were seen as there are, all were
-all_seen : (s dist : List ℕ) (wanted v : ℕ) → IsCount s dist wanted → length s ≤ wanted → one_of s v ≡ true → 1 ≤ v → v ≤ length dist → seen dist v ≡ true
+all_seen : (s dist : List ℕ) (wanted v : ℕ) → IsCount s dist wanted → length s ≤ wanted → one_of s v ≡ true → 1 ≤ v
+    → v ≤ length dist → seen dist v ≡ true
 all_seen s dist wanted v c l i a b = elim (cases_lt (get_or dist (v - 1) 0) WANTED) [
   | inl m ↦ seen_marked dist v a b m
   | inr m ↦
       let node : v - 1 + 1 ≡ v = omega arith in
       let one : wanted_at s (v - 1) ≡ 1 = ap (λ w. cond (one_of s w) 1 0) node ∙ ap (λ b. cond b 1 0) i in
-      absurd (omega (arith, c.count, spread_missing (wanted_at s) dist (v - 1) (length dist) (omega arith) m, total_wanted s (length dist), one))
+      absurd (omega (
+        arith,
+        c.count,
+        spread_missing (wanted_at s) dist (v - 1) (length dist) (omega arith) m,
+        total_wanted s (length dist),
+        one,
+      ))
 ]
 
 -- ---- the level of the nodes that weren't seen
@@ -90,7 +104,8 @@ record IsTop (net : Net) (s xs dist : List ℕ) (top : ℕ) : Type 0 where
   far : (v : ℕ) → IsTrue (one_of s v) → IsFalse (seen dist v) → net.nodes ≤ top
 
 -- the search has seen all that it can: far above
-top_whole : (net : Net) (s t xs dist via : List ℕ) → IsSearched net xs Backwards t dist via → ((p : ℕ) → p < net.nodes → IsMarked dist p → IsDone net xs Backwards dist p) → IsTop net s xs dist net.nodes
+top_whole : (net : Net) (s t xs dist via : List ℕ) → IsSearched net xs Backwards t dist via
+    → ((p : ℕ) → p < net.nodes → IsMarked dist p → IsDone net xs Backwards dist p) → IsTop net s xs dist net.nodes
 top_whole net s t xs dist via f done = record {
   within = λ p l m. omega (arith, f.levels p l m);
   over = λ p l m. inl (done p l m);
@@ -98,7 +113,9 @@ top_whole net s t xs dist via f done = record {
 }
 
 -- it has stopped early, as it has seen all sources: as the last node that it saw
-top_early : (net : Net) (s t xs dist via queue : List ℕ) (tail wanted : ℕ) → IsSearched net xs Backwards t dist via → IsQueue dist queue tail → IsCount s dist wanted → length s ≤ wanted → All (IsNode net) s → 0 < tail → IsTop net s xs dist (slice_index dist (slice_index queue (tail - 1)))
+top_early : (net : Net) (s t xs dist via queue : List ℕ) (tail wanted : ℕ) → IsSearched net xs Backwards t dist via
+    → IsQueue dist queue tail → IsCount s dist wanted → length s ≤ wanted → All (IsNode net) s → 0 < tail
+    → IsTop net s xs dist (slice_index dist (slice_index queue (tail - 1)))
 top_early net s t xs dist via queue tail wanted f q c l nodes some = record {
   within = λ p m k. let w = q.waits p (omega (arith, f.size)) k in
       omega (arith, q.rises w.0 (tail - 1) (omega (arith, w.1)) (omega arith), ap (slice_index dist) w.2);
@@ -123,26 +140,35 @@ level_unseen : (dist : List ℕ) (top v : ℕ) → seen dist v ≡ false → lev
 level_unseen dist top v e = ap (λ b. cond b (cell_of dist v) top) e
 
 -- no level is above the top
-level_most : (net : Net) (s xs dist : List ℕ) (top v : ℕ) → length dist ≡ net.nodes → IsTop net s xs dist top → level_of dist top v ≤ top
+level_most : (net : Net) (s xs dist : List ℕ) (top v : ℕ) → length dist ≡ net.nodes → IsTop net s xs dist top
+    → level_of dist top v ≤ top
 level_most net s xs dist top v size b = elim (cases_Bool (seen dist v)) [
-  | inl i ↦ let m = marked_seen dist v i in omega (arith, level_seen dist top v i, cell_at dist v m.0, b.within (v - 1) (omega (arith, m.0, m.1)) m.2)
+  | inl i ↦
+      let m = marked_seen dist v i in
+      omega (arith, level_seen dist top v i, cell_at dist v m.0, b.within (v - 1) (omega (arith, m.0, m.1)) m.2)
   | inr o ↦ omega (arith, level_unseen dist top v o)
 ]
 
 -- a half-arc whose head is done: its tail is at most one farther
-done_slope : (net : Net) (xs dist : List ℕ) (h : ℕ) → IsNet net → h < 2 * length net.arcs → tail_of net h ≢ head_of net h → IsDone net xs Backwards dist (head_of net h - 1) → 1 ≤ residual net xs h → IsMarked dist (tail_of net h - 1) × (slice_index dist (tail_of net h - 1) ≤ slice_index dist (head_of net h - 1) + 1)
+done_slope : (net : Net) (xs dist : List ℕ) (h : ℕ) → IsNet net → h < 2 * length net.arcs
+    → tail_of net h ≢ head_of net h → IsDone net xs Backwards dist (head_of net h - 1) → 1 ≤ residual net xs h
+    → IsMarked dist (tail_of net h - 1)
+    × (slice_index dist (tail_of net h - 1) ≤ slice_index dist (head_of net h - 1) + 1)
 done_slope net xs dist h n l o d r =
     let g = twin_of h in
     let ends : tail_of net g ≢ head_of net g = λ e. o (sym (head_twin net h) ∙ sym e ∙ tail_twin net h) in
     let at : group_of net g ≡ head_of net h - 1 = tail_group net g ends ∙ ap (λ v. v - 1) (tail_twin net h) in
     let back : 1 ≤ residual net xs (twin_of g) = subst (λ k. 1 ≤ residual net xs k) (sym (twin_twin h)) r in
-    subst (λ v. IsMarked dist (v - 1) × (slice_index dist (v - 1) ≤ slice_index dist (head_of net h - 1) + 1)) (head_twin net h) (d g (crossed_within Backwards h (length net.arcs) l) at back)
+    subst (λ v. IsMarked dist (v - 1) × (slice_index dist (v - 1) ≤ slice_index dist (head_of net h - 1) + 1))
+    (head_twin net h) (d g (crossed_within Backwards h (length net.arcs) l) at back)
 
-gentle_levels : (net : Net) (s t xs dist via : List ℕ) (top : ℕ) → IsNet net → IsSearched net xs Backwards t dist via → IsTop net s xs dist top → IsGentle net xs (level_of dist top)
+gentle_levels : (net : Net) (s t xs dist via : List ℕ) (top : ℕ) → IsNet net → IsSearched net xs Backwards t dist via
+    → IsTop net s xs dist top → IsGentle net xs (level_of dist top)
 gentle_levels net s t xs dist via top n f b h l r = elim (cases_eq (tail_of net h) (head_of net h)) [
   | inl loop ↦ omega (arith, ap (level_of dist top) loop)
   | inr o ↦ elim (cases_Bool (seen dist (head_of net h))) [
-    | inr out ↦ omega (arith, level_unseen dist top (head_of net h) out, level_most net s xs dist top (tail_of net h) f.size b)
+    | inr out ↦
+        omega (arith, level_unseen dist top (head_of net h) out, level_most net s xs dist top (tail_of net h) f.size b)
     | inl into ↦
         let m = marked_seen dist (head_of net h) into in
         let low = level_seen dist top (head_of net h) into in
@@ -153,7 +179,8 @@ gentle_levels net s t xs dist via top n f b h l r = elim (cases_eq (tail_of net 
               let up = done_slope net xs dist h n l o d r in
               let node = tail_is_node net h n l in
               let inside = seen_marked dist (tail_of net h) node.0 (omega (arith, node, f.size)) up.0 in
-              omega (arith, low, at, up.1, level_seen dist top (tail_of net h) inside, cell_at dist (tail_of net h) node.0)
+              omega
+              (arith, low, at, up.1, level_seen dist top (tail_of net h) inside, cell_at dist (tail_of net h) node.0)
         ]
   ]
 ]
@@ -167,7 +194,8 @@ pub record HasRanks (net : Net) (dist queue rank : List ℕ) (tail : ℕ) : Type
   pub ranked : (i : ℕ) → i < tail → slice_index rank (slice_index queue i) < tail
   pub ranks : (p : ℕ) → p < net.nodes → (slice_index rank p ≡ FAR) ⊎ IsRank queue rank tail p
 
-marked_rank : (net : Net) (dist queue rank : List ℕ) (tail p : ℕ) → IsNet net → HasRanks net dist queue rank tail → p < net.nodes → IsMarked dist p → IsRank queue rank tail p
+marked_rank : (net : Net) (dist queue rank : List ℕ) (tail p : ℕ) → IsNet net → HasRanks net dist queue rank tail
+    → p < net.nodes → IsMarked dist p → IsRank queue rank tail p
 marked_rank net dist queue rank tail p n r l m =
     let w = r.order.waits p (omega (arith, r.dist_size)) m in
     let low : slice_index rank p < tail = subst (λ q. slice_index rank q < tail) w.2 (r.ranked w.0 w.1) in
@@ -177,16 +205,22 @@ marked_rank net dist queue rank tail p n r l m =
       | inr k ↦ k
     ]
 
-unmarked_rank : (net : Net) (dist queue rank : List ℕ) (tail p : ℕ) → HasRanks net dist queue rank tail → p < net.nodes → WANTED ≤ slice_index dist p → slice_index rank p ≡ FAR
+unmarked_rank : (net : Net) (dist queue rank : List ℕ) (tail p : ℕ) → HasRanks net dist queue rank tail → p < net.nodes
+    → WANTED ≤ slice_index dist p → slice_index rank p ≡ FAR
 unmarked_rank net dist queue rank tail p r l m = elim (r.ranks p l) [
   | inl none ↦ none
   | inr k ↦ absurd (omega (arith, r.order.marks (slice_index rank p) k.0, ap (slice_index dist) k.1))
 ]
 
-ordered_levels : (net : Net) (s xs dist queue rank : List ℕ) (tail top : ℕ) → IsNet net → HasRanks net dist queue rank tail → IsTop net s xs dist top → IsOrdered net (level_of dist top) (cell_of rank)
+ordered_levels : (net : Net) (s xs dist queue rank : List ℕ) (tail top : ℕ) → IsNet net
+    → HasRanks net dist queue rank tail → IsTop net s xs dist top → IsOrdered net (level_of dist top) (cell_of rank)
 ordered_levels net s xs dist queue rank tail top n r b v w i j l = elim (cases_lt (slice_index dist (v - 1)) WANTED) [
   | inr out ↦
-      absurd (omega (arith, level_unseen dist top v (unmarked_unseen dist v i.0 out), level_most net s xs dist top w r.dist_size b))
+      absurd (omega (
+        arith,
+        level_unseen dist top v (unmarked_unseen dist v i.0 out),
+        level_most net s xs dist top w r.dist_size b,
+      ))
   | inl into ↦
       let k = marked_rank net dist queue rank tail (v - 1) n r (omega (arith, i)) into in
       let low = level_seen dist top v (seen_marked dist v i.0 (omega (arith, i, r.dist_size)) into) in
@@ -202,25 +236,41 @@ ordered_levels net s xs dist queue rank tail top n r b v w i j l = elim (cases_l
             let low' = level_seen dist top w (seen_marked dist w j.0 (omega (arith, j, r.dist_size)) near) in
             elim (cases_lt (slice_index rank (v - 1)) (slice_index rank (w - 1))) [
               | inl less ↦ omega (arith, less, at, to)
-              | inr more ↦ absurd (omega (arith, r.order.rises (slice_index rank (w - 1)) (slice_index rank (v - 1)) more k.0, ap (slice_index dist) k.1, ap (slice_index dist) k'.1, low, low', cell_at dist v i.0, cell_at dist w j.0))
+              | inr more ↦
+                  absurd (omega (
+                    arith,
+                    r.order.rises (slice_index rank (w - 1)) (slice_index rank (v - 1)) more k.0,
+                    ap (slice_index dist) k.1,
+                    ap (slice_index dist) k'.1,
+                    low,
+                    low',
+                    cell_at dist v i.0,
+                    cell_at dist w j.0,
+                  ))
             ]
       ]
 ]
 
 -- the sinks are at distance 0, and no others
-zero_sink : (net : Net) (t xs dist via : List ℕ) (v : ℕ) → IsSearched net xs Backwards t dist via → All (IsNode net) t → IsTrue (one_of t v) → (cell_of dist v ≡ 0) × IsTrue (seen dist v)
+zero_sink : (net : Net) (t xs dist via : List ℕ) (v : ℕ) → IsSearched net xs Backwards t dist via → All (IsNode net) t
+    → IsTrue (one_of t v) → (cell_of dist v ≡ 0) × IsTrue (seen dist v)
 zero_sink net t xs dist via v f nodes i =
     let p = place_in t v i in let node = nodes p.0 0 p.1 in
     let at : slice_index dist (v - 1) ≡ 0 = subst (λ w. slice_index dist (w - 1) ≡ 0) p.2 (f.zeros p.0 p.1) in
     let a : 1 ≤ v = omega (arith, node, p.2) in
     (sym (cell_at dist v a) ∙ at, seen_marked dist v a (omega (arith, node, p.2, f.size)) (omega arith))
 
-sinks_at : (net : Net) (t xs dist via : List ℕ) → IsSearched net xs Backwards t dist via → All (IsNode net) t → AreSinks net t dist
+sinks_at : (net : Net) (t xs dist via : List ℕ) → IsSearched net xs Backwards t dist via → All (IsNode net) t
+    → AreSinks net t dist
 sinks_at net t xs dist via f nodes v i =
-    let at = cell_at dist v i.0 in
-    ((λ k. (zero_sink net t xs dist via v f nodes k).0), (λ e. sink_at net xs t dist via v f i.0 i.1 (omega arith) (omega arith)))
+    let at = cell_at dist v i.0 in (
+      (λ k. (zero_sink net t xs dist via v f nodes k).0),
+      (λ e. sink_at net xs t dist via v f i.0 i.1 (omega arith) (omega arith)),
+    )
 
-levelled : (net : Net) (s t xs dist via queue rank : List ℕ) (tail top : ℕ) → IsNet net → IsSearched net xs Backwards t dist via → All (IsNode net) t → HasRanks net dist queue rank tail → IsTop net s xs dist top → IsLevelled net s t xs dist rank (level_of dist top)
+levelled : (net : Net) (s t xs dist via queue rank : List ℕ) (tail top : ℕ) → IsNet net
+    → IsSearched net xs Backwards t dist via → All (IsNode net) t → HasRanks net dist queue rank tail
+    → IsTop net s xs dist top → IsLevelled net s t xs dist rank (level_of dist top)
 levelled net s t xs dist via queue rank tail top n f nodes r b = record {
   gentle = gentle_levels net s t xs dist via top n f b;
   ordered = ordered_levels net s xs dist queue rank tail top n r b;
@@ -230,11 +280,16 @@ levelled net s t xs dist via queue rank tail top n f nodes r b = record {
 }
 
 -- what a search that has seen a source leaves to a phase
-pub levels_found : (net : Net) (s t xs dist via queue rank : List ℕ) (tail wanted enough : ℕ) → IsNet net → IsSearched net xs Backwards t dist via → All (IsNode net) s → All (IsNode net) t → IsCount s dist wanted → (wanted < enough → (p : ℕ) → p < net.nodes → IsMarked dist p → IsDone net xs Backwards dist p) → length s ≤ enough ⊎ net.nodes < enough → wanted ≢ 0 → HasRanks net dist queue rank tail → AreLevels net s t xs dist rank
+pub levels_found : (net : Net) (s t xs dist via queue rank : List ℕ) (tail wanted enough : ℕ) → IsNet net
+    → IsSearched net xs Backwards t dist via → All (IsNode net) s → All (IsNode net) t → IsCount s dist wanted
+    → (wanted < enough → (p : ℕ) → p < net.nodes → IsMarked dist p → IsDone net xs Backwards dist p)
+    → length s ≤ enough ⊎ net.nodes < enough → wanted ≢ 0 → HasRanks net dist queue rank tail
+    → AreLevels net s t xs dist rank
 levels_found net s t xs dist via queue rank tail wanted enough n f sources sinks c whole all some r =
     let one = some_seen s dist wanted c (omega (arith, some)) in
     let up : one.0 + 1 - 1 ≡ one.0 = omega arith in
-    let here = seen_marked dist (one.0 + 1) (omega arith) (omega (arith, one.1)) (subst (IsMarked dist) (sym up) one.2) in
+    let here = seen_marked dist (one.0 + 1) (omega arith) (omega (arith, one.1))
+    (subst (IsMarked dist) (sym up) one.2) in
     let first = r.order.waits one.0 one.1 one.2 in
     record {
       via = via;
@@ -245,11 +300,16 @@ levels_found net s t xs dist via queue rank tail wanted enough n f sources sinks
           let k = marked_rank net dist queue rank tail (v - 1) n r (omega (arith, m.0, m.1, r.dist_size)) m.2 in
           omega (arith, k.0, queue_short dist queue tail r.order, r.dist_size, cell_at rank v m.0);
       levels = elim (cases_lt wanted enough) [
-        | inl few ↦ (level_of dist net.nodes, levelled net s t xs dist via queue rank tail net.nodes n f sinks r (top_whole net s t xs dist via f (whole few)))
+        | inl few ↦ (
+          level_of dist net.nodes,
+          levelled net s t xs dist via queue rank tail net.nodes n f sinks r
+              (top_whole net s t xs dist via f (whole few)),
+        )
         | inr enough' ↦ (
           level_of dist (slice_index dist (slice_index queue (tail - 1))),
           levelled net s t xs dist via queue rank tail (slice_index dist (slice_index queue (tail - 1))) n f sinks r
-              (top_early net s t xs dist via queue tail wanted f r.order c (as_many all enough') sources (omega (arith, first.1))),
+              (top_early net s t xs dist via queue tail wanted f r.order c (as_many all enough') sources
+              (omega (arith, first.1))),
         )
       ];
     }

@@ -4,6 +4,8 @@ pub mod Found
 pub mod Marks
 pub mod Outcomes
 pub mod Packed
+mod Behind
+mod LeastSides
 pub mod Queues
 pub mod Raises
 pub mod Routes
@@ -20,5 +22,7 @@ pub mod Turning
 pub mod Rising
 mod Growing
 mod SeenCells
+mod Prefixes
 mod BothWays
 pub mod Lifted
+pub mod Settled

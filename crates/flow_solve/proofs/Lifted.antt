@@ -1,4 +1,4 @@
--- Phases with lifting: levels that rise where keys fall.
+-- Phases with lifting: a level for each node that rises where the nodes' keys fall.
 use Rattle.std.proofs.Common.{ℕ, ◌-◌, List}
 use Rattle.flow_solve.specs.Lifting.{key_of}
 

@@ -1,7 +1,10 @@
 -- The places of packed half-arcs.
-use Rattle.std.proofs.Common.{◌≡◌, ◌≢◌, ℕ, zero, suc, ◌+◌, ◌-◌, ◌*◌, ◌≤◌, ◌<◌, cond, eq-eqb, List, [], ◌∷◌, length, get_or, set, refl, ◌∙◌, sym, ap, subst, inl, inr, add-one, arith, get_or-set_same, get_or-set_other}
+use Rattle.std.proofs.Common.{◌≡◌, ◌≢◌, ℕ, zero, suc, ◌+◌, ◌-◌, ◌*◌, ◌≤◌, ◌<◌, cond, eq-eqb, List, [], ◌∷◌, length}
+use Rattle.std.proofs.Common.{get_or, set, refl, ◌∙◌, sym, ap, subst, inl, inr, add-one, arith, get_or-set_same}
+use Rattle.std.proofs.Common.{get_or-set_other}
 use Rattle.std.proofs.lemmas.Bool.{cases_eq, ne_eqb}
-use Rattle.flow_net.specs.Nets.{Net, IsNet, IsNode}
+use Rattle.flow_net.specs.Nets.{Net, IsNode}
+use Rattle.flow_net.specs.Limits.{IsNet}
 use Rattle.flow_net.specs.Residual.{tail_of, head_of}
 use Rattle.flow_net.proofs.Zips.{tail_is_node}
 use Rattle.flow_solve.specs.Packs.{IsPacked}
@@ -20,7 +23,9 @@ cell_set cells (suc i) p o l = let at : suc i - 1 ≡ i = omega arith in rw at (
 pub cell_other : (cells : List ℕ) (x p v : ℕ) → 1 ≤ x → v ≢ x → cell_of (set cells (x - 1) p) v ≡ cell_of cells v
 cell_other cells zero p v o n = absurd (omega arith)
 cell_other cells (suc i) p zero o n = refl
-cell_other cells (suc i) p (suc j) o n = let at : suc i - 1 ≡ i = omega arith in rw at (get_or-set_other cells i j p 0 (λ q. n (ap suc q)))
+cell_other cells (suc i) p (suc j) o n =
+    let at : suc i - 1 ≡ i = omega arith in
+    rw at (get_or-set_other cells i j p 0 (λ q. n (ap suc q)))
 
 -- where a half-arc first stands
 pub record IsFirst (halves : List ℕ) (p h : ℕ) : Type 0 where
@@ -49,7 +54,8 @@ place_first (g ∷ halves) (suc p) h l e = elim (cases_eq g h) [
 ]
 
 -- the first places of the nodes rise
-pub firsts_rise : (net : Net) (first halves : List ℕ) (v w : ℕ) → IsPacked net first halves → v ≤ w → w ≤ net.nodes → get_or first v 0 ≤ get_or first w 0
+pub firsts_rise : (net : Net) (first halves : List ℕ) (v w : ℕ) → IsPacked net first halves → v ≤ w → w ≤ net.nodes
+    → get_or first v 0 ≤ get_or first w 0
 firsts_rise net first halves v zero p l m = let e : v ≡ 0 = omega arith in rw e (omega arith)
 firsts_rise net first halves v (suc w) p l m = elim (cases_eq v (suc w)) [
   | inl e ↦ rw e (omega arith)
@@ -61,7 +67,8 @@ firsts_rise net first halves v (suc w) p l m = elim (cases_eq v (suc w)) [
 ]
 
 -- a half-arc in a node's range is at its place there
-pub place_at : (net : Net) (first halves : List ℕ) (v p : ℕ) → IsPacked net first halves → v < net.nodes → get_or first v 0 ≤ p → p < get_or first (v + 1) 0 → place_of halves (get_or halves p 0) ≡ p
+pub place_at : (net : Net) (first halves : List ℕ) (v p : ℕ) → IsPacked net first halves → v < net.nodes
+    → get_or first v 0 ≤ p → p < get_or first (v + 1) 0 → place_of halves (get_or halves p 0) ≡ p
 place_at net first halves v p k l a b =
     let most = k.most (v + 1) (omega arith) in
     let last = firsts_rise net first halves (v + 1) net.nodes k (omega arith) (omega arith) in
@@ -74,7 +81,8 @@ pub record IsMine (net : Net) (halves : List ℕ) (v p h : ℕ) : Type 0 where
   pub tail : tail_of net h ≡ v
   pub place : place_of halves h ≡ p
 
-pub mine : (net : Net) (first halves : List ℕ) (v p : ℕ) → IsNet net → IsPacked net first halves → IsNode net v → get_or first (v - 1) 0 ≤ p → p < get_or first v 0 → IsMine net halves v p (get_or halves p 0)
+pub mine : (net : Net) (first halves : List ℕ) (v p : ℕ) → IsNet net → IsPacked net first halves → IsNode net v
+    → get_or first (v - 1) 0 ≤ p → p < get_or first v 0 → IsMine net halves v p (get_or halves p 0)
 mine net first halves v p n k i a b =
     let up : v - 1 + 1 ≡ v = omega (arith, i) in
     let b' : p < get_or first (v - 1 + 1) 0 = subst (λ w. p < get_or first w 0) (sym up) b in
@@ -91,12 +99,15 @@ pub record IsStanding (net : Net) (first halves : List ℕ) (h : ℕ) : Type 0 w
   pub most : place_of halves h < get_or first (tail_of net h) 0
   pub there : get_or halves (place_of halves h) 0 ≡ h
 
-pub standing : (net : Net) (first halves : List ℕ) (h : ℕ) → IsNet net → IsPacked net first halves → h < 2 * length net.arcs → tail_of net h ≢ head_of net h → IsStanding net first halves h
+pub standing : (net : Net) (first halves : List ℕ) (h : ℕ) → IsNet net → IsPacked net first halves
+    → h < 2 * length net.arcs → tail_of net h ≢ head_of net h → IsStanding net first halves h
 standing net first halves h n k l o =
     let t = tail_is_node net h n l in
     let up : tail_of net h - 1 + 1 ≡ tail_of net h = omega (arith, t.0) in
     let s = k.stands (tail_of net h - 1) h (omega (arith, t)) l (tail_group net h o) in
-    let at : place_of halves h ≡ s.0 = ap (place_of halves) (sym s.3) ∙ place_at net first halves (tail_of net h - 1) s.0 k (omega (arith, t)) s.1 s.2 in
+    let at : place_of halves h ≡ s.0 =
+    ap (place_of halves) (sym s.3)
+    ∙ place_at net first halves (tail_of net h - 1) s.0 k (omega (arith, t)) s.1 s.2 in
     let below : s.0 < get_or first (tail_of net h) 0 = subst (λ w. s.0 < get_or first w 0) up s.2 in
     record {
       least = omega (arith, at, s.1);
@@ -105,9 +116,12 @@ standing net first halves h n k l o =
     }
 
 -- so no other half-arc that falls has its place
-pub one_place : (net : Net) (first halves : List ℕ) (g h : ℕ) → IsNet net → IsPacked net first halves → g < 2 * length net.arcs → tail_of net g ≢ head_of net g → get_or halves (place_of halves h) 0 ≡ h → place_of halves g ≡ place_of halves h → h ≡ g
+pub one_place : (net : Net) (first halves : List ℕ) (g h : ℕ) → IsNet net → IsPacked net first halves
+    → g < 2 * length net.arcs → tail_of net g ≢ head_of net g → get_or halves (place_of halves h) 0 ≡ h
+    → place_of halves g ≡ place_of halves h → h ≡ g
 one_place net first halves g h n k l o at e =
     sym at ∙ ap (λ i. get_or halves i 0) (sym e) ∙ (standing net first halves g n k l o).there
 
-pub falls_apart : (net : Net) (rank : ℕ → ℕ) (h : ℕ) → rank (head_of net h) < rank (tail_of net h) → tail_of net h ≢ head_of net h
+pub falls_apart : (net : Net) (rank : ℕ → ℕ) (h : ℕ) → rank (head_of net h) < rank (tail_of net h)
+    → tail_of net h ≢ head_of net h
 falls_apart net rank h f e = let same : rank (tail_of net h) ≡ rank (head_of net h) = ap rank e in omega arith

@@ -1,12 +1,14 @@
 -- What one augmentation does to a flow, and how many steps all of them take.
-use Rattle.std.proofs.Common.{◌≡◌, ℕ, suc, ◌+◌, ◌-◌, ◌*◌, ◌^◌, ◌≤◌, ◌<◌, Bool, not, IsTrue, IsFalse, cond, List, [], ◌∷◌, length, get_or, replicate, sum_by, refl, ◌∙◌, sym, ap, subst, inl, inr, arith}
+use Rattle.std.proofs.Common.{◌≡◌, ℕ, suc, ◌+◌, ◌-◌, ◌*◌, ◌^◌, ◌≤◌, ◌<◌, Bool, not, IsTrue, IsFalse, cond, List, []}
+use Rattle.std.proofs.Common.{◌∷◌, length, get_or, replicate, sum_by, refl, ◌∙◌, sym, ap, subst, inl, inr, arith}
 use Rattle.std.specs.List.{All}
 use Rattle.std.proofs.Math.Nat.{mul-le-mul_right}
 use Rattle.std.proofs.lemmas.Nat.{mul-le}
 use Rattle.std.proofs.lemmas.Bool.{cases_eq}
 use Rattle.std.proofs.lemmas.List.Sums.{sum_by-cons}
 use Rattle.flow_net.specs.declared.networks.Arc.{Arc}
-use Rattle.flow_net.specs.Nets.{Net, IsNet, IsNode, IsArcWithin, AreTerminals}
+use Rattle.flow_net.specs.Nets.{Net, IsNode}
+use Rattle.flow_net.specs.Limits.{IsNet, IsArcWithin, AreTerminals}
 use Rattle.flow_net.specs.NodeSets.{one_of}
 use Rattle.flow_net.specs.Flows.{IsFeasible, HasValue, IsGreatest}
 use Rattle.flow_net.specs.Cuts.{leaves, cap_over, capacity, IsLeastCapacity}
@@ -28,7 +30,10 @@ some_of b x m k l = grind arith
 
 cap_over-le : (p : Arc → Bool) (arcs : List Arc) → cap_over p arcs ≤ sum_by (λ a. a.cap) arcs
 cap_over-le p [] = omega arith
-cap_over-le p (a ∷ arcs) = let e = sum_by-cons (λ (b : Arc). b.cap) a arcs in let l = some_of (p a) a.cap (cap_over p arcs) (sum_by (λ b. b.cap) arcs) (cap_over-le p arcs) in omega arith
+cap_over-le p (a ∷ arcs) =
+    let e = sum_by-cons (λ (b : Arc). b.cap) a arcs in
+    let l = some_of (p a) a.cap (cap_over p arcs) (sum_by (λ b. b.cap) arcs) (cap_over-le p arcs) in
+    omega arith
 
 caps_within : (n : ℕ) (arcs : List Arc) → All (IsArcWithin n) arcs → sum_by (λ a. a.cap) arcs ≤ length arcs * 2 ^ 64
 caps_within n [] w = omega arith
@@ -36,11 +41,18 @@ caps_within n (a ∷ arcs) w =
     let e = sum_by-cons (λ (b : Arc). b.cap) a arcs in let here = (w 0 a (omega arith)).cap_fits in
     let rest = caps_within n arcs (λ i d l. w (suc i) d (omega arith)) in omega arith
 
-pub value_most : (net : Net) (s t : ℕ → Bool) (xs : List ℕ) (k : ℕ) → IsNet net → AreApart s t → IsFeasible net s t xs → HasValue net s xs k → k ≤ capacities net
-value_most net s t xs k n a f v = let b = value_bounded net s t xs k n f a v in let c = cap_over-le (leaves s) net.arcs in omega arith
+pub value_most : (net : Net) (s t : ℕ → Bool) (xs : List ℕ) (k : ℕ) → IsNet net → AreApart s t → IsFeasible net s t xs
+    → HasValue net s xs k → k ≤ capacities net
+value_most net s t xs k n a f v =
+    let b = value_bounded net s t xs k n f a v in
+    let c = cap_over-le (leaves s) net.arcs in
+    omega arith
 
 pub capacities_fit : (net : Net) → IsNet net → capacities net < 2 ^ 128
-capacities_fit net n = let c = caps_within net.nodes net.arcs n.arcs_within in let m = mul-le-mul_right (2 ^ 64) n.arcs_most in omega arith
+capacities_fit net n =
+    let c = caps_within net.nodes net.arcs n.arcs_within in
+    let m = mul-le-mul_right (2 ^ 64) n.arcs_most in
+    omega arith
 
 no_capacities : (arcs : List Arc) → length arcs ≡ 0 → sum_by (λ a. a.cap) arcs ≡ 0
 no_capacities [] e = refl
@@ -55,13 +67,17 @@ zero_flow net s t = record {
 }
 
 -- a flow after an augmentation
-pub raised : (net : Net) (s t xs dist via : List ℕ) (value d v : ℕ) → AreApart (one_of s) (one_of t) → IsFlow net s t xs value → length via ≡ net.nodes → IsSearched net xs Backwards t dist via → IsTrue (one_of s v) → IsNode net v → IsMarked dist (v - 1) → HasRoom net xs d (trail_from net dist via v) → IsFlow net s t (push_all xs (trail_from net dist via v) d) (value + d)
+pub raised : (net : Net) (s t xs dist via : List ℕ) (value d v : ℕ) → AreApart (one_of s) (one_of t)
+    → IsFlow net s t xs value → length via ≡ net.nodes → IsSearched net xs Backwards t dist via → IsTrue (one_of s v)
+    → IsNode net v → IsMarked dist (v - 1) → HasRoom net xs d (trail_from net dist via v)
+    → IsFlow net s t (push_all xs (trail_from net dist via v) d) (value + d)
 raised net s t xs dist via value d v a f size q i node m room =
     let trails = searched_trails net xs t dist via size q in
     let r = trail_is net xs dist via (get_or dist (v - 1) 0) v trails node.0 node.1 m refl in
     let sink = sink_at net xs t dist via r.last q r.node.0 r.node.1 r.marked r.over in
     let apart = climbs_apart net (nearness net dist) v r.last (trail_from net dist via v) r.leads r.climbs in
-    let more = augmented net (one_of s) (one_of t) xs d v r.last (trail_from net dist via v) f.feasible i sink (sink_no_source (one_of s) (one_of t) a r.last sink) r.leads apart room in
+    let more = augmented net (one_of s) (one_of t) xs d v r.last (trail_from net dist via v) f.feasible i sink
+    (sink_no_source (one_of s) (one_of t) a r.last sink) r.leads apart room in
     record {
       feasible = more.0;
       value = omega (arith, f.value, more.1);
@@ -69,7 +85,8 @@ raised net s t xs dist via value d v a f size q i node m room =
     }
 
 -- the steps of one more augmentation
-pub paid_more : (before now value d n m : ℕ) → now ≤ before + value * (2 * m + 2 * n) + 2 * m + 2 * n → 1 ≤ d → now ≤ before + (value + d) * (2 * m + 2 * n)
+pub paid_more : (before now value d n m : ℕ) → now ≤ before + value * (2 * m + 2 * n) + 2 * m + 2 * n → 1 ≤ d
+    → now ≤ before + (value + d) * (2 * m + 2 * n)
 paid_more before now value d n m l o = let e = mul-le-mul_right (2 * m + 2 * n) o in omega arith
 
 two_sums : (n m : ℕ) → 1 ≤ n → 1 ≤ m → 2 * m + 2 * n ≤ 4 * (n * m)
@@ -84,19 +101,30 @@ paid c value n m l none o = elim (cases_eq m 0) [
       let all = mul-le value (2 * m + 2 * n) c (4 * (n * m)) l two in omega arith
 ]
 
-pub paid_all : (net : Net) (before now value : ℕ) → IsNet net → value ≤ capacities net → now ≤ before + value * (2 * length net.arcs + 2 * net.nodes) + 2 * length net.arcs → now ≤ before + 4 * (capacities net + 1) * net.nodes * length net.arcs
+pub paid_all : (net : Net) (before now value : ℕ) → IsNet net → value ≤ capacities net
+    → now ≤ before + value * (2 * length net.arcs + 2 * net.nodes) + 2 * length net.arcs
+    → now ≤ before + 4 * (capacities net + 1) * net.nodes * length net.arcs
 paid_all net before now value n l p =
-    let all = paid (capacities net) value net.nodes (length net.arcs) l (no_capacities net.arcs) (let two = n.nodes_least in omega arith) in omega arith
+    let all = paid (capacities net) value net.nodes (length net.arcs) l (no_capacities net.arcs)
+    (let two = n.nodes_least in omega arith) in
+    omega arith
 
 -- the same of a table's flows before the search, after it and after the pushes
-pub raised_by : (net : Net) (s t xs dist via : List ℕ) (value d v : ℕ) (zs ys : List ℕ) → AreTerminals net s t → IsFlow net s t xs value → length via ≡ net.nodes → IsSearched net xs Backwards t dist via → IsTrue (one_of s v) → IsNode net v → IsMarked dist (v - 1) → zs ≡ xs → HasRoom net zs d (trail_from net dist via v) → ys ≡ push_all zs (trail_from net dist via v) d → IsFlow net s t ys (value + d)
+pub raised_by : (net : Net) (s t xs dist via : List ℕ) (value d v : ℕ) (zs ys : List ℕ) → AreTerminals net s t
+    → IsFlow net s t xs value → length via ≡ net.nodes → IsSearched net xs Backwards t dist via → IsTrue (one_of s v)
+    → IsNode net v → IsMarked dist (v - 1) → zs ≡ xs → HasRoom net zs d (trail_from net dist via v)
+    → ys ≡ push_all zs (trail_from net dist via v) d → IsFlow net s t ys (value + d)
 raised_by net s t xs dist via value d v zs ys a f size q i node m kept room pushed =
-    let r = raised net s t xs dist via value d v (terminals_apart net s t a) f size q i node m (subst (λ (us : List ℕ). HasRoom net us d (trail_from net dist via v)) kept room) in
-    let same : ys ≡ push_all xs (trail_from net dist via v) d = pushed ∙ ap (λ (us : List ℕ). push_all us (trail_from net dist via v) d) kept in
+    let r = raised net s t xs dist via value d v (terminals_apart net s t a) f size q i node m
+    (subst (λ (us : List ℕ). HasRoom net us d (trail_from net dist via v)) kept room) in
+    let same : ys ≡ push_all xs (trail_from net dist via v) d =
+    pushed ∙ ap (λ (us : List ℕ). push_all us (trail_from net dist via v) d) kept in
     subst (λ (us : List ℕ). IsFlow net s t us (value + d)) (sym same) r
 
 -- no trail: the flow's value is the greatest, and the least capacity
-pub settled : (net : Net) (s t xs : List ℕ) (X : ℕ → Bool) (value : ℕ) → IsNet net → IsFlow net s t xs value → IsWhole Backwards net xs t X → ((v : ℕ) → IsTrue (one_of s v) → IsFalse (X v)) → IsGreatest net (one_of s) (one_of t) value × IsLeastCapacity net (one_of s) (one_of t) value
+pub settled : (net : Net) (s t xs : List ℕ) (X : ℕ → Bool) (value : ℕ) → IsNet net → IsFlow net s t xs value
+    → IsWhole Backwards net xs t X → ((v : ℕ) → IsTrue (one_of s v) → IsFalse (X v))
+    → IsGreatest net (one_of s) (one_of t) value × IsLeastCapacity net (one_of s) (one_of t) value
 settled net s t xs X value n f w out =
     let r = backward_tight net (one_of s) t X xs n f.feasible w out in
     let same : capacity net (λ v. not (X v)) ≡ value = let v = r.value in let k = f.value in omega arith in

@@ -1,5 +1,6 @@
 -- The least residual capacity on a path, pushes still to be made along it, and ranks.
-use Rattle.std.proofs.Common.{◌≡◌, ℕ, ◌+◌, ◌*◌, ◌≤◌, ◌<◌, ◌⊎◌, List, ◌∷◌, length, get_or, set, drop, drop-cons, add-one, refl, ◌∙◌, sym, ap, inl, inr, get_or-set_same, get_or-set_other, length-set, arith}
+use Rattle.std.proofs.Common.{◌≡◌, ℕ, ◌+◌, ◌*◌, ◌≤◌, ◌<◌, ◌⊎◌, List, ◌∷◌, length, get_or, set, drop, drop-cons, add-one}
+use Rattle.std.proofs.Common.{refl, ◌∙◌, sym, ap, inl, inr, get_or-set_same, get_or-set_other, length-set, arith}
 use Rattle.std.specs.Prelude.{slice_index}
 use Rattle.std.specs.List.{All, AllByRecursion}
 use Rattle.std.proofs.lemmas.Bool.{cases_eq}
@@ -27,7 +28,8 @@ pub record IsAhead (net : Net) (start path : List ℕ) (d : ℕ) (xs rest : List
   pub room : HasRoom net xs d rest
   pub ends : push_all xs rest d ≡ push_all start path d
 
-pub ahead_all : (net : Net) (xs path : List ℕ) (d : ℕ) → Fits net xs → All (λ h. h < 2 * length net.arcs) path → IsApart path → All (λ h. d ≤ residual net xs h) path → IsAhead net xs path d xs (drop 0 path)
+pub ahead_all : (net : Net) (xs path : List ℕ) (d : ℕ) → Fits net xs → All (λ h. h < 2 * length net.arcs) path
+    → IsApart path → All (λ h. d ≤ residual net xs h) path → IsAhead net xs path d xs (drop 0 path)
 ahead_all net xs path d w h a r = record {
   fits = w;
   halves = recursion_from_All (λ g. g < 2 * length net.arcs) path h;
@@ -36,7 +38,8 @@ ahead_all net xs path d w h a r = record {
   ends = refl;
 }
 
-over_one : (net : Net) (start path : List ℕ) (d : ℕ) (xs : List ℕ) (h : ℕ) (rest : List ℕ) → IsAhead net start path d xs (h ∷ rest) → IsAhead net start path d (pushed xs h d) rest
+over_one : (net : Net) (start path : List ℕ) (d : ℕ) (xs : List ℕ) (h : ℕ) (rest : List ℕ)
+    → IsAhead net start path d xs (h ∷ rest) → IsAhead net start path d (pushed xs h d) rest
 over_one net start path d xs h rest a = record {
   fits = fits_pushed net xs h d a.halves.0 a.room.0 a.fits;
   halves = a.halves.1;
@@ -45,11 +48,15 @@ over_one net start path d xs h rest a = record {
   ends = a.ends;
 }
 
-pub ahead_here : (net : Net) (start path : List ℕ) (d : ℕ) (xs : List ℕ) (i : ℕ) → i < length path → IsAhead net start path d xs (drop i path) → IsAhead net start path d xs (get_or path i 0 ∷ drop (i + 1) path)
+pub ahead_here : (net : Net) (start path : List ℕ) (d : ℕ) (xs : List ℕ) (i : ℕ) → i < length path
+    → IsAhead net start path d xs (drop i path) → IsAhead net start path d xs (get_or path i 0 ∷ drop (i + 1) path)
 ahead_here net start path d xs i l a = rw (add-one, ← drop-cons path i 0 l) a
 
-pub ahead_more : (net : Net) (start path : List ℕ) (d : ℕ) (xs : List ℕ) (i : ℕ) → i < length path → IsAhead net start path d xs (drop i path) → IsAhead net start path d (pushed xs (get_or path i 0) d) (drop (i + 1) path)
-ahead_more net start path d xs i l a = over_one net start path d xs (get_or path i 0) (drop (i + 1) path) (ahead_here net start path d xs i l a)
+pub ahead_more : (net : Net) (start path : List ℕ) (d : ℕ) (xs : List ℕ) (i : ℕ) → i < length path
+    → IsAhead net start path d xs (drop i path)
+    → IsAhead net start path d (pushed xs (get_or path i 0) d) (drop (i + 1) path)
+ahead_more net start path d xs i l a =
+    over_one net start path d xs (get_or path i 0) (drop (i + 1) path) (ahead_here net start path d xs i l a)
 
 -- a place's rank is its number in the queue's first cells
 abbrev pub IsRank : List ℕ → List ℕ → ℕ → ℕ → Type 0
@@ -61,14 +68,17 @@ pub record AreRanked (queue rank : List ℕ) (i n : ℕ) : Type 0 where
   pub ranked : (j : ℕ) → j < i → slice_index rank (slice_index queue j) < i
   pub ranks : (p : ℕ) → p < n → (slice_index rank p ≡ FAR) ⊎ IsRank queue rank i p
 
-pub ranked_more : (queue rank : List ℕ) (i n : ℕ) → slice_index queue i < n → AreRanked queue rank i n → AreRanked queue (set rank (slice_index queue i) i) (i + 1) n
+pub ranked_more : (queue rank : List ℕ) (i n : ℕ) → slice_index queue i < n → AreRanked queue rank i n
+    → AreRanked queue (set rank (slice_index queue i) i) (i + 1) n
 ranked_more queue rank i n l a = record {
   size = same;
   ranked = λ j k. elim (cases_eq (slice_index queue j) (slice_index queue i)) [
     | inl e ↦ omega (arith, here (slice_index queue j) e)
     | inr o ↦ elim (cases_eq j i) [
       | inl e ↦ absurd (o (ap (slice_index queue) e))
-      | inr d ↦ omega (arith, get_or-set_other rank (slice_index queue i) (slice_index queue j) i 0 o, a.ranked j (omega arith))
+      | inr d ↦
+          omega
+          (arith, get_or-set_other rank (slice_index queue i) (slice_index queue j) i 0 o, a.ranked j (omega arith))
     ]
   ];
   ranks = λ p k. elim (cases_eq p (slice_index queue i)) [
@@ -86,4 +96,6 @@ ranked_more queue rank i n l a = record {
     same = length-set rank (slice_index queue i) i ∙ a.size
 
     here : (p : ℕ) → p ≡ slice_index queue i → slice_index (set rank (slice_index queue i) i) p ≡ i
-    here p e = ap (slice_index (set rank (slice_index queue i) i)) e ∙ get_or-set_same rank (slice_index queue i) i 0 (omega (arith, l, a.size))
+    here p e =
+        ap (slice_index (set rank (slice_index queue i) i)) e
+        ∙ get_or-set_same rank (slice_index queue i) i 0 (omega (arith, l, a.size))

@@ -1,11 +1,14 @@
 -- Residual paths that a search has found, and what they show.
-use Rattle.std.proofs.Common.{◌≡◌, ◌≢◌, ℕ, zero, suc, ◌+◌, ◌-◌, ◌*◌, ◌/◌, ◌≤◌, ◌<◌, Bool, true, false, IsTrue, List, [], ◌∷◌, length, get_or, refl, ◌∙◌, sym, ap, subst, inl, inr, arith}
+use Rattle.std.proofs.Common.{◌≡◌, ◌≢◌, ℕ, zero, suc, ◌+◌, ◌-◌, ◌*◌, ◌/◌, ◌≤◌, ◌<◌, Bool, true, false, IsTrue, List, []}
+use Rattle.std.proofs.Common.{◌∷◌, length, get_or, refl, ◌∙◌, sym, ap, subst, inl, inr, arith}
 use Rattle.std.specs.List.{AllByRecursion}
 use Rattle.std.proofs.lemmas.List.{get_or_append_left, get_or-append-add, length-append}
 use Rattle.std.proofs.lemmas.Bool.{cases_Bool}
-use Rattle.flow_net.specs.Nets.{Net, IsNode, AreTerminals}
+use Rattle.flow_net.specs.Nets.{Net, IsNode}
+use Rattle.flow_net.specs.Limits.{AreTerminals}
 use Rattle.flow_net.specs.NodeSets.{one_of}
-use Rattle.flow_net.specs.Flows.{IsFeasible, HasGreatestValue}
+use Rattle.flow_net.specs.Flows.{IsFeasible}
+use Rattle.flow_net.specs.GreatestFlows.{HasGreatestValue}
 use Rattle.flow_net.specs.Residual.{tail_of, head_of, residual}
 use Rattle.flow_net.specs.Paths.{IsPath, HasRoom, IsApart, push_all}
 use Rattle.flow_net.specs.Laws.{AreApart}
@@ -21,8 +24,11 @@ pub terminals_apart : (net : Net) (s t : List ℕ) → AreTerminals net s t → 
 terminals_apart net s t a v i = elim (cases_Bool (one_of t v)) [
   | inl both ↦
       let p = place_in s v i in let q = place_in t v both in
-      let left = get_or_append_left s t 0 p.0 p.1 in let right = get_or-append-add s t q.0 0 in let size = length-append s t in
-      absurd (a.distinct p.0 (length s + q.0) (omega (arith, p.1)) (omega (arith, q.1)) (left ∙ p.2 ∙ sym q.2 ∙ sym right))
+      let left = get_or_append_left s t 0 p.0 p.1 in
+      let right = get_or-append-add s t q.0 0 in
+      let size = length-append s t in
+      absurd
+      (a.distinct p.0 (length s + q.0) (omega (arith, p.1)) (omega (arith, q.1)) (left ∙ p.2 ∙ sym q.2 ∙ sym right))
   | inr out ↦ out
 ]
 
@@ -33,9 +39,11 @@ sink_no_source s t a v i = elim (cases_Bool (s v)) [
 ]
 
 -- a flow of greater value exists where a residual path leads from a source to a sink
-pub route_raises : (net : Net) (s t : ℕ → Bool) (xs : List ℕ) → AreApart s t → IsFeasible net s t xs → IsRoute net xs s t → HasGreatestValue net s t xs → ⊥
+pub route_raises : (net : Net) (s t : ℕ → Bool) (xs : List ℕ) → AreApart s t → IsFeasible net s t xs
+    → IsRoute net xs s t → HasGreatestValue net s t xs → ⊥
 route_raises net s t xs a f r g =
-    let more = augmented net s t xs 1 r.first r.last r.path f r.begins r.ends (sink_no_source s t a r.last r.ends) r.leads r.apart r.room in
+    let more = augmented net s t xs 1 r.first r.last r.path f r.begins r.ends (sink_no_source s t a r.last r.ends)
+    r.leads r.apart r.room in
     omega (arith, g.1, g.2.most (push_all xs r.path 1) more.0, more.1)
 
 -- forwards: the way that the search came, read back from its end
@@ -47,9 +55,21 @@ pub record IsWay (net : Net) (xs : List ℕ) (from : ℕ → Bool) (level : ℕ 
   pub climbs : Climbs net level path
   pub room : HasRoom net xs 1 path
 
-pub way_to : (net : Net) (xs s dist via : List ℕ) → IsSearched net xs Forwards s dist via → (d v w : ℕ) (hs : List ℕ) → 1 ≤ v → v ≤ net.nodes → IsMarked dist (v - 1) → get_or dist (v - 1) 0 ≡ d → IsPath net v hs w → Climbs net (λ u. get_or dist (u - 1) 0) hs → HasRoom net xs 1 hs → IsWay net xs (one_of s) (λ u. get_or dist (u - 1) 0) w
+pub way_to : (net : Net) (xs s dist via : List ℕ) → IsSearched net xs Forwards s dist via → (d v w : ℕ) (hs : List ℕ)
+    → 1 ≤ v → v ≤ net.nodes → IsMarked dist (v - 1) → get_or dist (v - 1) 0 ≡ d → IsPath net v hs w
+    → Climbs net (λ u. get_or dist (u - 1) 0) hs → HasRoom net xs 1 hs
+    → IsWay net xs (one_of s) (λ u. get_or dist (u - 1) 0) w
 way_to net xs s dist via f zero v w hs o l m e p c r = elim (f.come (v - 1) (omega arith) m) [
-  | inl start ↦ let node : v - 1 + 1 ≡ v = omega arith in record { first = v; path = hs; begins = subst (λ u. IsTrue (one_of s u)) node start.1; leads = p; climbs = c; room = r }
+  | inl start ↦
+      let node : v - 1 + 1 ≡ v = omega arith in
+      record {
+        first = v;
+        path = hs;
+        begins = subst (λ u. IsTrue (one_of s u)) node start.1;
+        leads = p;
+        climbs = c;
+        room = r;
+      }
   | inr came ↦ absurd (omega (arith, came.level))
 ]
 way_to net xs s dist via f (suc d) v w hs o l m e p c r = elim (f.come (v - 1) (omega arith) m) [
@@ -58,21 +78,34 @@ way_to net xs s dist via f (suc d) v w hs o l m e p c r = elim (f.come (v - 1) (
       let h = get_or via (v - 1) 0 in
       let head : head_of net h ≡ v = let far = came.far in omega arith in
       let there : get_or dist (head_of net h - 1) 0 ≡ get_or dist (v - 1) 0 = ap (λ u. get_or dist (u - 1) 0) head in
-      way_to net xs s dist via f d (tail_of net h) w (h ∷ hs) came.near came.within came.marked (omega (arith, came.level))
-      (came.in_range, refl, subst (λ u. IsPath net u hs w) (sym head) p) (omega (arith, came.level), c) (came.remains, r)
+      way_to net xs s dist via f d (tail_of net h) w (h ∷ hs) came.near came.within came.marked
+      (omega (arith, came.level)) (came.in_range, refl, subst (λ u. IsPath net u hs w) (sym head) p)
+      (omega (arith, came.level), c) (came.remains, r)
 ]
 
-pub forward_route : (net : Net) (xs s dist via : List ℕ) (t : ℕ → Bool) (p : ℕ) → IsSearched net xs Forwards s dist via → p < net.nodes → IsMarked dist p → IsTrue (t (p + 1)) → IsRoute net xs (one_of s) t
+pub forward_route : (net : Net) (xs s dist via : List ℕ) (t : ℕ → Bool) (p : ℕ) → IsSearched net xs Forwards s dist via
+    → p < net.nodes → IsMarked dist p → IsTrue (t (p + 1)) → IsRoute net xs (one_of s) t
 forward_route net xs s dist via t p f l m i =
     let back : p + 1 - 1 ≡ p = omega arith in
-    let w = way_to net xs s dist via f (get_or dist (p + 1 - 1) 0) (p + 1) (p + 1) [] (omega arith) (omega arith) (subst (IsMarked dist) (sym back) m) refl refl tt tt in
-    record { first = w.first; last = p + 1; path = w.path; begins = w.begins; ends = i; leads = w.leads; apart = climbs_apart net (λ u. get_or dist (u - 1) 0) w.first (p + 1) w.path w.leads w.climbs; room = w.room }
+    let w = way_to net xs s dist via f (get_or dist (p + 1 - 1) 0) (p + 1) (p + 1) [] (omega arith) (omega arith)
+    (subst (IsMarked dist) (sym back) m) refl refl tt tt in
+    record {
+      first = w.first;
+      last = p + 1;
+      path = w.path;
+      begins = w.begins;
+      ends = i;
+      leads = w.leads;
+      apart = climbs_apart net (λ u. get_or dist (u - 1) 0) w.first (p + 1) w.path w.leads w.climbs;
+      room = w.room;
+    }
 
 -- backwards: the trail of a node. Levels rise toward the sinks.
 abbrev pub nearness : Net → List ℕ → ℕ → ℕ
 nearness net dist v = net.nodes - get_or dist (v - 1) 0
 
-pub searched_trails : (net : Net) (xs t dist via : List ℕ) → length via ≡ net.nodes → IsSearched net xs Backwards t dist via → AreTrails net xs dist via
+pub searched_trails : (net : Net) (xs t dist via : List ℕ) → length via ≡ net.nodes
+    → IsSearched net xs Backwards t dist via → AreTrails net xs dist via
 searched_trails net xs t dist via size f = record {
   dist_size = f.size;
   via_size = size;
@@ -91,9 +124,11 @@ pub record IsNext (net : Net) (xs dist via : List ℕ) (v : ℕ) : Type 0 where
   pub node : IsNode net (head_of net (get_or via (v - 1) 0))
   pub marked : IsMarked dist (head_of net (get_or via (v - 1) 0) - 1)
   pub level : get_or dist (head_of net (get_or via (v - 1) 0) - 1) 0 + 1 ≡ get_or dist (v - 1) 0
-  pub parts : trail_from net dist via v ≡ get_or via (v - 1) 0 ∷ trail_from net dist via (head_of net (get_or via (v - 1) 0))
+  pub parts : trail_from net dist via v
+      ≡ get_or via (v - 1) 0 ∷ trail_from net dist via (head_of net (get_or via (v - 1) 0))
 
-pub next_on : (net : Net) (xs dist via : List ℕ) (v : ℕ) → AreTrails net xs dist via → 1 ≤ v → v ≤ net.nodes → IsMarked dist (v - 1) → 1 ≤ get_or dist (v - 1) 0 → IsNext net xs dist via v
+pub next_on : (net : Net) (xs dist via : List ℕ) (v : ℕ) → AreTrails net xs dist via → 1 ≤ v → v ≤ net.nodes
+    → IsMarked dist (v - 1) → 1 ≤ get_or dist (v - 1) 0 → IsNext net xs dist via v
 next_on net xs dist via v a o l m d =
     let came = a.come (v - 1) (omega arith) m d in let h = get_or via (v - 1) 0 in
     let more : get_or dist (v - 1) 0 ≡ suc (get_or dist (head_of net h - 1) 0) = omega (arith, came.level) in
@@ -117,8 +152,17 @@ pub record IsTrail (net : Net) (xs dist via : List ℕ) (v d : ℕ) : Type 0 whe
   pub climbs : Climbs net (nearness net dist) (trail net via d v)
   pub room : HasRoom net xs 1 (trail net via d v)
 
-pub trail_is : (net : Net) (xs dist via : List ℕ) (d v : ℕ) → AreTrails net xs dist via → 1 ≤ v → v ≤ net.nodes → IsMarked dist (v - 1) → get_or dist (v - 1) 0 ≡ d → IsTrail net xs dist via v d
-trail_is net xs dist via zero v a o l m e = record { last = v; node = (o, l); marked = m; over = e; leads = refl; climbs = tt; room = tt }
+pub trail_is : (net : Net) (xs dist via : List ℕ) (d v : ℕ) → AreTrails net xs dist via → 1 ≤ v → v ≤ net.nodes
+    → IsMarked dist (v - 1) → get_or dist (v - 1) 0 ≡ d → IsTrail net xs dist via v d
+trail_is net xs dist via zero v a o l m e = record {
+  last = v;
+  node = (o, l);
+  marked = m;
+  over = e;
+  leads = refl;
+  climbs = tt;
+  room = tt;
+}
 trail_is net xs dist via (suc d) v a o l m e =
     let n = next_on net xs dist via v a o l m (omega arith) in let h = get_or via (v - 1) 0 in
     let rest = trail_is net xs dist via d (head_of net h) a n.node.0 n.node.1 n.marked (omega (arith, n.level)) in
@@ -135,16 +179,20 @@ trail_is net xs dist via (suc d) v a o l m e =
     }
 
 -- where the distance is 0 a search backwards began
-pub sink_at : (net : Net) (xs t dist via : List ℕ) (v : ℕ) → IsSearched net xs Backwards t dist via → 1 ≤ v → v ≤ net.nodes → IsMarked dist (v - 1) → get_or dist (v - 1) 0 ≡ 0 → one_of t v ≡ true
+pub sink_at : (net : Net) (xs t dist via : List ℕ) (v : ℕ) → IsSearched net xs Backwards t dist via → 1 ≤ v
+    → v ≤ net.nodes → IsMarked dist (v - 1) → get_or dist (v - 1) 0 ≡ 0 → one_of t v ≡ true
 sink_at net xs t dist via v f o l m e = elim (f.come (v - 1) (omega arith) m) [
   | inl start ↦ let node : v - 1 + 1 ≡ v = omega arith in subst (λ u. IsTrue (one_of t u)) node start.1
   | inr came ↦ absurd (omega (arith, came.level))
 ]
 
-pub backward_route : (net : Net) (xs t dist via : List ℕ) (s : ℕ → Bool) (p : ℕ) → length via ≡ net.nodes → IsSearched net xs Backwards t dist via → p < net.nodes → IsMarked dist p → IsTrue (s (p + 1)) → IsRoute net xs s (one_of t)
+pub backward_route : (net : Net) (xs t dist via : List ℕ) (s : ℕ → Bool) (p : ℕ) → length via ≡ net.nodes
+    → IsSearched net xs Backwards t dist via → p < net.nodes → IsMarked dist p → IsTrue (s (p + 1))
+    → IsRoute net xs s (one_of t)
 backward_route net xs t dist via s p size f l m i =
     let back : p + 1 - 1 ≡ p = omega arith in
-    let r = trail_is net xs dist via (get_or dist (p + 1 - 1) 0) (p + 1) (searched_trails net xs t dist via size f) (omega arith) (omega arith) (subst (IsMarked dist) (sym back) m) refl in
+    let r = trail_is net xs dist via (get_or dist (p + 1 - 1) 0) (p + 1) (searched_trails net xs t dist via size f)
+    (omega arith) (omega arith) (subst (IsMarked dist) (sym back) m) refl in
     record {
       first = p + 1;
       last = r.last;
@@ -157,15 +205,22 @@ backward_route net xs t dist via s p size f l m i =
     }
 
 -- in the search's direction
-pub has_route : (dir : Direction) (net : Net) (xs starts until dist via : List ℕ) (p : ℕ) → length via ≡ net.nodes → IsSearched net xs dir starts dist via → p < net.nodes → IsMarked dist p → IsTrue (one_of until (p + 1)) → HasRoute dir net xs starts until
-has_route Forwards net xs starts until dist via p size f l m i = forward_route net xs starts dist via (one_of until) p f l m i
-has_route Backwards net xs starts until dist via p size f l m i = backward_route net xs starts dist via (one_of until) p size f l m i
+pub has_route : (dir : Direction) (net : Net) (xs starts until dist via : List ℕ) (p : ℕ) → length via ≡ net.nodes
+    → IsSearched net xs dir starts dist via → p < net.nodes → IsMarked dist p → IsTrue (one_of until (p + 1))
+    → HasRoute dir net xs starts until
+has_route Forwards net xs starts until dist via p size f l m i =
+    forward_route net xs starts dist via (one_of until) p f l m i
+has_route Backwards net xs starts until dist via p size f l m i =
+    backward_route net xs starts dist via (one_of until) p size f l m i
 
 -- no two half-arcs of a trail are of one arc
-pub trail_parted : (net : Net) (xs dist via : List ℕ) (v : ℕ) → AreTrails net xs dist via → 1 ≤ v → v ≤ net.nodes → IsMarked dist (v - 1) → IsApart (trail_from net dist via v)
+pub trail_parted : (net : Net) (xs dist via : List ℕ) (v : ℕ) → AreTrails net xs dist via → 1 ≤ v → v ≤ net.nodes
+    → IsMarked dist (v - 1) → IsApart (trail_from net dist via v)
 trail_parted net xs dist via v a o l m =
     let r = trail_is net xs dist via (get_or dist (v - 1) 0) v a o l m refl in
     climbs_apart net (nearness net dist) v r.last (trail_from net dist via v) r.leads r.climbs
 
-pub trail_apart : (net : Net) (xs dist via : List ℕ) (v h : ℕ) (rest : List ℕ) → AreTrails net xs dist via → 1 ≤ v → v ≤ net.nodes → IsMarked dist (v - 1) → trail_from net dist via v ≡ h ∷ rest → AllByRecursion (λ g. g / 2 ≢ h / 2) rest
+pub trail_apart : (net : Net) (xs dist via : List ℕ) (v h : ℕ) (rest : List ℕ) → AreTrails net xs dist via → 1 ≤ v
+    → v ≤ net.nodes → IsMarked dist (v - 1) → trail_from net dist via v ≡ h ∷ rest
+    → AllByRecursion (λ g. g / 2 ≢ h / 2) rest
 trail_apart net xs dist via v h rest a o l m e = (subst IsApart e (trail_parted net xs dist via v a o l m)).0

@@ -1,15 +1,18 @@
 -- A search while its queue is worked off, and at its end.
-use Rattle.std.proofs.Common.{◌⊎◌, ◌≡◌, ℕ, ◌+◌, ◌-◌, ◌*◌, ◌≤◌, ◌<◌, Bool, IsTrue, List, length, get_or, ap, subst, inl, inr, arith}
+use Rattle.std.proofs.Common.{◌⊎◌, ◌≡◌, ℕ, ◌+◌, ◌-◌, ◌*◌, ◌≤◌, ◌<◌, Bool, IsTrue, List, length, get_or, ap, subst, inl}
+use Rattle.std.proofs.Common.{inr, arith}
 use Rattle.std.proofs.lemmas.Bool.{cases_lt}
 use Rattle.flow_net.specs.Nets.{Net}
 use Rattle.flow_net.specs.NodeSets.{one_of}
 use Rattle.flow_solve.specs.declared.searching.Direction.{Direction}
 use Rattle.flow_solve.specs.Packs.{IsPacked}
-use Rattle.flow_solve.specs.Searches.{IsMarked, IsClosedFor, HoldsMarked, HoldsAll, IsQueue, IsNear, IsCome, IsDone, IsSearched, queued}
+use Rattle.flow_solve.specs.Searches.{IsMarked, IsClosedFor, HoldsMarked, HoldsAll, IsQueue, IsNear, IsCome, IsDone}
+use Rattle.flow_solve.specs.Searches.{IsSearched, queued}
 use Rattle.flow_solve.proofs.Queues.{queue_short, queue_most, queued_rises, total_ranges}
 
 -- the places in the first cells of the queue are done
-pub record IsSwept (net : Net) (flows : List ℕ) (dir : Direction) (starts dist via queue : List ℕ) (tail at : ℕ) : Type 0 where
+pub record IsSwept (net : Net) (flows : List ℕ) (dir : Direction) (starts dist via queue : List ℕ) (tail at : ℕ)
+    : Type 0 where
   pub cells : length dist ≡ net.nodes
   pub begun : at ≤ tail
   pub order : IsQueue dist queue tail
@@ -17,16 +20,21 @@ pub record IsSwept (net : Net) (flows : List ℕ) (dir : Direction) (starts dist
   pub entered : (i : ℕ) → i < length starts → IsMarked dist (get_or starts i 0 - 1)
   pub zeros : (i : ℕ) → i < length starts → get_or dist (get_or starts i 0 - 1) 0 ≡ 0
   pub done : (i : ℕ) → i < at → IsDone net flows dir dist (get_or queue i 0)
-  pub come : (p : ℕ) → p < net.nodes → IsMarked dist p → ((get_or dist p 0 ≡ 0) × IsTrue (one_of starts (p + 1))) ⊎ IsCome net flows dir dist via p
+  pub come : (p : ℕ) → p < net.nodes → IsMarked dist p
+      → ((get_or dist p 0 ≡ 0) × IsTrue (one_of starts (p + 1))) ⊎ IsCome net flows dir dist via p
   pub only : (side : ℕ → Bool) → HoldsAll starts side → IsClosedFor dir net flows side → HoldsMarked net.nodes dist side
 
-pub searched : (net : Net) (flows : List ℕ) (dir : Direction) (starts dist via queue : List ℕ) (tail at : ℕ) → IsSwept net flows dir starts dist via queue tail at → IsSearched net flows dir starts dist via
+pub searched : (net : Net) (flows : List ℕ) (dir : Direction) (starts dist via queue : List ℕ) (tail at : ℕ)
+    → IsSwept net flows dir starts dist via queue tail at → IsSearched net flows dir starts dist via
 searched net flows dir starts dist via queue tail at s = record {
   size = s.cells;
   begun = s.entered;
   zeros = s.zeros;
   come = s.come;
-  levels = λ p l m. let r = s.order.levels p (omega (arith, s.cells)) m in let short = queue_short dist queue tail s.order in omega (arith, s.cells);
+  levels = λ p l m.
+      let r = s.order.levels p (omega (arith, s.cells)) m in
+      let short = queue_short dist queue tail s.order in
+      omega (arith, s.cells);
   even = λ p l m. let w = s.order.waits p (omega (arith, s.cells)) m in elim (cases_lt w.0 at) [
     | inl early ↦ inl (subst (IsDone net flows dir dist) w.2 (s.done w.0 early))
     | inr late ↦ inr (λ q marked.
@@ -37,12 +45,17 @@ searched net flows dir starts dist via queue tail at s = record {
 }
 
 -- at the end of the queue every marked place is done
-pub all_done : (net : Net) (flows : List ℕ) (dir : Direction) (starts dist via queue : List ℕ) (tail at : ℕ) → IsSwept net flows dir starts dist via queue tail at → tail ≤ at → (p : ℕ) → p < net.nodes → IsMarked dist p → IsDone net flows dir dist p
+pub all_done : (net : Net) (flows : List ℕ) (dir : Direction) (starts dist via queue : List ℕ) (tail at : ℕ)
+    → IsSwept net flows dir starts dist via queue tail at → tail ≤ at → (p : ℕ) → p < net.nodes → IsMarked dist p
+    → IsDone net flows dir dist p
 all_done net flows dir starts dist via queue tail at s end p l m =
-    let w = s.order.waits p (omega (arith, s.cells)) m in subst (IsDone net flows dir dist) w.2 (s.done w.0 (omega (arith, w.1)))
+    let w = s.order.waits p (omega (arith, s.cells)) m in
+    subst (IsDone net flows dir dist) w.2 (s.done w.0 (omega (arith, w.1)))
 
 -- the half-arcs of the places in the queue are no more than all
-pub queued_halves : (net : Net) (first halves dist queue : List ℕ) (tail at : ℕ) → IsPacked net first halves → length dist ≡ net.nodes → IsQueue dist queue tail → at ≤ tail → queued (λ v. get_or first (v + 1) 0 - get_or first v 0) queue at ≤ 2 * length net.arcs
+pub queued_halves : (net : Net) (first halves dist queue : List ℕ) (tail at : ℕ) → IsPacked net first halves
+    → length dist ≡ net.nodes → IsQueue dist queue tail → at ≤ tail
+    → queued (λ v. get_or first (v + 1) 0 - get_or first v 0) queue at ≤ 2 * length net.arcs
 queued_halves net first halves dist queue tail at packed cells q l =
     let some = queued_rises (λ v. get_or first (v + 1) 0 - get_or first v 0) queue at tail l in
     let most = queue_most (λ v. get_or first (v + 1) 0 - get_or first v 0) dist queue tail q in

@@ -1,7 +1,7 @@
 -- Flows between a node and the nodes before it in an order, which are terminals; what the cells hold meanwhile.
-use Rattle.std.specs.Prelude.{◌≡◌, ℕ, zero, suc, ◌+◌, ◌-◌, ◌*◌, ◌≤◌, ◌<◌, nat_le, Bool, false, IsTrue, List, length, slice_index}
+use Rattle.std.specs.Prelude.{◌≡◌, ℕ, zero, suc, ◌+◌, ◌-◌, ◌*◌, ◌≤◌, ◌<◌, nat_le, nat_lt, Bool, false, List, length, slice_index}
 use Rattle.std.specs.List.{count_by}
-use Rattle.flow_net.specs.Nets.{Net, IsNet}
+use Rattle.flow_net.specs.Nets.{Net}
 use Rattle.flow_net.specs.NodeSets.{just}
 use Rattle.flow_net.specs.Orders.{IsOrder, before}
 use Rattle.flow_net.specs.Flows.{out_of, into, IsFeasible}
@@ -50,6 +50,10 @@ IsParted dir net order i k = (X : ℕ → Bool) × IsCut (just (slice_index orde
 abbrev pub ArePlaces : ℕ → List ℕ → List ℕ → Type 0
 ArePlaces n order cells = (p : ℕ) → p < n → slice_index cells p < n → slice_index order (slice_index cells p) ≡ p + 1
 
+-- the set of the nodes before a place, by their cells
+abbrev pub earlier_in : List ℕ → ℕ → ℕ → Bool
+earlier_in cells k v = nat_lt (slice_index cells (v - 1)) k
+
 -- no node is seen
 abbrev pub IsClean : ℕ → List ℕ → Type 0
 IsClean n cells = (p : ℕ) → p < n → slice_index cells p < n
@@ -65,11 +69,10 @@ abbrev pub seen_in : ℕ → List ℕ → ℕ → Bool
 seen_in n cells zero = false
 seen_in n cells (suc p) = nat_le n (slice_index cells p)
 
--- the first places of an order that is being made have a node each, and each node has one of these places or none
-pub record IsPartOrder (n : ℕ) (order cells : List ℕ) (tail : ℕ) : Type 0 where
-  pub few : tail ≤ n
-  pub nodes : (i : ℕ) → i < tail → (1 ≤ slice_index order i) × (slice_index order i ≤ n) × (slice_index cells (slice_index order i - 1) ≡ i)
-  pub places : (p : ℕ) → p < n → slice_index cells p < n → (slice_index cells p < tail) × (slice_index order (slice_index cells p) ≡ p + 1)
+-- each place has a node, and each node stands at the place that its cell holds
+pub record IsInOrder (n : ℕ) (order cells : List ℕ) : Type 0 where
+  pub nodes : (i : ℕ) → i < n → (1 ≤ slice_index order i) × (slice_index order i ≤ n) × (slice_index cells (slice_index order i - 1) ≡ i)
+  pub places : (p : ℕ) → p < n → (slice_index cells p < n) × (slice_index order (slice_index cells p) ≡ p + 1)
 
 -- each half-arc with a residual capacity that goes out from a node leads to a node that is seen
 abbrev pub IsPassed : Direction → Net → List ℕ → List ℕ → ℕ → Type 0

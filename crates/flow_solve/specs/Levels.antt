@@ -1,7 +1,8 @@
 -- The method by levels (Dinitz 1970): the ranks that a search gives, places that only move on, and what a phase leaves.
-use Rattle.std.specs.Prelude.{◌≡◌, ◌≢◌, ℕ, zero, suc, ◌+◌, ◌-◌, ◌*◌, ◌≤◌, ◌<◌, ◌==◌, ◌⊎◌, ◌&&◌, nat_lt, Bool, true, false, not, IsTrue, IsFalse, List, [], ◌∷◌, length, slice_index, if◌then◌else◌}
+use Rattle.std.specs.Prelude.{◌≡◌, ◌≢◌, ℕ, zero, suc, ◌+◌, ◌-◌, ◌*◌, ◌≤◌, ◌<◌, ◌==◌, ◌⊎◌, ◌&&◌, min, nat_lt, Bool, true, false, not, IsTrue, IsFalse, List, [], ◌∷◌, length, slice_index, if◌then◌else◌}
 use Rattle.std.specs.List.{AllByRecursion}
-use Rattle.flow_net.specs.Nets.{Net, IsNode, AreTerminals}
+use Rattle.flow_net.specs.Nets.{Net, IsNode}
+use Rattle.flow_net.specs.Limits.{AreTerminals}
 use Rattle.flow_net.specs.NodeSets.{one_of}
 use Rattle.flow_net.specs.Flows.{IsFeasible, HasValue, HasNoLoops}
 use Rattle.flow_net.specs.Residual.{Table, tail_of, head_of, residual}
@@ -49,10 +50,27 @@ any h = true
 abbrev pub is_open : Net → List ℕ → ℕ → Bool
 is_open net xs h = not (residual net xs h == 0)
 
+-- the sum of a weight over the numbers below n that pass a test
+abbrev pub weight_below : ℕ → (ℕ → Bool) → (ℕ → ℕ) → ℕ
+weight_below zero p w = 0
+weight_below (suc n) p w = weight_below n p w + (if p n then w n else 0)
+
+-- What the augmentation costs that fills a half-arc: a look and a push for each half-arc of its path, and a look for each
+-- half-arc that the walk goes along anew. The walk goes on where the filled one begins, and ranks fall along its path, so
+-- these are no more than that node's rank.
+abbrev pub fill_cost : Net → (ℕ → ℕ) → ℕ → ℕ
+fill_cost net rank h = 2 * (net.nodes - 1) + min (rank (tail_of net h)) (net.nodes - 1)
+
+-- the sum of these over the half-arcs that fall, aren't passed, and have a residual capacity
+abbrev pub to_fill : Net → (ℕ → ℕ) → (ℕ → ℕ) → (ℕ → ℕ) → List ℕ → ℕ
+to_fill net rank place current xs =
+    weight_below (2 * length net.arcs) (is_left net rank place current (is_open net xs)) (fill_cost net rank)
+
 -- what the rest of a phase may cost, in steps
 abbrev pub owed : Net → List ℕ → List ℕ → List ℕ → List ℕ → ℕ
 owed net halves rank current xs =
-    3 * (net.nodes - 1) * left net (cell_of rank) (place_of halves) (cell_of current) (is_open net xs) + left net (cell_of rank) (place_of halves) (cell_of current) any
+    to_fill net (cell_of rank) (place_of halves) (cell_of current) xs
+    + left net (cell_of rank) (place_of halves) (cell_of current) any
 
 -- no sink, and each half-arc that leads from it to another node is passed
 pub record IsDead (net : Net) (sink : ℕ → Bool) (place current : ℕ → ℕ) (v : ℕ) : Type 0 where

@@ -2,9 +2,12 @@ pub mod Bounds
 pub mod Packs
 pub mod Raising
 pub mod Searches
+pub mod Sides
 pub mod Steps
 pub mod Trails
 pub mod Levels
 pub mod Trees
 pub mod Growth
 pub mod Lifting
+pub mod Settling
+pub mod Stages

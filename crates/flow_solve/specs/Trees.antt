@@ -5,10 +5,11 @@ use Rattle.flow_net.specs.Nets.{Net}
 use Rattle.flow_net.specs.NodeSets.{one_of}
 use Rattle.flow_net.specs.Residual.{tail_of, head_of}
 use Rattle.flow_net.specs.Paths.{IsPath, HasRoom}
+use Rattle.flow_solve.specs.declared.searching.TheConstants.{FAR}
 
 -- a number that rises along a path through the trees, from a label: labels of the sources' tree are even
 abbrev pub key_of : ℕ → ℕ
-key_of label = if label % 2 == 0 then label else 4294967295 - label
+key_of label = if label % 2 == 0 then label else FAR - label
 
 -- a path on each half-arc of which so much remains, along which a number of the nodes rises
 pub record IsRising (net : Net) (level : ℕ → ℕ) (xs : List ℕ) (d u : ℕ) (path : List ℕ) (w : ℕ) : Type 0 where

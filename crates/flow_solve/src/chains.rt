@@ -6,24 +6,19 @@ ghost use Rattle.std.specs.Prelude.{◌≡◌, ℕ, ◌+◌, ◌*◌, ◌<◌, �
 ghost use Rattle.flow_net.specs.NodeSets.{one_of};
 ghost use Rattle.flow_net.specs.Flows.{Fits};
 ghost use Rattle.flow_solve.specs.Packs.{IsPacked};
-ghost use Rattle.flow_solve.specs.Trees.{key_of, IsAugmenting};
+ghost use Rattle.flow_solve.specs.Stages.{IsTask, Augments};
+ghost use Rattle.flow_solve.specs.Steps.{OnlyLooks};
+ghost use Rattle.flow_solve.specs.Trees.{key_of};
 
 use crate::frontiers::{get, label_of, parent_of};
 use crate::packing::Packed;
-use crate::searching::{Direction, cross, head};
+use crate::searching::{Direction, FAR, cross, head};
+use crate::stages::Task;
 use crate::walking::tail;
 use flow_net::FlowTable;
 
-/// The sources and the sinks.
-#[derive(Clone, Copy)]
-pub(crate) struct Ends<'a> {
-    /// The sources.
-    pub s: &'a [u32],
-    /// The sinks.
-    pub t: &'a [u32],
-}
-
-/// The half-arc that flow to or from a node in a tree goes through, given the one that leads from the node to its parent.
+/// The half-arc that flow to or from a node in a tree goes through, given the one that leads from the node to its
+/// parent.
 pub(crate) fn supply(direction: Direction, half: u32) -> u32
     ensures { (m : ℕ) → half < 2 * m → result < 2 * m }
 {
@@ -71,8 +66,8 @@ pub(crate) fn chain_len(cells: &[u32], node: u32) -> u32 {
     (get(cells, label_of(node)) / 2).saturating_sub(1)
 }
 
-/// Writes the path over a half-arc from the tree of the sources to that of the sinks, the chain in front of it having so
-/// many half-arcs.
+/// Writes the path over a half-arc from the tree of the sources to that of the sinks, the chain in front of it having
+/// so many half-arcs.
 pub(crate) fn gather(packed: Packed<'_>, cells: &[u32], path: &mut [u32], split: usize, half: u32)
     requires packed { IsPacked packed.net.now packed.first.now packed.halves.now }
     requires half { half < 2 * length packed.net.now.arcs }
@@ -88,11 +83,7 @@ pub(crate) fn gather(packed: Packed<'_>, cells: &[u32], path: &mut [u32], split:
 fn key(label: u32) -> u32
     ensures { result ≡ key_of label }
 {
-    if label % 2 == 0 {
-        label
-    } else {
-        u32::MAX - label
-    }
+    if label % 2 == 0 { label } else { FAR - label }
 }
 
 /// Whether a node is one of some terminals, by the place among them that stands in its parent's cell.
@@ -105,25 +96,17 @@ fn is_root(cells: &[u32], nodes: u32, terminals: &[u32], node: u32) -> bool
 
 /// The least that remains on a path, or 0 where it isn't a path from a source to a sink along which keys rise: each
 /// half-arc of it is looked at.
-pub(crate) fn room_along(
-    packed: Packed<'_>,
-    ends: Ends<'_>,
-    flow: &mut FlowTable,
-    cells: &[u32],
-    path: &[u32],
-) -> u64
-    requires fits { Fits packed.net.now flow.old.flows }
-    requires packed { IsPacked packed.net.now packed.first.now packed.halves.now }
-    ensures room { 1 ≤ result → IsAugmenting packed.entry.net.now ends.entry.s.now ends.entry.t.now flow.old.flows path.now result }
-    ensures flows { flow.new.flows ≡ flow.old.flows }
-    ensures never_lowered { flow.old.steps ≤ flow.new.steps }
-    ensures steps { flow.new.steps ≤ flow.old.steps + length path.now }
+pub(crate) fn room_along(task: Task<'_>, flow: &mut FlowTable, cells: &[u32], path: &[u32]) -> u64
+    requires task { IsTask task }
+    requires fits { Fits task.packed.net.now flow.old.flows }
+    ensures room { 1 ≤ result → Augments task.entry flow.old.flows path.now result }
+    ensures looks { OnlyLooks flow.old flow.new (length path.now) }
 {
     let Packed {
         net,
         first: _,
         halves,
-    } = packed;
+    } = task.packed;
     let nodes = net.nodes();
     if path.is_empty() || path[0] as usize >= halves.len() {
         return 0;
@@ -142,7 +125,7 @@ pub(crate) fn room_along(
         least = least.min(room);
         node = next;
     }
-    if is_root(cells, nodes, ends.s, source) && is_root(cells, nodes, ends.t, node) {
+    if is_root(cells, nodes, task.s, source) && is_root(cells, nodes, task.t, node) {
         least
     } else {
         0

@@ -1,8 +1,8 @@
 //! The cells of two search trees, and the lists of nodes that the trees have yet to grow from.
 //!
-//! What these cells hold is a hint: nothing is claimed of it, and a path is looked at before flow is pushed along it. A cell
-//! that doesn't exist reads as 0, and a write to it is dropped. Nodes and levels count from 1, so cell 0 is spare.
-ghost use Rattle.std.specs.Prelude.{◌≡◌, length, slice_index};
+//! What these cells hold is a hint: nothing is claimed of it, and a path is looked at before flow is pushed along it. A
+//! cell that doesn't exist reads as 0, and a write to it is dropped. Nodes and levels count from 1, so cell 0 is spare.
+ghost use Rattle.std.specs.Prelude.{◌≡◌, ◌+◌, ◌*◌, length, slice_index};
 
 use crate::searching::Direction;
 
@@ -62,7 +62,9 @@ pub(crate) fn label_of(node: u32) -> usize
 }
 
 /// Where the half-arc from a node to its parent stands; for a root its place among the terminals.
-pub(crate) fn parent_of(nodes: u32, node: u32) -> usize {
+pub(crate) fn parent_of(nodes: u32, node: u32) -> usize
+    ensures { result ≡ nodes + node }
+{
     nodes as usize + node as usize
 }
 
@@ -72,12 +74,16 @@ fn before(nodes: u32, node: u32) -> usize {
 }
 
 /// Where the node after a node in its frontier stands.
-pub(crate) fn after(nodes: u32, node: u32) -> usize {
+pub(crate) fn after(nodes: u32, node: u32) -> usize
+    ensures { result ≡ 3 * nodes + node }
+{
     3 * nodes as usize + node as usize
 }
 
 /// Where the first orphan of a level stands.
-pub(crate) fn orphan_on(nodes: u32, level: u32) -> usize {
+pub(crate) fn orphan_on(nodes: u32, level: u32) -> usize
+    ensures { result ≡ 4 * nodes + level }
+{
     4 * nodes as usize + level as usize
 }
 

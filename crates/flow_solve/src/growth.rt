@@ -1,7 +1,6 @@
 //! Edge connectivity by terminals that grow along an order of the nodes.
 //!
-//! The nodes are taken in the order of a search over arcs in either direction, so that each stands near earlier ones. At a
-//! node's turn the flow between it and all earlier nodes is raised until it is worth the least number so far, or no more
+//! The nodes are taken in an order of maximum adjacency, so that each is joined with many earlier ones. At a node's turn the flow between it and all earlier nodes is raised until it is worth the least number so far, or no more
 //! can be raised; then the least number falls to its value. The flow is kept from turn to turn: a node that has become a
 //! terminal needs no conservation, so the flow stays feasible, and at the next node its value is 0. Nothing is done for
 //! the whole network at a turn: a search puts back the cells that it has changed, and whether a node is a terminal is one
@@ -20,9 +19,11 @@ ghost use Rattle.flow_solve.specs.Packs.{IsPacked};
 ghost use Rattle.flow_solve.specs.Bounds.{work_cells};
 ghost use Rattle.flow_solve.specs.Growth.{ArePlaces, IsClean, IsBelow};
 
+mod direct;
 mod frontier;
 mod mirrors;
 mod ordering;
+mod prefixes;
 mod raising;
 mod turns;
 
@@ -31,8 +32,9 @@ use crate::searching::Direction;
 use flow_net::{FlowTable, Network};
 use mirrors::is_both_ways;
 use ordering::order_nodes;
-use raising::{Raised, raise};
-use turns::Turn;
+use prefixes::bound_by_prefix;
+use raising::raise;
+use turns::{Raised, Turn};
 
 /// One pass over the order: each node but the first has its turn. `least` holds the least number so far and how many looks
 /// and pushes are left; the answer is the same after the pass, or nothing where they are used up.
@@ -93,6 +95,33 @@ fn grow(
     Some(least)
 }
 
+/// Orders the nodes and leaves the place of each in its cell. Answers the least of a number of arcs that leave some set and of
+/// such numbers that the order shows.
+fn arrange(
+    packed: Packed<'_>,
+    order: &mut [u32],
+    cells: &mut [u32],
+    rest: &mut [u32],
+    least: u64,
+) -> Option<u64>
+    requires packed { IsPacked packed.net.now packed.first.now packed.halves.now }
+    requires order_size { length order.old ≡ packed.net.now.nodes }
+    requires size { length cells.old ≡ packed.net.now.nodes }
+    requires rest_size { length rest.old ≡ 3 * packed.net.now.nodes }
+    requires reached { (X : ℕ → Bool) × IsProper packed.net.now X × (leaving packed.net.now X ≡ least) }
+    ensures order { IfSome result (λ _. IsOrder packed.entry.net.now order.new) }
+    ensures places { IfSome result (λ _. ArePlaces packed.entry.net.now.nodes order.new cells.new) }
+    ensures clean { IfSome result (λ _. IsClean packed.entry.net.now.nodes cells.new) }
+    ensures reached { IfSome result (λ r. (X : ℕ → Bool) × IsProper packed.entry.net.now X × (leaving packed.entry.net.now X ≡ r)) }
+{
+    let n = packed.net.nodes() as usize;
+    let (joins, rest) = rest.split_at_mut(n);
+    let most = least.saturating_mul(2).min(n as u64) as usize;
+    let (fronts, _) = rest.split_at_mut(most);
+    let sweep = order_nodes(packed, order, cells, joins, fronts)?;
+    Some(bound_by_prefix(packed.net, order, cells, sweep, least))
+}
+
 /// The edge connectivity of a network in which every capacity is 1, where a set of nodes is known that `least` arcs leave and
 /// that is neither empty nor all. It takes at most `budget` looks and pushes, and answers nothing where these don't suffice.
 ///
@@ -122,11 +151,9 @@ pub fn connectivity_by_growth(
     let (halves, _) = rest.split_at_mut(2 * m);
     pack(net, first, halves);
     let packed = Packed { net, first, halves };
-    if !order_nodes(packed, order, cells) {
-        return None;
-    }
+    let value = arrange(packed, order, cells, three, least)?;
     let start = Raised {
-        value: least,
+        value,
         left: budget,
     };
     let forth = grow(

@@ -1,5 +1,5 @@
-//! The method by levels (Dinitz 1970), in three stages that work on one flow: search trees first, then phases that lift
-//! stuck nodes, then phases that don't.
+//! The method by levels (Dinitz 1970), in four stages that work on one flow: search trees first, then waves where arcs lie in
+//! layers, then phases that lift stuck nodes, then phases that don't.
 //!
 //! 1. **Two trees** (`trees`, `chains`, `orphans`, `frontiers`). Search trees grow from the sources and from the sinks, a
 //!    level of the smaller *frontier* at a time (Boykov and Kolmogorov 2004), and are kept breadth-first (incremental
@@ -9,27 +9,35 @@
 //!    level nearer to the root, or else raised to a farther level, with its children as orphans in turn, or set free. So no
 //!    search begins anew. That serves where the first paths are short and most of a tree outlives a push: images,
 //!    assignments, closures.
-//! 2. **Phases that lift** (`phases`, `lifting`). A search backwards from the sinks gives the nodes distances and ranks, and
+//! 2. **Waves** (`waves`, `settling`). Where the trees have found that ways are long, a thousand units can leave the sources and
+//!    reach the sinks, and three quarters of the arcs lead to a lower rank in a search backwards from the sinks, flow is sent
+//!    in waves (Karzanov 1974, Tarjan 1984): a sweep from the
+//!    highest rank to the lowest sends on all that each node has received, and the next search ranks the nodes anew for what
+//!    was stuck. So thousands of paths that share most of their half-arcs cost one search and one sweep. In the end what no
+//!    sink takes goes home by waves from the sources, and the table is settled: it stays if a feasible flow stands there, and
+//!    is cleared otherwise. Where arcs have opposite arcs, as in roads and frames, lifting was measured to be better.
+//! 3. **Phases that lift** (`phases`, `lifting`). A search backwards from the sinks gives the nodes distances and ranks, and
 //!    walks go from the sources along half-arcs that fall in distance, or in rank at the same distance. A node where a walk is
 //!    stuck is *lifted*: its distance becomes one more than the least of a node that something remains towards, which is the
 //!    relabelling of Goldberg and Tarjan (1988) in a walk that carries no excess. Nodes beyond the farthest source take part at
 //!    its distance. Lifting passes at most half as many half-arcs as leave the nodes that the search has seen, the phase's
 //!    *fuel*; after that a stuck node is given up until the next search. So one search serves many more augmentations where
 //!    few paths are short.
-//! 3. **Phases** (`phases`, `walking`). A search backwards from the sinks ranks the nodes, walks from the sources along
+//! 4. **Phases** (`phases`, `walking`). A search backwards from the sinks ranks the nodes, walks from the sources along
 //!    falling ranks block all shortest paths, and the distance from the sources to the sinks grows by each phase. They go
 //!    on from whatever feasible flow they find, and their last search, which sees no source, shows that the flow is greatest.
 //!
 //! Nothing is claimed of the trees, nor of lifted distances: a path is written down and looked at, half-arc by half-arc,
-//! before anything is pushed along it, and a stage may leave wherever it is. What the trees take is counted off an
-//! allowance of 16 steps for each arc, and what lifting phases take off the rest of `n²·m`; a half-arc that is passed by
-//! without a look counts as a step too.
+//! before anything is pushed along it, and a stage may leave wherever it is. Of waves no more is claimed than what their end
+//! tests. What the trees take is counted off an allowance of 16 steps for each arc, and what waves and lifting phases take
+//! off the rest of `n²·m`; a half-arc that is passed by without a look counts as a step too.
 //! The other phases take at most `3·n²·m` from any feasible flow, so that all stay within `4·n²·m` for each network. They
 //! seldom begin: the last search, which shows that the flow is greatest, is mostly that of a phase that would have lifted.
 //!
 //! The trees aren't grown where they were measured to bring nothing: where there are more than 32 arcs for each node, since a
 //! repair passes all half-arcs of a node; and no farther than until the nearest source and sink are found to be more than
-//! some 16 half-arcs apart, since then much flow goes far, and paths one by one bring little. There the phases begin at once.
+//! some 16 half-arcs apart, since then much flow goes far, and paths one by one bring little. There waves, or the phases,
+//! begin at once.
 //!
 //! Seconds of user time of `flow solve --value`, reading and all, on problems of `bench/generate.py` with 1,000,000 arcs
 //! (least of four runs in turn on a busy machine):
@@ -41,8 +49,8 @@
 //! | `project-selection` | 0.28 | 0.12 |
 //! | `matching` | 0.41 | 0.39 |
 //!
-//! In `acyclic-dense`, `roads` and the families of layers and frames the trees only look for the first levels, and the phases
-//! begin at once. What lifting brings there, in seconds of user time on problems with some 500,000 arcs (least of two
+//! In `acyclic-dense`, `roads` and the families of frames the trees only look for the first levels, and the phases begin at
+//! once. What lifting brings there, in seconds of user time on problems with some 500,000 arcs (least of two
 //! runs on a busy machine):
 //!
 //! | Family | Phases that don't lift | Phases that lift |
@@ -57,12 +65,13 @@
 ghost use Rattle.std.specs.Prelude.{◌+◌, ◌*◌, ◌≤◌, length};
 ghost use Rattle.flow_solve.specs.Bounds.{levels_bound};
 
-use crate::chains::Ends;
 use crate::method::Method;
 use crate::packing::Packed;
 use crate::phases::run_phases;
 use crate::raising::{Raise, solve};
+use crate::stages::Task;
 use crate::trees::grow_trees;
+use crate::waves::try_waves;
 use flow_net::{FlowTable, Network};
 
 /// How many times the number of arcs the trees may take, in steps and in half-arcs that they pass by.
@@ -82,7 +91,20 @@ fn allowance(net: &Network) -> u64
     (n * n).min(TREES_SHARE) * u64::from(net.len())
 }
 
-/// How much the phases may take while they lift: what the trees leave of `n²·m`, in 64 bits.
+/// How many times the number of arcs the waves may take at most.
+const WAVES_SHARE: u64 = 1024;
+
+/// How much the waves may take of what the trees leave: nothing where the trees weren't grown.
+fn share_of_waves(net: &Network, given: u64, rest: u64) -> u64
+    ensures { result ≤ rest }
+{
+    if given == 0 {
+        return 0;
+    }
+    (rest / 2).min(WAVES_SHARE * u64::from(net.len()))
+}
+
+/// How much the waves, and the phases while they lift, may take: what the trees leave of `n²·m`, in 64 bits.
 fn rest_of_allowance(net: &Network, given: u64) -> u64
     requires { given ≤ net.now.nodes * net.now.nodes * length net.now.arcs }
     ensures { result + given ≤ net.now.nodes * net.now.nodes * length net.now.arcs }
@@ -108,10 +130,18 @@ impl Raise for Levels {
         cells: &mut [u32],
         value: u128,
     ) -> u128 {
-        let ends = Ends { s, t };
+        let task = Task { packed, s, t };
         let given = allowance(packed.net);
-        let raised = grow_trees(packed, ends, flow, cells, value, given);
-        let lifting = rest_of_allowance(packed.net, given);
+        let raised = grow_trees(task, flow, cells, value, given);
+        let rest = rest_of_allowance(packed.net, given);
+        let share = share_of_waves(packed.net, given, rest);
+        // Where the trees have found a path, paths are short.
+        let raised = if raised == value {
+            try_waves(packed, s, t, flow, cells, value, share)
+        } else {
+            raised
+        };
+        let lifting = rest - share;
         run_phases(packed, s, t, flow, cells, raised, lifting)
     }
 }

@@ -1,9 +1,10 @@
 //! Maximum flows and minimum cuts.
 //!
-//! Given a network with sources and sinks, a [`Method`] leaves a feasible flow of the greatest value in a table; after
-//! it [`reach`] and [`reach_back`] tell the least source side and the least sink side of the minimum cuts. By the
-//! theorem of Ford and Fulkerson (1956) the greatest value of a flow is the least capacity of a cut, and a flow has it
-//! where no path of the residual network leads from a source to a sink.
+//! Given a network with sources and sinks, a [`Method`] leaves a feasible flow of the greatest value in a table;
+//! [`cut_nearest_sources`] and [`cut_nearest_sinks`] also mark the least source side and the least sink side of the
+//! minimum cuts. Of a feasible flow from elsewhere [`has_augmenting_path`] tells whether it is greatest, and [`reach`]
+//! and [`reach_back`] mark these sides. By the theorem of Ford and Fulkerson (1956) the greatest value of a flow is the
+//! least capacity of a cut, and a flow has it where no path of the residual network leads from a source to a sink.
 //!
 //! Everything here goes over *half-arcs*: half-arc `2·i` runs along arc `i` and half-arc `2·i + 1` against it, where
 //! flow can be taken back. A solver gets at flows by the looks and pushes of [`flow_net::FlowTable`] alone, and each
@@ -34,14 +35,25 @@
 //! | `n` | the node after it in its frontier |
 //! | `n - 1` | for each level its first orphan; while flow is pushed, the half-arcs of the path |
 //!
+//! The waves, which [`Levels`] sends where arcs lie in layers, have them for:
+//!
+//! | Cells | What they hold |
+//! |---|---|
+//! | `n` | each node's rank in the last search |
+//! | `n` | the bound of what it can pass on |
+//! | `n` | the places of the nodes by rank, which is the search's queue |
+//! | `2·n` | each node's excess, in two cells |
+//!
+//! and, where their table is settled, for each node's balance (`2·n` cells) and its role (`n` cells).
+//!
 //! And [`connectivity_by_growth`] has them, in front of the packed half-arcs, for:
 //!
 //! | Cells | What they hold |
 //! |---|---|
 //! | `n` | the nodes in their order |
 //! | `n` | each node's place in that order; while a search has seen it, `n` and twice its level |
-//! | `n` | each seen node's current place: that of its half-arc which the walk tries next |
-//! | `n` | the search's queue |
+//! | `n` | while the order is made, how many half-arcs join each node with those before; each seen node's current place: that of its half-arc which the walk tries next |
+//! | `n` | while the order is made, for each number of these the place of the first node with so many; the search's queue |
 //! | `n` | the half-arcs of the walk's path |
 #![tactic(auto)]
 
@@ -58,14 +70,19 @@ mod phases;
 mod raising;
 mod reaching;
 mod searching;
+mod settling;
+mod stages;
 mod trees;
 mod walking;
+mod waves;
 
 pub use growth::connectivity_by_growth;
 pub use levels::Levels;
 pub use method::{Method, work_len};
 pub use paths::Paths;
-pub use reaching::{reach, reach_back};
+pub use reaching::{
+    cut_nearest_sinks, cut_nearest_sources, has_augmenting_path, reach, reach_back,
+};
 
 #[cfg(test)]
 mod tests;

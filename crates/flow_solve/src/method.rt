@@ -1,10 +1,12 @@
 //! What every way to a greatest flow promises, and the cells that it works in.
 ghost use Rattle.std.specs.Prelude.{◌≡◌, ℕ, ◌+◌, ◌*◌, ◌≤◌, length, drop};
-ghost use Rattle.flow_net.specs.Nets.{Net, AreTerminals};
+ghost use Rattle.flow_net.specs.Nets.{Net};
+ghost use Rattle.flow_net.specs.Limits.{AreTerminals};
 ghost use Rattle.flow_net.specs.NodeSets.{one_of};
 ghost use Rattle.flow_net.specs.Flows.{Fits, IsFeasible, HasValue, IsGreatest, HasNoLoops};
 ghost use Rattle.flow_net.specs.Cuts.{IsLeastCapacity};
 ghost use Rattle.flow_solve.specs.Bounds.{work_cells};
+ghost use Rattle.flow_solve.specs.Packs.{HoldsPacked};
 
 use flow_net::{FlowTable, Network};
 
@@ -25,7 +27,8 @@ pub trait Method {
         ensures { result ≤ steps_bound net.now };
 
     /// Leaves a feasible flow of the greatest value in the table, with nothing on self-loops, and answers that value.
-    /// Whatever flow the table held is cleared first. `s` has the sources and `t` the sinks.
+    /// Whatever flow the table held is cleared first. `s` has the sources and `t` the sinks. The half-arcs stand packed in
+    /// `work` afterwards.
     fn greatest(net: &Network, s: &[u32], t: &[u32], flow: &mut FlowTable, work: &mut [u32]) -> u128
         requires fits { Fits net.now flow.old.flows }
         requires terminals { AreTerminals net.now s.now t.now }
@@ -37,5 +40,6 @@ pub trait Method {
         ensures loops { HasNoLoops net.now flow.new.flows }
         ensures never_lowered { flow.old.steps ≤ flow.new.steps }
         ensures steps { flow.new.steps ≤ flow.old.steps + steps_bound net.now }
+        ensures packed { HoldsPacked net.now work.new }
         ensures rest { drop (work_cells net.now) work.new ≡ drop (work_cells net.now) work.old };
 }

@@ -4,6 +4,7 @@ ghost use Rattle.std.specs.Prelude.{◌≡◌, ◌+◌, ◌<◌, ◌≤◌, ◌*
 ghost use Rattle.flow_net.specs.Nets.{IsNode};
 ghost use Rattle.flow_net.specs.Flows.{Fits};
 ghost use Rattle.flow_solve.specs.Packs.{IsPacked};
+ghost use Rattle.flow_solve.specs.Steps.{OnlyLooks, PaysLooks};
 
 use crate::chains::supply;
 use crate::frontiers::{
@@ -66,9 +67,7 @@ pub(crate) fn abandon_filled(
 )
     requires fits { Fits packed.net.now flow.old.flows }
     requires packed { IsPacked packed.net.now packed.first.now packed.halves.now }
-    ensures flows { flow.new.flows ≡ flow.old.flows }
-    ensures never_lowered { flow.old.steps ≤ flow.new.steps }
-    ensures steps { flow.new.steps ≤ flow.old.steps + count }
+    ensures looks { OnlyLooks flow.old flow.new count }
     ensures left { trees.new.left ≡ trees.old.left }
 {
     let nodes = packed.net.nodes();
@@ -88,8 +87,8 @@ pub(crate) fn abandon_filled(
     }
 }
 
-/// The least level, from an orphan's own on, on which it would have a parent in its tree, or one past the farthest. At its
-/// own level it gets that parent.
+/// The least level, from an orphan's own on, on which it would have a parent in its tree, or one past the farthest. At
+/// its own level it gets that parent.
 fn find_parent(
     packed: Packed<'_>,
     flow: &mut FlowTable,
@@ -100,14 +99,12 @@ fn find_parent(
 ) -> Option<u32>
     requires fits { Fits packed.net.now flow.old.flows }
     requires packed { IsPacked packed.net.now packed.first.now packed.halves.now }
+    requires size { 5 * packed.net.now.nodes ≤ length cells.old }
     requires node { IsNode packed.net.now node }
-    ensures flows { flow.new.flows ≡ flow.old.flows }
-    ensures never_lowered { flow.old.steps ≤ flow.new.steps }
-    ensures left { trees.new.left ≤ trees.old.left }
-    ensures steps { flow.new.steps + trees.new.left ≤ flow.old.steps + trees.old.left }
+    ensures paid { PaysLooks flow.old trees.old.left flow.new trees.new.left }
 {
     let nodes = packed.net.nodes();
-    let own = get(cells, label_of(node));
+    let own = cells[label_of(node)];
     let direction = direction_of(own);
     let level = own / 2;
     let begin = packed.first[node as usize - 1];
@@ -115,7 +112,7 @@ fn find_parent(
     let mut found = limit.saturating_add(1);
     for spot in begin..end {
         let half = packed.halves[spot as usize];
-        let other = get(cells, label_of(head(packed.net, half)));
+        let other = cells[label_of(head(packed.net, half))];
         let on = other / 2 + 1;
         if other != 0 && other % 2 == own % 2 && level <= on && on < found {
             if !spend(trees) {
@@ -124,7 +121,7 @@ fn find_parent(
             let (_, room) = flow.look(packed.net, supply(direction, half));
             if room > 0 {
                 if on == level {
-                    put(cells, parent_of(nodes, node), half);
+                    cells[parent_of(nodes, node)] = half;
                     trees.left = trees.left.saturating_sub(u64::from(spot - begin));
                     return Some(level);
                 }
@@ -139,23 +136,23 @@ fn find_parent(
 /// Makes orphans of a node's children.
 fn abandon_children(packed: Packed<'_>, trees: &mut Trees, cells: &mut [u32], node: u32)
     requires packed { IsPacked packed.net.now packed.first.now packed.halves.now }
+    requires size { 5 * packed.net.now.nodes ≤ length cells.old }
     requires node { IsNode packed.net.now node }
     ensures left { trees.new.left ≡ trees.old.left }
 {
     let nodes = packed.net.nodes();
-    let child = get(cells, label_of(node)).saturating_add(2);
+    let child = cells[label_of(node)].saturating_add(2);
     for spot in packed.first[node as usize - 1]..packed.first[node as usize] {
         let half = packed.halves[spot as usize];
         let next = head(packed.net, half);
-        if get(cells, label_of(next)) == child && get(cells, parent_of(nodes, next)) == half ^ 1 {
+        if cells[label_of(next)] == child && cells[parent_of(nodes, next)] == half ^ 1 {
             abandon(trees, nodes, cells, next);
         }
     }
 }
 
 /// Takes a node whose label is about to change off its list, if it is on one, and puts it on that of its new level.
-fn relist(tree: Tree, nodes: u32, cells: &mut [u32], node: u32, level: u32, found: u32) -> Tree {
-    let mut tree = tree;
+fn relist(tree: &mut Tree, nodes: u32, cells: &mut [u32], node: u32, level: u32, found: u32) {
     if get(cells, after(nodes, node)) != 0 {
         if level == tree.level {
             tree.now = unlink(cells, nodes, tree.now, node);
@@ -170,39 +167,39 @@ fn relist(tree: Tree, nodes: u32, cells: &mut [u32], node: u32, level: u32, foun
             tree.later = link(cells, nodes, tree.later, node);
         }
     }
-    tree
 }
 
-/// Moves an orphan to a farther level, or out of its tree where that is past the farthest. Its children become orphans.
-fn raise(packed: Packed<'_>, trees: &mut Trees, cells: &mut [u32], node: u32, found: u32)
+/// Moves an orphan to a farther level, or out of its tree where that is past the farthest. Its children become orphans;
+/// a node on the farthest level has none.
+fn raise(
+    packed: Packed<'_>,
+    trees: &mut Trees,
+    cells: &mut [u32],
+    node: u32,
+    limit: u32,
+    found: u32,
+)
     requires packed { IsPacked packed.net.now packed.first.now packed.halves.now }
+    requires size { 5 * packed.net.now.nodes ≤ length cells.old }
     requires node { IsNode packed.net.now node }
     ensures left { trees.new.left ≤ trees.old.left }
 {
     let nodes = packed.net.nodes();
-    let own = get(cells, label_of(node));
-    let degree = packed.first[node as usize] - packed.first[node as usize - 1];
-    trees.left = trees.left.saturating_sub(u64::from(degree));
-    put(cells, parent_of(nodes, node), u32::MAX);
-    abandon_children(packed, trees, cells, node);
-    let limit = match direction_of(own) {
-        Direction::Forwards => {
-            trees.sources = relist(trees.sources, nodes, cells, node, own / 2, found);
-            trees.sources.limit
-        }
-        Direction::Backwards => {
-            trees.sinks = relist(trees.sinks, nodes, cells, node, own / 2, found);
-            trees.sinks.limit
-        }
-    };
+    let own = cells[label_of(node)];
+    let level = own / 2;
+    if level < limit {
+        let degree = packed.first[node as usize] - packed.first[node as usize - 1];
+        trees.left = trees.left.saturating_sub(u64::from(degree));
+        abandon_children(packed, trees, cells, node);
+    }
+    match direction_of(own) {
+        Direction::Forwards => relist(&mut trees.sources, nodes, cells, node, level, found),
+        Direction::Backwards => relist(&mut trees.sinks, nodes, cells, node, level, found),
+    }
     if found > limit {
-        put(cells, label_of(node), 0);
+        cells[label_of(node)] = 0;
     } else {
-        put(
-            cells,
-            label_of(node),
-            found.saturating_mul(2).saturating_add(own % 2),
-        );
+        cells[label_of(node)] = found.saturating_mul(2).saturating_add(own % 2);
         // It takes its parent when the orphans of its new level do.
         abandon(trees, nodes, cells, node);
     }
@@ -218,23 +215,21 @@ fn adopt_level(
 ) -> bool
     requires fits { Fits packed.net.now flow.old.flows }
     requires packed { IsPacked packed.net.now packed.first.now packed.halves.now }
-    ensures flows { flow.new.flows ≡ flow.old.flows }
-    ensures never_lowered { flow.old.steps ≤ flow.new.steps }
-    ensures left { trees.new.left ≤ trees.old.left }
-    ensures steps { flow.new.steps + trees.new.left ≤ flow.old.steps + trees.old.left }
+    requires size { 5 * packed.net.now.nodes ≤ length cells.old }
+    requires level { level < packed.net.now.nodes }
+    ensures paid { PaysLooks flow.old trees.old.left flow.new trees.new.left }
 {
     let nodes = packed.net.nodes();
     'orphans: while spend(trees) {
-        let node = get(cells, orphan_on(nodes, level));
+        let node = cells[orphan_on(nodes, level)];
         if node == 0 {
             return true;
         }
         if node > nodes {
             return false;
         }
-        let next = get(cells, parent_of(nodes, node)) & (ORPHAN - 1);
-        put(cells, orphan_on(nodes, level), next);
-        let limit = match direction_of(get(cells, label_of(node))) {
+        cells[orphan_on(nodes, level)] = cells[parent_of(nodes, node)] & (ORPHAN - 1);
+        let limit = match direction_of(cells[label_of(node)]) {
             Direction::Forwards => trees.sources.limit,
             Direction::Backwards => trees.sinks.limit,
         };
@@ -242,7 +237,7 @@ fn adopt_level(
             None => return false,
             Some(found) => {
                 if found != level {
-                    raise(packed, trees, cells, node, found);
+                    raise(packed, trees, cells, node, limit, found);
                 }
             }
         }
@@ -250,8 +245,8 @@ fn adopt_level(
     false
 }
 
-/// Adopts all orphans, the nearest first, so that a node that is moved has its last level at once. Answers whether that was
-/// done before the trees had to end.
+/// Adopts all orphans, the nearest first, so that a node that is moved has its last level at once. Answers whether that
+/// was done before the trees had to end.
 pub(crate) fn adopt(
     packed: Packed<'_>,
     flow: &mut FlowTable,
@@ -260,10 +255,8 @@ pub(crate) fn adopt(
 ) -> bool
     requires fits { Fits packed.net.now flow.old.flows }
     requires packed { IsPacked packed.net.now packed.first.now packed.halves.now }
-    ensures flows { flow.new.flows ≡ flow.old.flows }
-    ensures never_lowered { flow.old.steps ≤ flow.new.steps }
-    ensures left { trees.new.left ≤ trees.old.left }
-    ensures steps { flow.new.steps + trees.new.left ≤ flow.old.steps + trees.old.left }
+    requires size { 5 * packed.net.now.nodes ≤ length cells.old }
+    ensures paid { PaysLooks flow.old trees.old.left flow.new trees.new.left }
 {
     for level in trees.lowest..packed.net.nodes() {
         if level > trees.highest {

@@ -1,7 +1,9 @@
-//! Phases of the method by levels: the ranks that a search backwards gives, and the walks from all sources.
+//! Phases of the method by levels, as in Dinic's algorithm: the ranks that a search backwards gives, a refinement of the
+//! levels of the layered network, and the walks from all sources, which push a blocking flow.
 ghost use Rattle.std.specs.Prelude.{◌≡◌, ◌⊎◌, ℕ, List, true, false, ◌+◌, ◌-◌, ◌*◌, ◌<◌, ◌≤◌, min, IsTrue, IsFalse, length, slice_index};
 ghost use Rattle.std.specs.List.{All};
-ghost use Rattle.flow_net.specs.Nets.{Net, IsNode, AreTerminals};
+ghost use Rattle.flow_net.specs.Nets.{Net, IsNode};
+ghost use Rattle.flow_net.specs.Limits.{AreTerminals};
 ghost use Rattle.flow_net.specs.NodeSets.{one_of};
 ghost use Rattle.flow_net.specs.Flows.{Fits, IsGreatest};
 ghost use Rattle.flow_net.specs.Cuts.{IsLeastCapacity};
@@ -12,10 +14,10 @@ ghost use Rattle.flow_solve.specs.Searches.{AreCells, HasMissed};
 ghost use Rattle.flow_solve.specs.Steps.{OnlyLooks, TakesSteps};
 ghost use Rattle.flow_solve.specs.Levels.{AreDead, AreLevelsBy, AreLevelsOf, AreRankedIn, HasRank, IsAt, IsFarIn, IsPhase, KeepsGentle, Pays};
 
-use crate::chains::Ends;
-use crate::lifting::{Supply, run_lifted};
+use crate::lifting::{Ranked, Supply, run_lifted};
 use crate::packing::Packed;
 use crate::searching::{Direction, FAR, Plan, WANTED, search};
+use crate::stages::Task;
 use crate::walking::{Phase, walk};
 use flow_net::FlowTable;
 
@@ -59,6 +61,7 @@ fn find_levels(
     ensures missed { result ≡ false → HasMissed plan.entry flow.old.flows dist.new }
     ensures looks { OnlyLooks flow.old flow.new (2 * length plan.entry.packed.net.now.arcs) }
 {
+    // Brings the network's limits, `IsNet`, into the proof.
     let _ = plan.packed.net.nodes();
     let progress = search(plan, flow, dist, rank, queue);
     if progress.wanted == 0 {
@@ -145,8 +148,7 @@ pub(crate) fn run_phases(
     let n = packed.net.nodes() as usize;
     let (dist, rest) = cells.split_at_mut(n);
     let (rank, rest) = rest.split_at_mut(n);
-    let (queue, rest) = rest.split_at_mut(n);
-    let (current, path) = rest.split_at_mut(n);
+    let (queue, walks) = rest.split_at_mut(n);
     let plan = Plan {
         packed,
         direction: Direction::Backwards,
@@ -155,29 +157,21 @@ pub(crate) fn run_phases(
         enough: count(s),
     };
     let mut value = value;
-    let ends = Ends { s, t };
+    let task = Task { packed, s, t };
     let search = 2 * u64::from(packed.net.len());
     let mut supply = Supply {
         left: allowance,
         fuel: 0,
     };
+    // Read by the loop's invariant alone, `invariant-phases`: after so many phases the sources are farther than that.
     let mut phases = 0u32;
     'phases: while find_levels(plan, flow, dist, rank, queue) {
         if supply.left > search {
             supply.left -= search + 1;
-            value = run_lifted(
-                packed,
-                ends,
-                flow,
-                &mut supply,
-                dist,
-                rank,
-                current,
-                path,
-                value,
-            );
+            value = run_lifted(Ranked { task, rank }, flow, &mut supply, dist, walks, value);
         } else {
             supply.left = 0;
+            let (current, path) = walks.split_at_mut(n);
             let phase = Phase {
                 packed,
                 s,

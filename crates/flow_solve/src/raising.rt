@@ -1,15 +1,15 @@
 //! What the methods share: from no flow, over packed half-arcs, to a flow of the greatest value.
 ghost use Rattle.std.specs.Prelude.{◌≡◌, ℕ, ◌+◌, ◌*◌, ◌≤◌, length, drop};
-ghost use Rattle.flow_net.specs.Nets.{Net, AreTerminals};
+ghost use Rattle.flow_net.specs.Nets.{Net};
+ghost use Rattle.flow_net.specs.Limits.{AreTerminals};
 ghost use Rattle.flow_net.specs.NodeSets.{one_of};
 ghost use Rattle.flow_net.specs.Flows.{Fits, IsFeasible, HasValue, IsGreatest, HasNoLoops};
 ghost use Rattle.flow_net.specs.Cuts.{IsLeastCapacity};
 ghost use Rattle.flow_solve.specs.Bounds.{work_cells};
-ghost use Rattle.flow_solve.specs.Packs.{IsPacked};
+ghost use Rattle.flow_solve.specs.Packs.{HoldsPacked, IsPacked};
 ghost use Rattle.flow_solve.specs.Raising.{IsFlow};
 
-use crate::method::work_len;
-use crate::packing::{Packed, pack};
+use crate::packing::{Packed, halves_in, pack_behind};
 use flow_net::{FlowTable, Network};
 
 /// A way to raise a feasible flow to one of the greatest value, once the half-arcs are packed.
@@ -38,34 +38,32 @@ pub(crate) trait Raise {
         ensures steps { flow.new.steps ≤ flow.old.steps + steps_bound packed.entry.net.now };
 }
 
-/// Packs the half-arcs behind the first `5·n` cells, and raises the flow that carries nothing. Answers the greatest
-/// value.
-fn pack_and_raise<R: Raise>(
+/// Raises the flow that carries nothing, where the half-arcs stand packed in the cells. Answers the greatest value.
+fn raise_from_zero<R: Raise>(
     net: &Network,
     s: &[u32],
     t: &[u32],
     flow: &mut FlowTable,
-    cells: &mut [u32],
+    work: &mut [u32],
 ) -> u128
     requires terminals { AreTerminals net.now s.now t.now }
-    requires cells { length cells.old ≡ work_cells net.now }
+    requires cells { work_cells net.now ≤ length work.old }
+    requires packed { HoldsPacked net.now work.old }
     requires flow { IsFlow net.now s.now t.now flow.old.flows 0 }
     ensures flow { IsFlow net.now s.now t.now flow.new.flows result }
     ensures greatest { IsGreatest net.now (one_of s.now) (one_of t.now) result }
     ensures least { IsLeastCapacity net.now (one_of s.now) (one_of t.now) result }
     ensures never_lowered { flow.old.steps ≤ flow.new.steps }
     ensures steps { flow.new.steps ≤ flow.old.steps + R.steps_bound net.now }
+    ensures behind { drop (5 * net.now.nodes) work.new ≡ drop (5 * net.now.nodes) work.old }
 {
     let n = net.nodes() as usize;
-    let m = net.len() as usize;
-    let (cells, rest) = cells.split_at_mut(5 * n);
-    let (first, rest) = rest.split_at_mut(n + 1);
-    let (halves, _) = rest.split_at_mut(2 * m);
-    pack(net, first, halves);
+    let (cells, behind) = work.split_at_mut(5 * n);
+    let (first, halves) = halves_in(net, behind);
     R::raise(Packed { net, first, halves }, s, t, flow, cells, 0)
 }
 
-/// Clears the table, and raises the flow in the first [`work_len`] cells.
+/// Clears the table, packs the half-arcs, and raises the flow in the first [`work_len`](crate::work_len) cells.
 pub(crate) fn solve<R: Raise>(
     net: &Network,
     s: &[u32],
@@ -83,9 +81,10 @@ pub(crate) fn solve<R: Raise>(
     ensures loops { HasNoLoops net.now flow.new.flows }
     ensures never_lowered { flow.old.steps ≤ flow.new.steps }
     ensures steps { flow.new.steps ≤ flow.old.steps + R.steps_bound net.now }
+    ensures packed { HoldsPacked net.now work.new }
     ensures rest { drop (work_cells net.now) work.new ≡ drop (work_cells net.now) work.old }
 {
-    let (cells, _rest) = work.split_at_mut(work_len(net.nodes(), net.len()));
     flow.clear();
-    pack_and_raise::<R>(net, s, t, flow, cells)
+    pack_behind(net, work);
+    raise_from_zero::<R>(net, s, t, flow, work)
 }

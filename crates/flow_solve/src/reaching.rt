@@ -2,20 +2,35 @@
 //!
 //! What the sources reach there is the least source side, and what reaches a sink is the least sink side: whichever
 //! greatest flow it is, and though there may be many minimum cuts.
-ghost use Rattle.std.specs.Prelude.{◌≡◌, ℕ, ◌+◌, ◌*◌, ◌<◌, ◌≤◌, ◌↔◌, true, false, not, IsTrue, IsFalse, length, drop};
+ghost use Rattle.std.specs.Prelude.{◌≡◌, ℕ, ◌+◌, ◌*◌, ◌<◌, ◌≤◌, ◌↔◌, true, false, IsTrue, IsFalse, length, take, drop};
 ghost use Rattle.std.specs.List.{All};
-ghost use Rattle.flow_net.specs.Nets.{Net, IsNode, AreTerminals};
-ghost use Rattle.flow_net.specs.NodeSets.{one_of, marked};
-ghost use Rattle.flow_net.specs.Flows.{Fits, IsFeasible, HasValue, HasGreatestValue};
-ghost use Rattle.flow_net.specs.Cuts.{capacity, IsMinimumCut, IsInLeastSourceSide, IsInLeastSinkSide};
+ghost use Rattle.flow_net.specs.Nets.{IsNode};
+ghost use Rattle.flow_net.specs.Limits.{AreTerminals};
+ghost use Rattle.flow_net.specs.NodeSets.{one_of};
+ghost use Rattle.flow_net.specs.MarkedNodes.{marked};
+ghost use Rattle.flow_net.specs.Flows.{Fits, IsFeasible, IsGreatest};
+ghost use Rattle.flow_net.specs.GreatestFlows.{HasGreatestValue};
+ghost use Rattle.flow_net.specs.Cuts.{IsLeastCapacity};
 ghost use Rattle.flow_solve.specs.Bounds.{work_cells};
+ghost use Rattle.flow_solve.specs.Packs.{HoldsPacked, IsPacked};
+ghost use Rattle.flow_solve.specs.Raising.{IsFlow};
 ghost use Rattle.flow_solve.specs.Steps.{OnlyLooks};
-ghost use Rattle.flow_solve.specs.Searches.{seen, IsWhole, HasRoute};
+ghost use Rattle.flow_solve.specs.Searches.{seen};
+ghost use Rattle.flow_solve.specs.Sides.{starts_of, until_of, IsLeastSinkSide, IsLeastSourceSide, IsRaisedIn, MarksSide, SeesSide};
 
-use crate::method::work_len;
-use crate::packing::{Packed, pack};
+use crate::method::Method;
+use crate::packing::{Packed, halves_in, pack_behind};
 use crate::searching::{Direction, Plan, WANTED, search};
 use flow_net::{FlowTable, Network};
+
+/// The sources and the sinks.
+#[derive(Clone, Copy)]
+pub(crate) struct Ends<'a> {
+    /// The sources.
+    pub s: &'a [u32],
+    /// The sinks.
+    pub t: &'a [u32],
+}
 
 /// Marks the nodes that have a distance.
 fn mark(dist: &[u32], side: &mut [bool])
@@ -27,53 +42,111 @@ fn mark(dist: &[u32], side: &mut [bool])
     }
 }
 
-/// Searches from the starts, and answers whether it comes to one of the other nodes. If not, it marks what it has seen.
-fn comes_to<'a>(
-    net: &'a Network,
-    flow: &mut FlowTable,
-    direction: Direction,
-    starts: &'a [u32],
-    until: &'a [u32],
-    cells: &mut [u32],
-    side: &mut [bool],
-) -> bool
-    requires fits { Fits net.now flow.old.flows }
-    requires starts { All (IsNode net.now) starts.now }
-    requires until { All (IsNode net.now) until.now }
-    requires cells { length cells.old ≡ work_cells net.now }
-    requires side { length side.old ≡ net.now.nodes }
-    ensures route { result ≡ true → HasRoute direction net.now flow.old.flows starts.now until.now }
-    ensures whole { result ≡ false → IsWhole direction net.now flow.old.flows starts.now (marked side.new) }
-    ensures outside { result ≡ false → (v : ℕ) → IsTrue (one_of until.now v) → IsFalse (marked side.new v) }
-    ensures looks { OnlyLooks flow.old flow.new (2 * length net.now.arcs) }
+/// The terminals that a search goes from, and those that it looks out for.
+fn in_order(ends: Ends<'_>, direction: Direction) -> (&[u32], &[u32])
+    ensures starts { result.0.now ≡ starts_of direction ends.entry.s.now ends.entry.t.now }
+    ensures until { result.1.now ≡ until_of direction ends.entry.s.now ends.entry.t.now }
 {
-    let n = net.nodes() as usize;
-    let m = net.len() as usize;
+    match direction {
+        Direction::Forwards => (ends.s, ends.t),
+        Direction::Backwards => (ends.t, ends.s),
+    }
+}
+
+/// Searches the residual network of a feasible flow in a direction, and answers whether it leads from a source to a sink.
+/// The first `n` cells have the distances.
+fn leads_on(
+    packed: Packed<'_>,
+    ends: Ends<'_>,
+    direction: Direction,
+    flow: &mut FlowTable,
+    cells: &mut [u32],
+) -> bool
+    requires feasible { IsFeasible packed.net.now (one_of ends.s.now) (one_of ends.t.now) flow.old.flows }
+    requires terminals { AreTerminals packed.net.now ends.s.now ends.t.now }
+    requires packed { IsPacked packed.net.now packed.first.now packed.halves.now }
+    requires cells { length cells.old ≡ 5 * packed.net.now.nodes }
+    ensures answer { (result ≡ false) ↔ IsRaisedIn packed.entry.net.now ends.entry flow.old.flows }
+    ensures side { result ≡ false → SeesSide direction packed.entry.net.now ends.entry flow.old.flows cells.new }
+    ensures looks { OnlyLooks flow.old flow.new (2 * length packed.entry.net.now.arcs) }
+{
+    let n = packed.net.nodes() as usize;
     let (dist, rest) = cells.split_at_mut(n);
     let (via, rest) = rest.split_at_mut(n);
-    let (queue, rest) = rest.split_at_mut(n);
-    let (first, rest) = rest.split_at_mut(n + 1);
-    let (halves, _) = rest.split_at_mut(2 * m);
-    pack(net, first, halves);
+    let (queue, _) = rest.split_at_mut(n);
+    let (starts, until) = in_order(ends, direction);
     let plan = Plan {
-        packed: Packed { net, first, halves },
+        packed,
         direction,
         starts,
         until,
         enough: 1,
     };
     let progress = search(plan, flow, dist, via, queue);
-    if progress.wanted > 0 {
+    progress.wanted > 0
+}
+
+/// The same where the half-arcs stand packed in the cells of a solver. If the answer is no, it marks the least side of
+/// the direction, cell `v - 1` for node `v`.
+fn find_side(
+    net: &Network,
+    ends: Ends<'_>,
+    direction: Direction,
+    flow: &mut FlowTable,
+    work: &mut [u32],
+    side: &mut [bool],
+) -> bool
+    requires feasible { IsFeasible net.now (one_of ends.s.now) (one_of ends.t.now) flow.old.flows }
+    requires terminals { AreTerminals net.now ends.s.now ends.t.now }
+    requires cells { work_cells net.now ≤ length work.old }
+    requires packed { HoldsPacked net.now work.old }
+    requires side { length side.old ≡ net.now.nodes }
+    ensures answer { (result ≡ false) ↔ IsRaisedIn net.now ends.entry flow.old.flows }
+    ensures side { result ≡ false → MarksSide direction net.now ends.entry flow.old.flows side.new }
+    ensures looks { OnlyLooks flow.old flow.new (2 * length net.now.arcs) }
+    ensures behind { drop (5 * net.now.nodes) work.new ≡ drop (5 * net.now.nodes) work.old }
+{
+    let n = net.nodes() as usize;
+    let (cells, behind) = work.split_at_mut(5 * n);
+    let (first, halves) = halves_in(net, behind);
+    let packed = Packed { net, first, halves };
+    if leads_on(packed, ends, direction, flow, cells) {
         return true;
     }
-    mark(dist, side);
+    mark(&cells[..n], side);
     false
 }
 
 /// Whether the residual network of a feasible flow leads from a source to a sink, so that a flow of greater value
-/// exists. If not, `side` marks the nodes that lie in the source side of every minimum cut, cell `v - 1` for node `v`.
+/// exists.
 ///
-/// The flow stays. At most `2·m` steps; the cells of `work` past the first [`work_len`] stay.
+/// The flow stays. At most `2·m` steps; the cells of `work` past the first [`work_len`](crate::work_len) stay.
+pub fn has_augmenting_path(
+    net: &Network,
+    s: &[u32],
+    t: &[u32],
+    flow: &mut FlowTable,
+    work: &mut [u32],
+) -> bool
+    requires feasible { IsFeasible net.now (one_of s.now) (one_of t.now) flow.old.flows }
+    requires terminals { AreTerminals net.now s.now t.now }
+    requires cells { work_cells net.now ≤ length work.old }
+    ensures answer { (result ≡ false) ↔ HasGreatestValue net.now (one_of s.now) (one_of t.now) flow.old.flows }
+    ensures flows { flow.new.flows ≡ flow.old.flows }
+    ensures never_lowered { flow.old.steps ≤ flow.new.steps }
+    ensures steps { flow.new.steps ≤ flow.old.steps + 2 * length net.now.arcs }
+    ensures rest { drop (work_cells net.now) work.new ≡ drop (work_cells net.now) work.old }
+{
+    pack_behind(net, work);
+    let n = net.nodes() as usize;
+    let (cells, behind) = work.split_at_mut(5 * n);
+    let (first, halves) = halves_in(net, behind);
+    let packed = Packed { net, first, halves };
+    leads_on(packed, Ends { s, t }, Direction::Forwards, flow, cells)
+}
+
+/// As [`has_augmenting_path`]. If it answers false, `side` marks the nodes that lie in the source side of every minimum
+/// cut, cell `v - 1` for node `v`.
 pub fn reach(
     net: &Network,
     s: &[u32],
@@ -87,16 +160,14 @@ pub fn reach(
     requires cells { work_cells net.now ≤ length work.old }
     requires side { length side.old ≡ net.now.nodes }
     ensures answer { (result ≡ false) ↔ HasGreatestValue net.now (one_of s.now) (one_of t.now) flow.old.flows }
-    ensures side { result ≡ false → (v : ℕ) → IsNode net.now v → IsTrue (marked side.new v) ↔ IsInLeastSourceSide net.now (one_of s.now) (one_of t.now) v }
-    ensures minimum { result ≡ false → IsMinimumCut net.now (one_of s.now) (one_of t.now) (marked side.new) }
-    ensures value { result ≡ false → HasValue net.now (one_of s.now) flow.old.flows (capacity net.now (marked side.new)) }
+    ensures side { result ≡ false → IsLeastSourceSide net.now s.now t.now flow.old.flows (marked side.new) }
     ensures flows { flow.new.flows ≡ flow.old.flows }
     ensures never_lowered { flow.old.steps ≤ flow.new.steps }
     ensures steps { flow.new.steps ≤ flow.old.steps + 2 * length net.now.arcs }
     ensures rest { drop (work_cells net.now) work.new ≡ drop (work_cells net.now) work.old }
 {
-    let (cells, _rest) = work.split_at_mut(work_len(net.nodes(), net.len()));
-    comes_to(net, flow, Direction::Forwards, s, t, cells, side)
+    pack_behind(net, work);
+    find_side(net, Ends { s, t }, Direction::Forwards, flow, work, side)
 }
 
 /// As [`reach`], from the sinks backwards: if it answers false, `side` marks the nodes that lie outside the source
@@ -114,14 +185,87 @@ pub fn reach_back(
     requires cells { work_cells net.now ≤ length work.old }
     requires side { length side.old ≡ net.now.nodes }
     ensures answer { (result ≡ false) ↔ HasGreatestValue net.now (one_of s.now) (one_of t.now) flow.old.flows }
-    ensures side { result ≡ false → (v : ℕ) → IsNode net.now v → IsTrue (marked side.new v) ↔ IsInLeastSinkSide net.now (one_of s.now) (one_of t.now) v }
-    ensures minimum { result ≡ false → IsMinimumCut net.now (one_of s.now) (one_of t.now) (λ v. not (marked side.new v)) }
-    ensures value { result ≡ false → HasValue net.now (one_of s.now) flow.old.flows (capacity net.now (λ v. not (marked side.new v))) }
+    ensures side { result ≡ false → IsLeastSinkSide net.now s.now t.now flow.old.flows (marked side.new) }
     ensures flows { flow.new.flows ≡ flow.old.flows }
     ensures never_lowered { flow.old.steps ≤ flow.new.steps }
     ensures steps { flow.new.steps ≤ flow.old.steps + 2 * length net.now.arcs }
     ensures rest { drop (work_cells net.now) work.new ≡ drop (work_cells net.now) work.old }
 {
-    let (cells, _rest) = work.split_at_mut(work_len(net.nodes(), net.len()));
-    comes_to(net, flow, Direction::Backwards, t, s, cells, side)
+    pack_behind(net, work);
+    find_side(net, Ends { s, t }, Direction::Backwards, flow, work, side)
+}
+
+/// Finds a flow of the greatest value, answers that value, and marks the least side of a direction.
+fn solve_and_mark<M: Method>(
+    net: &Network,
+    ends: Ends<'_>,
+    direction: Direction,
+    flow: &mut FlowTable,
+    work: &mut [u32],
+    side: &mut [bool],
+) -> u128
+    requires fits { Fits net.now flow.old.flows }
+    requires terminals { AreTerminals net.now ends.s.now ends.t.now }
+    requires cells { work_cells net.now ≤ length work.old }
+    requires side { length side.old ≡ net.now.nodes }
+    ensures flow { IsFlow net.now ends.entry.s.now ends.entry.t.now flow.new.flows result }
+    ensures greatest { IsGreatest net.now (one_of ends.entry.s.now) (one_of ends.entry.t.now) result }
+    ensures least { IsLeastCapacity net.now (one_of ends.entry.s.now) (one_of ends.entry.t.now) result }
+    ensures side { MarksSide direction net.now ends.entry flow.new.flows side.new }
+    ensures never_lowered { flow.old.steps ≤ flow.new.steps }
+    ensures steps { flow.new.steps ≤ flow.old.steps + M.steps_bound net.now + 2 * length net.now.arcs }
+    ensures rest { drop (work_cells net.now) work.new ≡ drop (work_cells net.now) work.old }
+{
+    let value = M::greatest(net, ends.s, ends.t, flow, work);
+    find_side(net, ends, direction, flow, work, side);
+    value
+}
+
+/// Finds a flow of the greatest value as [`Method::greatest`] does, and answers that value; `side` marks the least
+/// source side, as [`reach`] does. The half-arcs are packed once for both.
+pub fn cut_nearest_sources<M: Method>(
+    net: &Network,
+    s: &[u32],
+    t: &[u32],
+    flow: &mut FlowTable,
+    work: &mut [u32],
+    side: &mut [bool],
+) -> u128
+    requires fits { Fits net.now flow.old.flows }
+    requires terminals { AreTerminals net.now s.now t.now }
+    requires cells { work_cells net.now ≤ length work.old }
+    requires side { length side.old ≡ net.now.nodes }
+    ensures flow { IsFlow net.now s.now t.now flow.new.flows result }
+    ensures greatest { IsGreatest net.now (one_of s.now) (one_of t.now) result }
+    ensures least { IsLeastCapacity net.now (one_of s.now) (one_of t.now) result }
+    ensures side { IsLeastSourceSide net.now s.now t.now flow.new.flows (marked side.new) }
+    ensures never_lowered { flow.old.steps ≤ flow.new.steps }
+    ensures steps { flow.new.steps ≤ flow.old.steps + M.steps_bound net.now + 2 * length net.now.arcs }
+    ensures rest { drop (work_cells net.now) work.new ≡ drop (work_cells net.now) work.old }
+{
+    solve_and_mark::<M>(net, Ends { s, t }, Direction::Forwards, flow, work, side)
+}
+
+/// As [`cut_nearest_sources`], but `side` marks the least sink side, as [`reach_back`] does.
+pub fn cut_nearest_sinks<M: Method>(
+    net: &Network,
+    s: &[u32],
+    t: &[u32],
+    flow: &mut FlowTable,
+    work: &mut [u32],
+    side: &mut [bool],
+) -> u128
+    requires fits { Fits net.now flow.old.flows }
+    requires terminals { AreTerminals net.now s.now t.now }
+    requires cells { work_cells net.now ≤ length work.old }
+    requires side { length side.old ≡ net.now.nodes }
+    ensures flow { IsFlow net.now s.now t.now flow.new.flows result }
+    ensures greatest { IsGreatest net.now (one_of s.now) (one_of t.now) result }
+    ensures least { IsLeastCapacity net.now (one_of s.now) (one_of t.now) result }
+    ensures side { IsLeastSinkSide net.now s.now t.now flow.new.flows (marked side.new) }
+    ensures never_lowered { flow.old.steps ≤ flow.new.steps }
+    ensures steps { flow.new.steps ≤ flow.old.steps + M.steps_bound net.now + 2 * length net.now.arcs }
+    ensures rest { drop (work_cells net.now) work.new ≡ drop (work_cells net.now) work.old }
+{
+    solve_and_mark::<M>(net, Ends { s, t }, Direction::Backwards, flow, work, side)
 }

@@ -5,7 +5,7 @@
 //! reads that end first, which is no step, and looks only if the node is unseen.
 //!
 //! A search can stop early: the nodes that it looks out for have a distance of their own while they are unseen, so
-//! that it counts them as it enters them.
+//! that it counts them as it enters them. The distances are the levels of a layered network (Dinitz 1970).
 ghost use Rattle.std.specs.Prelude.{◌⊎◌, ◌≡◌, ℕ, List, IsTrue, IfSome, IfNone, ◌+◌, ◌-◌, ◌*◌, ◌<◌, ◌≤◌, length, slice_index};
 ghost use Rattle.std.specs.List.{All};
 ghost use Rattle.flow_net.specs.Nets.{Net, IsNode};
@@ -146,6 +146,7 @@ fn arrive(
     ensures no_look { IsMarked dist.now (place_over plan.entry half) → flow.new.steps ≡ flow.old.steps }
 {
     let net = plan.packed.net;
+    // Brings the network's limits, `IsNet`, into the proof.
     let _ = net.nodes();
     let place = head(net, half) - 1;
     if dist[place as usize] < WANTED {
@@ -186,6 +187,7 @@ fn follow_all(
     ensures looks { OnlyLooks flow.old flow.new (halves_of plan.entry.packed (next_in queue.old progress)) }
 {
     let Packed { net, first, halves } = plan.packed;
+    // Brings the network's limits, `IsNet`, into the proof.
     let _ = net.nodes();
     let place = queue[progress.followed as usize] as usize;
     let level = dist[place] + 1;
@@ -268,9 +270,10 @@ fn start_all(starts: &[u32], dist: &mut [u32], via: &mut [u32], queue: &mut [u32
     progress
 }
 
-/// Searches from the starts, over half-arcs with a residual capacity, until so many of the nodes to look out for are
-/// seen or no further node can be. Each node that is seen gets its distance, in half-arcs, and the half-arc over which
-/// the search came to it; `queue` has their places, the nearest first. At most one look at each half-arc.
+/// Searches from the starts, over half-arcs with a residual capacity, until it has seen `plan.enough` of the nodes that
+/// it looks out for, or else all nodes that it can come to. Each node that is seen gets its distance, in half-arcs, and
+/// the half-arc over which the search came to it; `queue` has their places, the nearest first. At most one look at each
+/// half-arc.
 pub(crate) fn search(
     plan: Plan<'_>,
     flow: &mut FlowTable,
@@ -291,9 +294,11 @@ pub(crate) fn search(
     ensures queue { IsQueue dist.new queue.new result.seen }
     ensures looks { OnlyLooks flow.old flow.new (2 * length plan.entry.packed.net.now.arcs) }
 {
+    // Brings the network's limits, `IsNet`, into the proof.
     let _ = plan.packed.net.nodes();
     look_out(dist, plan.until);
     let mut progress = start_all(plan.starts, dist, via, queue);
+    // The label names the loop's invariant, `invariant-places`.
     'places: while progress.followed < progress.seen && progress.wanted < plan.enough {
         progress = follow_all(plan, flow, dist, via, queue, progress);
     }

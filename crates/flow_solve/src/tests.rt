@@ -1,13 +1,18 @@
-ghost use Rattle.flow_net.specs.Flows.{IsFeasible};
+ghost use Rattle.flow_net.specs.Flows.{Fits, IsFeasible};
 ghost use Rattle.std.specs.Prelude.{◌≡◌, ◌≢◌, ℕ, Bool, List, ◌≤◌, ◌<◌, IsTrue, IfSome, length, slice_index, take, drop};
-ghost use Rattle.flow_net.specs.Nets.{IsNode, AreTerminals, AreDistinct};
+ghost use Rattle.flow_net.specs.Nets.{IsNode};
+ghost use Rattle.flow_net.specs.Limits.{AreTerminals, AreDistinct};
 ghost use Rattle.std.specs.List.{All};
+ghost use Rattle.flow_solve.specs.Bounds.{work_cells};
 ghost use Rattle.flow_solve.specs.Raising.{IsFlow};
 
+mod lifting;
+mod wave_tests;
+
 use super::*;
-use crate::chains::Ends;
 use crate::packing::{Packed, pack};
 use crate::phases::run_phases;
+use crate::stages::Task;
 use crate::trees::grow_trees;
 use flow_net::{Arc, FEWEST_NODES, FlowTable, MOST_ARCS_BOTH_WAYS, MOST_NODES, Network};
 use std::alloc::Global;
@@ -122,6 +127,9 @@ fn solve(alloc: Global, net: &Network, terminals: &[u32], k: usize) -> Option<An
     if reach_back(net, s, t, &mut flow, &mut work, &mut answer.back[..n]) != answer.rises {
         return None;
     }
+    if has_augmenting_path(net, s, t, &mut flow, &mut work) != answer.rises {
+        return None;
+    }
     answer.value = Paths::greatest(net, s, t, &mut flow, &mut work);
     if Levels::greatest(net, s, t, &mut flow, &mut work) != answer.value {
         return None;
@@ -132,7 +140,34 @@ fn solve(alloc: Global, net: &Network, terminals: &[u32], k: usize) -> Option<An
     if reach_back(net, s, t, &mut flow, &mut work, &mut answer.back[..n]) {
         return None;
     }
-    Some(answer)
+    if cuts_agree(net, s, t, &mut flow, &mut work, &answer) {
+        Some(answer)
+    } else {
+        None
+    }
+}
+
+/// Whether the cuts that the methods find have the value and the sides of an answer.
+fn cuts_agree(
+    net: &Network,
+    s: &[u32],
+    t: &[u32],
+    flow: &mut FlowTable,
+    work: &mut [u32],
+    answer: &Answer,
+) -> bool
+    requires fits { Fits net.now flow.old.flows }
+    requires terminals { AreTerminals net.now s.now t.now }
+    requires small { net.now.nodes ≤ 6 }
+    requires cells { work_cells net.now ≤ length work.old }
+{
+    let n = net.nodes() as usize;
+    let mut side = [true; 6];
+    let mut back = [true; 6];
+    let near_sources = cut_nearest_sources::<Levels>(net, s, t, flow, work, &mut side[..n]);
+    let near_sinks = cut_nearest_sinks::<Paths>(net, s, t, flow, work, &mut back[..n]);
+    let value = answer.value;
+    near_sources == value && near_sinks == value && side == answer.side && back == answer.back
 }
 
 /// Whether a set of nodes, given by its bits, holds a node.
@@ -267,10 +302,12 @@ fn all_sets_agree(rt: HostRuntime) {
         ];
         let k = 1 + random.below(2) as usize;
         let end = k + 1 + random.below(2) as usize;
-        if may_be_terminals(&net, &terminals[..end], k) {
-            assert!(&rt; agrees(rt.alloc(), &net, &terminals[..end], k));
-            tried = tried.wrapping_add(1);
+        let terminals = &terminals[..end];
+        if !may_be_terminals(&net, terminals, k) {
+            continue;
         }
+        assert!(&rt; agrees(rt.alloc(), &net, terminals, k));
+        tried = tried.wrapping_add(1);
     }
     assert!(&rt; tried > 100);
 }
@@ -532,10 +569,10 @@ fn known_answers(rt: HostRuntime) {
 
 /// The values that the trees reach with an allowance, and the phases after them, which lift as long as theirs lasts, and that
 /// of the other method, for a network of at most 6 nodes and 40 arcs, if the terminals are good.
-fn stages(
+fn stages<'a>(
     alloc: Global,
-    net: &Network,
-    terminals: &[u32],
+    net: &'a Network,
+    terminals: &'a [u32],
     k: usize,
     allowance: u64,
     lifting: u64,
@@ -553,7 +590,7 @@ fn stages(
     let (halves, _rest) = rest.split_at_mut(2 * m);
     pack(net, first, halves);
     let packed = Packed { net, first, halves };
-    let reached = grow_trees(packed, Ends { s, t }, &mut flow, cells, 0, allowance);
+    let reached = grow_trees(Task { packed, s, t }, &mut flow, cells, 0, allowance);
     let greatest = run_phases(packed, s, t, &mut flow, cells, reached, lifting);
     let mut other = empty_flow(alloc, net)?;
     let mut work = [7u32; 120];
@@ -680,20 +717,17 @@ fn methods_agree_on_random_networks(rt: HostRuntime) {
         let end = k + 1 + random.below(2) as usize;
         let allowance = random.below(60);
         let lifting = random.below(200);
-        if let Some((reached, greatest, other)) = stages(
-            rt.alloc(),
-            &net,
-            &terminals[..end],
-            k,
-            allowance,
-            lifting,
-        ) {
-            assert!(&rt; reached <= greatest);
-            assert_eq!(&rt; greatest, other);
-            tried = tried.wrapping_add(1);
-            if 0 < reached && reached < greatest {
-                between = between.wrapping_add(1);
-            }
+        let terminals = &terminals[..end];
+        if !may_be_terminals(&net, terminals, k) {
+            continue;
+        }
+        let answer = stages(rt.alloc(), &net, terminals, k, allowance, lifting);
+        let (reached, greatest, other) = answer.expect(&rt, "a small network, and memory");
+        assert!(&rt; reached <= greatest);
+        assert_eq!(&rt; greatest, other);
+        tried = tried.wrapping_add(1);
+        if 0 < reached && reached < greatest {
+            between = between.wrapping_add(1);
         }
     }
     assert!(&rt; tried > 2000);

@@ -1,7 +1,8 @@
 //! Walks from a source to sinks, along half-arcs that lead to lower ranks (Dinitz 1970).
 ghost use Rattle.std.specs.Prelude.{◌≡◌, ℕ, Bool, List, ◌+◌, ◌-◌, ◌*◌, ◌<◌, ◌≤◌, IsTrue, IfSome, IfNone, length, slice_index};
 ghost use Rattle.std.specs.List.{All};
-ghost use Rattle.flow_net.specs.Nets.{Net, IsNode, AreTerminals};
+ghost use Rattle.flow_net.specs.Nets.{Net, IsNode};
+ghost use Rattle.flow_net.specs.Limits.{AreTerminals};
 ghost use Rattle.flow_net.specs.NodeSets.{one_of};
 ghost use Rattle.flow_net.specs.Flows.{Fits};
 ghost use Rattle.flow_net.specs.Residual.{tail_of, head_of, residual};
@@ -153,6 +154,9 @@ pub(crate) struct Phase<'a> {
 
 /// Walks from a source until it is dead: it goes on along admissible half-arcs, augments where it comes to a sink, goes
 /// back to where the first half-arc was filled, and takes one back from a node that has none. Answers the flow's value.
+///
+/// The half-arcs that it passes and fills pay for its steps. What a filled one pays is enough for its path and for the
+/// looks from where it begins to a sink, but not for looks from the source: the walk goes on where [`augment`] says.
 pub(crate) fn walk(
     phase: Phase<'_>,
     flow: &mut FlowTable,

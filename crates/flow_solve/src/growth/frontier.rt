@@ -10,7 +10,7 @@ ghost use Rattle.flow_solve.specs.Growth.{IsTurn, ArePlaces, IsClean, IsQueued, 
 
 use crate::growth::turns::Turn;
 use crate::searching::{cross, head};
-use flow_net::FlowTable;
+use flow_net::{FlowTable, MOST_NODES};
 
 /// How far a search has come.
 #[derive(Clone, Copy)]
@@ -27,7 +27,7 @@ pub(crate) struct Frontier {
 ///
 /// The cell of a node that is seen holds the number of nodes and twice its level, and one more once a walk has entered it.
 pub(crate) fn above(nodes: u32, cell: u32) -> u32
-    requires { nodes ≤ 1000000 }
+    requires { nodes ≤ MOST_NODES }
     ensures no_place { nodes ≤ result }
     ensures small { result ≤ 3 * nodes + 2 }
 {
@@ -123,7 +123,8 @@ fn expand(
     reached
 }
 
-/// Searches from the node of the turn, until so many terminals are met, or no further node can be seen.
+/// Searches from the node of the turn, until so many terminals are met, the level is done from which the first was met, or
+/// no further node can be seen.
 pub(crate) fn search(
     turn: Turn<'_>,
     flow: &mut FlowTable,
@@ -153,10 +154,19 @@ pub(crate) fn search(
         met: 0,
         left,
     };
+    // The level after which the search ends: that of the first node from which a terminal is met.
+    let mut last = u32::MAX;
     let mut at = 0;
     while at < frontier.tail && frontier.met < need {
         let node = turn.order[queue[at as usize] as usize];
+        let level = cells[node as usize - 1];
+        if level > last {
+            return frontier;
+        }
         frontier = expand(turn, flow, cells, queue, frontier, node, need);
+        if frontier.met > 0 {
+            last = level;
+        }
         at += 1;
     }
     frontier

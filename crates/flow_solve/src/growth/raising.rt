@@ -6,10 +6,11 @@ ghost use Rattle.flow_net.specs.Flows.{Fits};
 ghost use Rattle.flow_net.specs.Orders.{before};
 ghost use Rattle.flow_solve.specs.Growth.{IsTurn, IsRaised, IsParted, ArePlaces, IsClean, IsQueued};
 
+use crate::growth::direct::send_directly;
 use crate::growth::frontier::{above, forget, is_closed, search};
-use crate::growth::turns::{Turn, augment, far, near};
+use crate::growth::turns::{Raised, Turn, augment, far, near};
 use crate::searching::{cross, head};
-use flow_net::FlowTable;
+use flow_net::{FlowTable, GREATEST_CAPACITY};
 
 /// A half-arc that a walk may go over, if there is one, and how many looks and pushes are left.
 #[derive(Clone, Copy)]
@@ -65,13 +66,6 @@ fn next_way(
     Way { half: None, left }
 }
 
-/// The value of the flow, and how many looks and pushes are left.
-#[derive(Clone, Copy)]
-pub(crate) struct Raised {
-    pub value: u64,
-    pub left: u64,
-}
-
 /// Where a walk is.
 #[derive(Clone, Copy)]
 struct Walk {
@@ -124,7 +118,7 @@ fn go_on(
     requires places { ArePlaces turn.packed.net.now.nodes turn.order.now cells.old }
     requires raised { IsRaised turn.direction turn.packed.net.now turn.order.now turn.place flow.old.flows walk.value }
     requires half { half < 2 * length turn.packed.net.now.arcs }
-    requires small { walk.value < 18446744073709551615 }
+    requires small { walk.value < GREATEST_CAPACITY }
     ensures node { IfSome result (λ r. IsNode turn.entry.packed.net.now r.node) }
     ensures value { IfSome result (λ r. r.value ≤ walk.value + 1) }
     ensures fits { Fits turn.entry.packed.net.now flow.new.flows }
@@ -277,7 +271,7 @@ pub(crate) fn raise(
     ensures steps { MatchOption result (flow.new.steps ≤ flow.old.steps + left) (λ r. flow.new.steps + r.left ≤ flow.old.steps + left) }
 {
     let _ = turn.packed.net.nodes();
-    let mut raised = Raised { value: 0, left };
+    let mut raised = send_directly(turn, flow, cells, wanted, left)?;
     while raised.value < wanted {
         if raised.left == 0 {
             return None;

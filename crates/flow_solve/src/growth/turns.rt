@@ -22,6 +22,13 @@ pub(crate) struct Turn<'a> {
     pub place: u32,
 }
 
+/// The value of the flow of a turn, and how many looks and pushes are left.
+#[derive(Clone, Copy)]
+pub(crate) struct Raised {
+    pub value: u64,
+    pub left: u64,
+}
+
 /// The node that a half-arc leads to, as seen from the node of the turn.
 pub(crate) fn far(net: &Network, direction: Direction, half: u32) -> u32
     requires { half < 2 * length net.now.arcs }

@@ -1,23 +1,27 @@
-use Rattle.std.proofs.Common.{◌≡◌, length, refl, arith}
+use Rattle.std.proofs.Common.{◌≡◌, length, arith}
 use Rattle.flow_solve.proofs.Growing.{connected}
 use Rattle.flow_solve.proofs.growth.connectivity_by_growth.Goals as goal
 
 pub returns-clause-connectivity : goal.returns-clause-connectivity
 returns-clause-connectivity c =
     let net = c.args.net.now in
-    let order = c.order_nodes.new.order in
-    let size : length order ≡ net.nodes = omega (arith, c.order_nodes.auto.order, c.split_at_mut-order.ensures.front_len, c.nodes-n.ensures.nodes) in
+    let order = c.arrange.new.order in
+    let size : length order ≡ net.nodes =
+    omega (arith, c.arrange.auto.order, c.split_at_mut-order.ensures.front_len, c.nodes-n.ensures.nodes) in
     let fewer = c.in_ok-back.ensures.fewer in
-    connected net order c.in_ok-back.back.value c.nodes-n.ensures.is_net (c.if-not-order_nodes.ensures.order refl) c.in_ok-back.ensures.reached
+    connected net order c.in_ok-back.back.value c.nodes-n.ensures.is_net c.in_ok-value.ensures.order
+    c.in_ok-back.ensures.reached
     (λ i h l X cut. omega (arith, fewer, c.in_ok-forth.ensures.below i h (omega (arith, l, size)) X cut))
     (λ i h l X cut. c.in_ok-back.ensures.below i h (omega (arith, l, size)) X cut)
 
 pub returns-then-is_both_ways-clause-connectivity : goal.returns-then-is_both_ways-clause-connectivity
 returns-then-is_both_ways-clause-connectivity c =
     let net = c.args.net.now in
-    let order = c.order_nodes.new.order in
-    let size : length order ≡ net.nodes = omega (arith, c.order_nodes.auto.order, c.split_at_mut-order.ensures.front_len, c.nodes-n.ensures.nodes) in
+    let order = c.arrange.new.order in
+    let size : length order ≡ net.nodes =
+    omega (arith, c.arrange.auto.order, c.split_at_mut-order.ensures.front_len, c.nodes-n.ensures.nodes) in
     let below = c.in_ok-forth.ensures.below in
-    connected net order c.in_ok-forth.forth.value c.nodes-n.ensures.is_net (c.if-not-order_nodes.ensures.order refl) c.in_ok-forth.ensures.reached
-    (λ i h l X cut. below i h (omega (arith, l, size)) X cut)
-    (λ i h l X cut. omega (arith, below i h (omega (arith, l, size)) X cut, c.is_both_ways.ensures c.if-is_both_ways.true X))
+    connected net order c.in_ok-forth.forth.value c.nodes-n.ensures.is_net c.in_ok-value.ensures.order
+    c.in_ok-forth.ensures.reached (λ i h l X cut. below i h (omega (arith, l, size)) X cut)
+    (λ i h l X cut. omega
+    (arith, below i h (omega (arith, l, size)) X cut, c.is_both_ways.ensures c.if-is_both_ways.true X))

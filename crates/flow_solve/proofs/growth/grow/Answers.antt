@@ -1,4 +1,4 @@
-use Rattle.std.proofs.Common.{◌≡◌, ◌<◌, ℕ, List, ◌+◌, length, replicate, ◌∙◌, sym, ap, subst, inl, inr, arith}
+use Rattle.std.proofs.Common.{◌≡◌, ◌<◌, ℕ, List, length, replicate, ◌∙◌, sym, ap, subst, inl, inr, arith}
 use Rattle.std.proofs.lemmas.Bool.{cases_eq, cases_lt}
 use Rattle.flow_solve.specs.Growth.{IsBalanced, IsBelow}
 use Rattle.flow_solve.proofs.Growing.{balanced_zeros, balanced_next, raised_none, raised_below, parted_proper}
@@ -6,7 +6,8 @@ use Rattle.flow_solve.proofs.growth.grow.Goals as goal
 
 pub loop-place-init : goal.loop-place-init
 loop-place-init c =
-    let zeros : c.clear.new.self.flows ≡ replicate (length c.args.packed.net.now.arcs) 0 = c.clear.ensures.flows ∙ ap (λ z. replicate z 0) c.requires.fits.count in
+    let zeros : c.clear.new.self.flows ≡ replicate (length c.args.packed.net.now.arcs) 0 =
+    c.clear.ensures.flows ∙ ap (λ z. replicate z 0) c.requires.fits.count in
     record {
       end = c.nodes-n.ensures.nodes;
       begun = omega arith;
@@ -14,10 +15,19 @@ loop-place-init c =
       size = c.requires.size;
       current_size = omega (arith, c.split_at_mut-current.ensures.front_len, c.nodes-n.ensures.nodes);
       queue_size = omega (arith, c.split_at_mut-queue.ensures.front_len, c.nodes-n.ensures.nodes);
-      path_size = omega (arith, c.split_at_mut-queue.ensures.back_len, c.split_at_mut-current.ensures.back_len, c.requires.rest_size, c.nodes-n.ensures.nodes);
+      path_size =
+          omega (
+            arith,
+            c.split_at_mut-queue.ensures.back_len,
+            c.split_at_mut-current.ensures.back_len,
+            c.requires.rest_size,
+            c.nodes-n.ensures.nodes,
+          );
       places = c.requires.places;
       clean = c.requires.clean;
-      balanced = subst (λ (z : List ℕ). IsBalanced c.args.packed.net.now c.args.order.now 1 z) (sym zeros) (balanced_zeros c.args.packed.net.now c.args.order.now 1);
+      balanced =
+          subst (λ (z : List ℕ). IsBalanced c.args.packed.net.now c.args.order.now 1 z) (sym zeros)
+          (balanced_zeros c.args.packed.net.now c.args.order.now 1);
       reached = c.requires.reached;
       below = λ i h l. absurd (omega arith);
       fewer = omega arith;
@@ -28,7 +38,8 @@ loop-place-init c =
 pub raise-requires-clause-raised : goal.raise-requires-clause-raised
 raise-requires-clause-raised c =
     let j = c.loop-place.invariant in
-    raised_none c.args.direction c.args.packed.net.now c.args.order.now c.loop-place.place c.loop-place.flow.flows c.requires.order (omega (arith, j.end, c.loop-place-test.true, c.requires.order_size)) j.balanced
+    raised_none c.args.direction c.args.packed.net.now c.args.order.now c.loop-place.place c.loop-place.flow.flows
+    c.requires.order (omega (arith, j.end, c.loop-place-test.true, c.requires.order_size)) j.balanced
 
 pub loop-place-preserved : goal.loop-place-preserved
 loop-place-preserved c =
@@ -41,7 +52,8 @@ loop-place-preserved c =
     let new = c.in_ok-least.least.value in
     let old = c.loop-place.least.value in
     let inside : k < length order = omega (arith, j.end, c.loop-place-test.true, c.requires.order_size) in
-    let here : IsBelow dir net order k new = raised_below dir net order k c.raise.new.flow.flows new c.nodes-n.ensures.is_net c.requires.unit now.raised in
+    let here : IsBelow dir net order k new =
+    raised_below dir net order k c.raise.new.flow.flows new c.nodes-n.ensures.is_net c.requires.unit now.raised in
     record {
       end = j.end;
       begun = omega (arith, j.begun);

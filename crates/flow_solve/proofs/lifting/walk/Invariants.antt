@@ -1,20 +1,18 @@
-use Rattle.std.proofs.Common.{◌≡◌, ◌+◌, ◌≤◌, length}
-use Rattle.flow_net.specs.Nets.{IsNode}
-use Rattle.flow_solve.specs.Raising.{IsFlow}
+-- `walk`: the flow is kept, and its steps are paid; each turn takes one off what may still be done.
+use Rattle.std.proofs.Common.{◌≡◌, ◌*◌, length}
+use Rattle.flow_solve.specs.Lifting.{IsUnderWay}
+use Rattle.flow_solve.specs.Stages.{HasFlow}
+use Rattle.flow_solve.specs.Steps.{PaysSteps}
 use Rattle.flow_solve.proofs.lifting.walk.Given as goal
 
 abbrev pub invariant-turns : goal.invariant-turns
 invariant-turns l = record {
-  flow : IsFlow l.packed.net.now l.ends.s.now l.ends.t.now l.flow.flows l.raised;
-  node : IsNode l.packed.net.now l.node;
-  depth : l.depth ≤ l.packed.net.now.nodes;
-  dist_size : length l.dist ≡ l.packed.net.now.nodes;
-  size : length l.current ≡ l.packed.net.now.nodes;
-  path_size : length l.path ≡ l.packed.net.now.nodes;
-  never_lowered : l.fn.flow.steps ≤ l.flow.steps;
-  left : l.supply.left ≤ l.fn.supply.left;
-  steps : l.flow.steps + l.supply.left ≤ l.fn.flow.steps + l.fn.supply.left;
+  flow : HasFlow l.ranked.task l.flow.flows l.lifted.value;
+  walk : IsUnderWay l.ranked.task l.walk;
+  dist_size : length l.dist ≡ l.ranked.task.packed.net.now.nodes;
+  size : length l.walks ≡ 2 * l.ranked.task.packed.net.now.nodes;
+  paid : PaysSteps l.fn.flow l.fn.lifted.supply.left l.flow l.lifted.supply.left;
 }
 
 abbrev pub decreases-turns : goal.decreases-turns
-decreases-turns l = l.supply.left
+decreases-turns l = l.lifted.supply.left

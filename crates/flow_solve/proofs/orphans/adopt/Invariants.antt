@@ -1,12 +1,12 @@
-use Rattle.std.proofs.Common.{◌≡◌, ◌+◌, ◌≤◌}
+-- `adopt`: each look was taken off what the trees may still do, and the flows stay.
+use Rattle.std.proofs.Common.{◌*◌, ◌≤◌, length}
 use Rattle.flow_net.specs.Flows.{Fits}
+use Rattle.flow_solve.specs.Steps.{PaysLooks}
 use Rattle.flow_solve.proofs.orphans.adopt.Given as goal
 
 abbrev pub invariant-loop-level : goal.invariant-loop-level
 invariant-loop-level l = record {
   fits : Fits l.packed.net.now l.flow.flows;
-  flows : l.flow.flows ≡ l.fn.flow.flows;
-  never_lowered : l.fn.flow.steps ≤ l.flow.steps;
-  left : l.trees.left ≤ l.fn.trees.left;
-  steps : l.flow.steps + l.trees.left ≤ l.fn.flow.steps + l.fn.trees.left;
+  size : 5 * l.packed.net.now.nodes ≤ length l.cells;
+  paid : PaysLooks l.fn.flow l.fn.trees.left l.flow l.trees.left;
 }

@@ -6,8 +6,12 @@ use Rattle.flow_solve.proofs.paths.first_seen.Goals as goal
 
 pub returns-then-dist-node-lt-WANTED-clause-some : goal.returns-then-dist-node-lt-WANTED-clause-some
 returns-then-dist-node-lt-WANTED-clause-some c =
-    let node = c.requires c.loop-node.node-index 0 c.loop-node-test.true in
-    (one_of-at c.args.nodes.now c.loop-node.node-index c.loop-node-test.true, node.0, node.1, c.if-dist-node-lt-WANTED.true)
+    let node = c.requires c.loop-node.node-index 0 c.loop-node-test.true in (
+      one_of-at c.args.nodes.now c.loop-node.node-index c.loop-node-test.true,
+      node.0,
+      node.1,
+      c.if-dist-node-lt-WANTED.true,
+    )
 
 pub returns-then-dist-node-lt-WANTED-clause-first : goal.returns-then-dist-node-lt-WANTED-clause-first
 returns-then-dist-node-lt-WANTED-clause-first c = (
@@ -22,4 +26,5 @@ returns-then-dist-node-lt-WANTED-clause-first c = (
 pub returns-clause-none : goal.returns-clause-none
 returns-clause-none c = λ v i.
     let p = place_in c.args.nodes.now v i in let node = c.requires p.0 0 p.1 in
-    subst (λ w. seen c.args.dist.now w ≡ false) p.2 (unmarked_unseen c.args.dist.now (get_or c.args.nodes.now p.0 0) node.0 (c.loop-node.invariant p.0 (omega (arith, p.1))))
+    subst (λ w. seen c.args.dist.now w ≡ false) p.2 (unmarked_unseen c.args.dist.now (get_or c.args.nodes.now p.0 0)
+    node.0 (c.loop-node.invariant p.0 (omega (arith, p.1))))

@@ -14,8 +14,10 @@ invariant-loop-node l = record {
   flows : l.flow.flows ≡ l.fn.flow.flows;
   node : IsNode l.net l.node;
   marked : IsMarked l.dist (l.node - 1);
-  ahead : (k : ℕ) → k ≤ l.least → HasRoom l.net l.fn.flow.flows k (trail_from l.net l.dist l.via l.node) → HasRoom l.net l.fn.flow.flows k (trail_from l.net l.dist l.via l.source);
-  most : (k : ℕ) → k ≤ GREATEST_CAPACITY → HasRoom l.net l.fn.flow.flows k (trail_from l.net l.dist l.via l.source) → (k ≤ l.least) × HasRoom l.net l.fn.flow.flows k (trail_from l.net l.dist l.via l.node);
+  ahead : (k : ℕ) → k ≤ l.least → HasRoom l.net l.fn.flow.flows k (trail_from l.net l.dist l.via l.node)
+      → HasRoom l.net l.fn.flow.flows k (trail_from l.net l.dist l.via l.source);
+  most : (k : ℕ) → k ≤ GREATEST_CAPACITY → HasRoom l.net l.fn.flow.flows k (trail_from l.net l.dist l.via l.source)
+      → (k ≤ l.least) × HasRoom l.net l.fn.flow.flows k (trail_from l.net l.dist l.via l.node);
   positive : 1 ≤ l.least;
   steps : l.flow.steps + slice_index l.dist (l.node - 1) ≡ l.fn.flow.steps + slice_index l.dist (l.source - 1);
 }

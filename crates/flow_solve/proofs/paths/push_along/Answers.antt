@@ -10,26 +10,40 @@ use Rattle.flow_solve.proofs.paths.push_along.Goals as goal
 pub push-requires-clause-room : goal.push-requires-clause-room
 push-requires-clause-room c =
     let old = c.loop-node.invariant in
-    let n = next_on c.args.net.now c.args.flow.now.flows c.args.dist.now c.args.via.now c.loop-node.node c.requires.trails old.node.0 old.node.1 old.marked (omega (arith, c.loop-node-test.true)) in
+    let n = next_on c.args.net.now c.args.flow.now.flows c.args.dist.now c.args.via.now c.loop-node.node
+    c.requires.trails old.node.0 old.node.1 old.marked (omega (arith, c.loop-node-test.true)) in
     (subst (HasRoom c.args.net.now c.loop-node.flow.flows c.args.amount) n.parts old.room).0
 
 pub loop-node-preserved : goal.loop-node-preserved
 loop-node-preserved c =
-    let old = c.loop-node.invariant in let net = c.args.net.now in let dist = c.args.dist.now in let via = c.args.via.now in let d = c.args.amount in
+    let old = c.loop-node.invariant in
+    let net = c.args.net.now in
+    let dist = c.args.dist.now in
+    let via = c.args.via.now in
+    let d = c.args.amount in
     let half = get_or via (c.loop-node.node - 1) 0 in
-    let n = next_on net c.args.flow.now.flows dist via c.loop-node.node c.requires.trails old.node.0 old.node.1 old.marked (omega (arith, c.loop-node-test.true)) in
+    let n = next_on net c.args.flow.now.flows dist via c.loop-node.node c.requires.trails old.node.0 old.node.1
+    old.marked (omega (arith, c.loop-node-test.true)) in
     let to = c.head-node.ensures.head in let rest = trail_from net dist via (head_of net half) in
     let room = subst (HasRoom net c.loop-node.flow.flows d) n.parts old.room in
-    let apart = trail_apart net c.args.flow.now.flows dist via c.loop-node.node half rest c.requires.trails old.node.0 old.node.1 old.marked n.parts in
-    let level : get_or dist (c.head-node.result - 1) 0 ≡ get_or dist (head_of net half - 1) 0 = ap (λ v. get_or dist (v - 1) 0) to in
+    let apart = trail_apart net c.args.flow.now.flows dist via c.loop-node.node half rest c.requires.trails old.node.0
+    old.node.1 old.marked n.parts in
+    let level : get_or dist (c.head-node.result - 1) 0 ≡ get_or dist (head_of net half - 1) 0 =
+    ap (λ v. get_or dist (v - 1) 0) to in
     record {
       fits = c.push.ensures.still_fits;
       node = c.head-node.ensures.node;
       marked = subst (λ v. IsMarked dist (v - 1)) (sym to) n.marked;
       ahead =
-          let same : push_all c.loop-node.flow.flows (trail_from net dist via c.loop-node.node) d ≡ push_all (pushed c.loop-node.flow.flows half d) rest d = ap (λ (hs : List ℕ). push_all c.loop-node.flow.flows hs d) n.parts in
-          ap (λ (v : ℕ). push_all c.push.new.self.flows (trail_from net dist via v) d) to ∙ ap (λ (ys : List ℕ). push_all ys rest d) c.push.ensures.flows ∙ sym same ∙ old.ahead;
-      room = subst (λ (ys : List ℕ). HasRoom net ys d (trail_from net dist via c.head-node.result)) (sym c.push.ensures.flows)
-          (subst (λ (v : ℕ). HasRoom net (pushed c.loop-node.flow.flows half d) d (trail_from net dist via v)) (sym to) (room_after net c.loop-node.flow.flows half d d rest apart room.1));
+          let same : push_all c.loop-node.flow.flows (trail_from net dist via c.loop-node.node) d
+          ≡ push_all (pushed c.loop-node.flow.flows half d) rest d =
+          ap (λ (hs : List ℕ). push_all c.loop-node.flow.flows hs d) n.parts in
+          ap (λ (v : ℕ). push_all c.push.new.self.flows (trail_from net dist via v) d) to
+          ∙ ap (λ (ys : List ℕ). push_all ys rest d) c.push.ensures.flows ∙ sym same ∙ old.ahead;
+      room =
+          subst (λ (ys : List ℕ). HasRoom net ys d (trail_from net dist via c.head-node.result))
+          (sym c.push.ensures.flows)
+          (subst (λ (v : ℕ). HasRoom net (pushed c.loop-node.flow.flows half d) d (trail_from net dist via v))
+          (sym to) (room_after net c.loop-node.flow.flows half d d rest apart room.1));
       steps = omega (arith, old.steps, c.push.ensures.steps, n.level, level);
     }

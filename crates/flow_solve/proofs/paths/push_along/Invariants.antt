@@ -12,7 +12,8 @@ invariant-loop-node l = record {
   fits : Fits l.net l.flow.flows;
   node : IsNode l.net l.node;
   marked : IsMarked l.dist (l.node - 1);
-  ahead : push_all l.flow.flows (trail_from l.net l.dist l.via l.node) l.amount ≡ push_all l.fn.flow.flows (trail_from l.net l.dist l.via l.source) l.amount;
+  ahead : push_all l.flow.flows (trail_from l.net l.dist l.via l.node) l.amount
+      ≡ push_all l.fn.flow.flows (trail_from l.net l.dist l.via l.source) l.amount;
   room : HasRoom l.net l.flow.flows l.amount (trail_from l.net l.dist l.via l.node);
   steps : l.flow.steps + slice_index l.dist (l.node - 1) ≡ l.fn.flow.steps + slice_index l.dist (l.source - 1);
 }

@@ -8,24 +8,41 @@ use Rattle.flow_solve.proofs.phases.find_levels.Goals as goal
 
 pub returns-then-progress-eq0-clause-missed : goal.returns-then-progress-eq0-clause-missed
 returns-then-progress-eq0-clause-missed c = λ e.
-    c.search-progress.ensures.missed c.if-progress-eq0.true (omega (arith, c.requires.enough, c.requires.terminals.some_source))
+    c.search-progress.ensures.missed c.if-progress-eq0.true
+    (omega (arith, c.requires.enough, c.requires.terminals.some_source))
 
 pub rank_all-requires-clause-all : goal.rank_all-requires-clause-all
 rank_all-requires-clause-all c =
-    omega (arith, queue_short c.search-progress.new.dist c.search-progress.new.queue c.search-progress.result.seen c.search-progress.ensures.queue, c.search-progress.ensures.searched.size, c.requires.cells.queue_size)
+    omega (
+      arith,
+      queue_short c.search-progress.new.dist c.search-progress.new.queue c.search-progress.result.seen
+          c.search-progress.ensures.queue,
+      c.search-progress.ensures.searched.size,
+      c.requires.cells.queue_size,
+    )
 
 pub returns-clause-levels : goal.returns-clause-levels
 returns-clause-levels c = λ e.
-    let found = c.search-progress.ensures in let ranks = c.rank_all.ensures in let plan = c.args.plan in let net = plan.packed.net.now in
+    let found = c.search-progress.ensures in
+    let ranks = c.rank_all.ensures in
+    let plan = c.args.plan in
+    let net = plan.packed.net.now in
     let dist = c.search-progress.new.dist in let flows = c.args.flow.now.flows in
-    levels_found net plan.until.now plan.starts.now flows dist c.search-progress.new.via c.search-progress.new.queue c.rank_all.new.rank c.search-progress.result.seen c.search-progress.result.wanted plan.enough
-    c.nodes.ensures.is_net
-    (subst (λ (dir : Direction). IsSearched net flows dir plan.starts.now dist c.search-progress.new.via) c.requires.backwards found.searched)
+    levels_found net plan.until.now plan.starts.now flows dist
+    c.search-progress.new.via c.search-progress.new.queue c.rank_all.new.rank
+    c.search-progress.result.seen c.search-progress.result.wanted plan.enough c.nodes.ensures.is_net
+    (subst (λ (dir : Direction). IsSearched net flows dir plan.starts.now dist c.search-progress.new.via)
+    c.requires.backwards found.searched)
     c.requires.terminals.sources_within c.requires.terminals.sinks_within found.count
-    (subst (λ (dir : Direction). c.search-progress.result.wanted < plan.enough → (p : ℕ) → p < net.nodes → IsMarked dist p → IsDone net flows dir dist p) c.requires.backwards found.whole)
-    (elim (cases_lt net.nodes plan.enough) [ inl l ↦ inr l | inr l ↦ inl (omega (arith, l, c.requires.enough, c.nodes.ensures.is_net.nodes_most)) ])
-    c.if-progress-eq0.false
-    (record {
+    (subst
+    (λ (dir : Direction). c.search-progress.result.wanted < plan.enough
+    → (p : ℕ) → p < net.nodes → IsMarked dist p → IsDone net flows dir dist p)
+    c.requires.backwards found.whole)
+    (elim (cases_lt net.nodes plan.enough) [
+      | inl l ↦ inr l
+      | inr l ↦ inl (omega (arith, l, c.requires.enough, c.nodes.ensures.is_net.nodes_most))
+    ])
+    c.if-progress-eq0.false (record {
       order = found.queue;
       dist_size = found.searched.size;
       ranked = ranks.ranked;

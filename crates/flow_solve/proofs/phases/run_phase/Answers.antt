@@ -1,6 +1,6 @@
 use Rattle.std.proofs.Common.{ℕ, ◌-◌, ◌*◌, length, take, ◌∙◌, ap, arith}
-use Rattle.flow_solve.specs.Levels.{cell_of, place_of, any, is_open}
-use Rattle.flow_solve.proofs.Falls.{left_most}
+use Rattle.flow_solve.specs.Levels.{cell_of, place_of, any}
+use Rattle.flow_solve.proofs.Falls.{left_most, to_fill_most}
 use Rattle.flow_solve.proofs.Bounds.{phase_paid}
 use Rattle.flow_solve.proofs.Distances.{far_few, far_phase}
 use Rattle.flow_solve.proofs.Turning.{fresh_phase}
@@ -8,22 +8,27 @@ use Rattle.flow_solve.proofs.phases.run_phase.Goals as goal
 
 pub walk_all-requires-clause-phase : goal.walk_all-requires-clause-phase
 walk_all-requires-clause-phase c =
-    fresh_phase c.args.phase.packed.net.now c.args.phase.s.now c.args.phase.t.now c.args.phase.packed.first.now c.args.phase.packed.halves.now c.args.phase.rank.now c.copy_from_slice.new.self c.args.flow.now.flows c.args.value
-    c.nodes-n.ensures.is_net c.requires.run.packed (c.copy_from_slice.ensures.after ∙ ap (λ (j : ℕ). take j c.args.phase.packed.first.now) c.nodes-n.ensures.nodes) c.requires.flow.feasible c.requires.flow.value c.requires.flow.no_loops
+    fresh_phase c.args.phase.packed.net.now c.args.phase.s.now c.args.phase.t.now c.args.phase.packed.first.now
+    c.args.phase.packed.halves.now c.args.phase.rank.now c.copy_from_slice.new.self c.args.flow.now.flows c.args.value
+    c.nodes-n.ensures.is_net c.requires.run.packed
+    (c.copy_from_slice.ensures.after ∙ ap (λ (j : ℕ). take j c.args.phase.packed.first.now) c.nodes-n.ensures.nodes)
+    c.requires.flow.feasible c.requires.flow.value c.requires.flow.no_loops
 
 pub returns-clause-few : goal.returns-clause-few
 returns-clause-few c = λ j far.
     let l = c.requires.levels in
-    far_few c.args.phase.packed.net.now c.args.phase.s.now c.args.phase.t.now c.args.flow.now.flows c.args.phase.dist.now l.via j l.source.0 far l.searched l.source.1 l.source.2
+    far_few c.args.phase.packed.net.now c.args.phase.s.now c.args.phase.t.now c.args.flow.now.flows
+    c.args.phase.dist.now l.via j l.source.0 far l.searched l.source.1 l.source.2
 
 pub returns-clause-far : goal.returns-clause-far
 returns-clause-far c = λ j far.
     let l = c.requires.levels in let now = c.walk_all.ensures in let net = c.args.phase.packed.net.now in
     let level = l.levels.0 in let slope = l.levels.1 in
-    far_phase net c.args.phase.s.now c.args.phase.t.now c.args.flow.now.flows c.args.phase.dist.now l.via level (cell_of c.args.phase.rank.now) (place_of c.args.phase.packed.halves.now) (cell_of c.walk_all.new.current) c.walk_all.new.flow.flows j
-    c.nodes-n.ensures.is_net far l.searched
-    (far_few net c.args.phase.s.now c.args.phase.t.now c.args.flow.now.flows c.args.phase.dist.now l.via j l.source.0 far l.searched l.source.1 l.source.2)
-    (record {
+    far_phase net c.args.phase.s.now c.args.phase.t.now c.args.flow.now.flows c.args.phase.dist.now l.via level
+    (cell_of c.args.phase.rank.now) (place_of c.args.phase.packed.halves.now) (cell_of c.walk_all.new.current)
+    c.walk_all.new.flow.flows j c.nodes-n.ensures.is_net far l.searched
+    (far_few net c.args.phase.s.now c.args.phase.t.now c.args.flow.now.flows c.args.phase.dist.now l.via j l.source.0
+    far l.searched l.source.1 l.source.2) (record {
       gentle = now.gentle level slope.ordered slope.gentle;
       ordered = slope.ordered;
       sinks = slope.sinks;
@@ -35,9 +40,11 @@ returns-clause-far c = λ j far.
 
 pub returns-clause-steps : goal.returns-clause-steps
 returns-clause-steps c =
-    let net = c.args.phase.packed.net.now in let rank = c.args.phase.rank.now in let halves = c.args.phase.packed.halves.now in
+    let net = c.args.phase.packed.net.now in
+    let rank = c.args.phase.rank.now in
+    let halves = c.args.phase.packed.halves.now in
     let paid = phase_paid (length net.arcs) (3 * (net.nodes - 1)) c.args.flow.now.steps c.walk_all.new.flow.steps _ _ _
-    (left_most net (cell_of rank) (place_of halves) (cell_of c.copy_from_slice.new.self) (is_open net c.args.flow.now.flows))
+    (to_fill_most net (cell_of rank) (place_of halves) (cell_of c.copy_from_slice.new.self) c.args.flow.now.flows)
     (left_most net (cell_of rank) (place_of halves) (cell_of c.copy_from_slice.new.self) any)
     c.walk_all.ensures.steps in
     omega (arith, paid)

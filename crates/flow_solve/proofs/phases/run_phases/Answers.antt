@@ -11,7 +11,9 @@ use Rattle.flow_solve.proofs.phases.run_phases.Goals as goal
 pub phases-init : goal.phases-init
 phases-init c = record {
   flow = c.requires.flow;
-  far = far_start c.args.packed.net.now c.args.s.now c.args.t.now c.args.flow.now.flows (terminals_apart c.args.packed.net.now c.args.s.now c.args.t.now c.requires.terminals);
+  far =
+      far_start c.args.packed.net.now c.args.s.now c.args.t.now c.args.flow.now.flows
+      (terminals_apart c.args.packed.net.now c.args.s.now c.args.t.now c.requires.terminals);
   first = λ l. omega (arith, l);
   few = omega (arith, c.nodes-n.ensures.is_net.nodes_least);
   never_lowered = omega arith;
@@ -20,8 +22,13 @@ phases-init c = record {
 
 pub phases-preserved : goal.phases-preserved
 phases-preserved c =
-    let old = c.phases.invariant in let found = c.find_levels.ensures in let now = c.run_phase-value.ensures in let net = c.args.packed.net.now in
-    let far : IsFar net c.args.s.now c.args.t.now c.find_levels.new.flow.flows c.phases.phases = subst (λ (ys : List ℕ). IsFar net c.args.s.now c.args.t.now ys c.phases.phases) (sym found.looks.flows) old.far in
+    let old = c.phases.invariant in
+    let found = c.find_levels.ensures in
+    let now = c.run_phase-value.ensures in
+    let net = c.args.packed.net.now in
+    let far : IsFar net c.args.s.now c.args.t.now c.find_levels.new.flow.flows c.phases.phases =
+    subst (λ (ys : List ℕ). IsFar net c.args.s.now c.args.t.now ys c.phases.phases) (sym found.looks.flows)
+    old.far in
     record {
       flow = now.flow;
       far = now.far c.phases.phases far;
@@ -34,32 +41,45 @@ phases-preserved c =
 -- a phase with lifting comes before all others
 pub phases-preserved-then-supply-search : goal.phases-preserved-then-supply-search
 phases-preserved-then-supply-search c =
-    let old = c.phases.invariant in let found = c.find_levels.ensures in let now = c.run_lifted-value.ensures in let net = c.args.packed.net.now in
-    let none : c.phases.phases ≡ 0 = elim (cases_lt 0 c.phases.phases) [ inl l ↦ omega (arith, old.first (omega (arith, l)), c.if-supply-search.true) | inr l ↦ omega (arith, l) ] in
-    let far = far_start net c.args.s.now c.args.t.now c.run_lifted-value.new.flow.flows (terminals_apart net c.args.s.now c.args.t.now c.requires.terminals) in
+    let old = c.phases.invariant in
+    let found = c.find_levels.ensures in
+    let lifted = c.run_lifted-value.ensures in
+    let net = c.args.packed.net.now in
+    let none : c.phases.phases ≡ 0 = elim (cases_lt 0 c.phases.phases) [
+      | inl l ↦ omega (arith, old.first (omega (arith, l)), c.if-supply-search.true)
+      | inr l ↦ omega (arith, l)
+    ] in
+    let far = far_start net c.args.s.now c.args.t.now c.run_lifted-value.new.flow.flows
+    (terminals_apart net c.args.s.now c.args.t.now c.requires.terminals) in
     record {
-      flow = now.flow;
+      flow = lifted.flow;
       far = subst (λ (j : ℕ). IsFar net c.args.s.now c.args.t.now c.run_lifted-value.new.flow.flows j) (sym none) far;
       first = λ l. omega (arith, l, none);
       few = old.few;
-      never_lowered = omega (arith, old.never_lowered, found.looks.never_lowered, now.never_lowered);
-      steps = omega (arith, old.steps, found.looks.steps, now.steps);
+      never_lowered = omega (arith, old.never_lowered, found.looks.never_lowered, lifted.paid.never_lowered);
+      steps = omega (arith, old.steps, found.looks.steps, lifted.paid.steps);
     }
 
 pub returns-clause-greatest : goal.returns-clause-greatest
 returns-clause-greatest c =
     let old = c.phases.invariant in let found = c.find_levels.ensures in
-    (settled c.args.packed.net.now c.args.s.now c.args.t.now c.phases.flow.flows (seen c.find_levels.new.dist) c.phases.value c.nodes-n.ensures.is_net old.flow (found.missed c.phases-test.false).whole (found.missed c.phases-test.false).outside).0
+    (settled c.args.packed.net.now c.args.s.now c.args.t.now c.phases.flow.flows (seen c.find_levels.new.dist)
+    c.phases.value c.nodes-n.ensures.is_net old.flow (found.missed c.phases-test.false).whole
+    (found.missed c.phases-test.false).outside).0
 
 pub returns-clause-least : goal.returns-clause-least
 returns-clause-least c =
     let old = c.phases.invariant in let found = c.find_levels.ensures in
-    (settled c.args.packed.net.now c.args.s.now c.args.t.now c.phases.flow.flows (seen c.find_levels.new.dist) c.phases.value c.nodes-n.ensures.is_net old.flow (found.missed c.phases-test.false).whole (found.missed c.phases-test.false).outside).1
+    (settled c.args.packed.net.now c.args.s.now c.args.t.now c.phases.flow.flows (seen c.find_levels.new.dist)
+    c.phases.value c.nodes-n.ensures.is_net old.flow (found.missed c.phases-test.false).whole
+    (found.missed c.phases-test.false).outside).1
 
 pub returns-clause-steps : goal.returns-clause-steps
 returns-clause-steps c =
     let old = c.phases.invariant in let found = c.find_levels.ensures in let net = c.args.packed.net.now in
-    run_paid net.nodes (length net.arcs) (net.nodes - 1) c.phases.phases (c.args.flow.now.steps + c.args.allowance) c.find_levels.new.flow.steps (omega (arith, old.few)) (omega (arith, c.nodes-n.ensures.is_net.nodes_least)) (omega (arith, old.few)) (omega (arith, old.steps, found.looks.steps))
+    run_paid net.nodes (length net.arcs) (net.nodes - 1) c.phases.phases (c.args.flow.now.steps + c.args.allowance)
+    c.find_levels.new.flow.steps (omega (arith, old.few)) (omega (arith, c.nodes-n.ensures.is_net.nodes_least))
+    (omega (arith, old.few)) (omega (arith, old.steps, found.looks.steps))
 
 pub run_phase-value-requires-clause-run : goal.run_phase-value-requires-clause-run
 run_phase-value-requires-clause-run c = record {

@@ -10,7 +10,10 @@ invariant-phases l = record {
   first : 1 ≤ l.phases → l.supply.left ≡ 0;
   few : l.phases < l.packed.net.now.nodes;
   never_lowered : l.fn.flow.steps ≤ l.flow.steps;
-  steps : l.flow.steps + l.supply.left ≤ l.fn.flow.steps + l.allowance + l.phases * (3 * (l.packed.net.now.nodes - 1) * length l.packed.net.now.arcs + 3 * length l.packed.net.now.arcs);
+  steps : l.flow.steps + l.supply.left
+      ≤ l.fn.flow.steps + l.allowance
+      + l.phases
+      * (3 * (l.packed.net.now.nodes - 1) * length l.packed.net.now.arcs + 3 * length l.packed.net.now.arcs);
 }
 
 abbrev pub decreases-phases : goal.decreases-phases

@@ -16,7 +16,8 @@ pub walk-raised-requires-clause-ranked : goal.walk-raised-requires-clause-ranked
 walk-raised-requires-clause-ranked c =
     let source = get_or c.args.phase.s.now c.loop-source.source-index 0 in
     let node = c.requires.run.terminals.sources_within c.loop-source.source-index 0 c.loop-source-test.true in
-    c.requires.ranked source (seen_marked c.args.phase.dist.now source node.0 (omega (arith, node, c.requires.run.dist_size)) c.if-phase-source-lt-WANTED.true)
+    c.requires.ranked source (seen_marked c.args.phase.dist.now source node.0
+    (omega (arith, node, c.requires.run.dist_size)) c.if-phase-source-lt-WANTED.true)
 
 pub loop-source-preserved : goal.loop-source-preserved
 loop-source-preserved c =
@@ -29,9 +30,13 @@ loop-source-preserved c =
           let now = w.walk-raised.ensures in
           rw (w.flow-is, w.current-is, w.raised-is) (record {
             phase = now.phase;
-            dead = below_more (λ k. IsTrue (seen dist (slice_index s k)) → IsDead net (one_of c.args.phase.t.now) (place_of c.args.phase.packed.halves.now) (cell_of w.walk-raised.new.current) (slice_index s k)) c.loop-source.source-index
-                (λ k l i. dead_on net (one_of c.args.phase.t.now) (place_of c.args.phase.packed.halves.now) (cell_of c.loop-source.current) (cell_of w.walk-raised.new.current) (slice_index s k) now.risen (old.dead k l i))
-                (λ i. now.dead);
+            dead =
+                below_more (λ k. IsTrue (seen dist (slice_index s k))
+                → IsDead net (one_of c.args.phase.t.now) (place_of c.args.phase.packed.halves.now)
+                (cell_of w.walk-raised.new.current) (slice_index s k)) c.loop-source.source-index
+                (λ k l i. dead_on net (one_of c.args.phase.t.now) (place_of c.args.phase.packed.halves.now)
+                (cell_of c.loop-source.current) (cell_of w.walk-raised.new.current) (slice_index s k) now.risen
+                (old.dead k l i)) (λ i. now.dead);
             gentle = λ level o g. now.gentle level o (old.gentle level o g);
             never_lowered = omega (arith, old.never_lowered, now.never_lowered);
             steps = omega (arith, old.steps, now.steps);
@@ -39,8 +44,10 @@ loop-source-preserved c =
       | else-phase-source-lt-WANTED w ↦
           rw (w.flow-is, w.current-is, w.raised-is) (record {
             phase = old.phase;
-            dead = below_more (λ k. IsTrue (seen dist (slice_index s k)) → IsDead net (one_of c.args.phase.t.now) (place_of c.args.phase.packed.halves.now) (cell_of c.loop-source.current) (slice_index s k)) c.loop-source.source-index
-                old.dead
+            dead =
+                below_more (λ k. IsTrue (seen dist (slice_index s k))
+                → IsDead net (one_of c.args.phase.t.now) (place_of c.args.phase.packed.halves.now)
+                (cell_of c.loop-source.current) (slice_index s k)) c.loop-source.source-index old.dead
                 (λ i. let out = unmarked_unseen dist source node.0 w.if-phase-source-lt-WANTED.false in absurd (cc));
             gentle = old.gentle;
             never_lowered = old.never_lowered;
@@ -52,5 +59,6 @@ pub returns-clause-dead : goal.returns-clause-dead
 returns-clause-dead c = λ v i k.
     let p = place_in c.args.phase.s.now v i in
     let Seen : ℕ → Type 0 = λ w. IsTrue (seen c.args.phase.dist.now w) in
-    subst (λ w. IsDead c.args.phase.packed.net.now (one_of c.args.phase.t.now) (place_of c.args.phase.packed.halves.now) (cell_of c.loop-source.current) w) p.2
+    subst (λ w. IsDead c.args.phase.packed.net.now (one_of c.args.phase.t.now) (place_of c.args.phase.packed.halves.now)
+    (cell_of c.loop-source.current) w) p.2
     (c.loop-source.invariant.dead p.0 (omega (arith, p.1, c.loop-source-test.false)) (subst Seen (sym p.2) k))

@@ -7,9 +7,15 @@ use Rattle.flow_solve.proofs.phases.walk_all.Given as goal
 
 abbrev pub invariant-loop-source : goal.invariant-loop-source
 invariant-loop-source l = record {
-  phase : IsInPhase l.phase.packed.net.now l.phase.s.now l.phase.t.now l.phase.packed.first.now l.phase.packed.halves.now l.phase.rank.now l.current l.flow.flows l.raised;
-  dead : (k : ℕ) → k < l.source-index → IsTrue (seen l.phase.dist.now (slice_index l.phase.s.now k)) → IsDead l.phase.packed.net.now (one_of l.phase.t.now) (place_of l.phase.packed.halves.now) (cell_of l.current) (slice_index l.phase.s.now k);
-  gentle : (level : ℕ → ℕ) → IsOrdered l.phase.packed.net.now level (cell_of l.phase.rank.now) → IsGentle l.phase.packed.net.now l.fn.flow.flows level → IsGentle l.phase.packed.net.now l.flow.flows level;
+  phase : IsInPhase l.phase.packed.net.now l.phase.s.now l.phase.t.now l.phase.packed.first.now
+      l.phase.packed.halves.now l.phase.rank.now l.current l.flow.flows l.raised;
+  dead : (k : ℕ) → k < l.source-index → IsTrue (seen l.phase.dist.now (slice_index l.phase.s.now k))
+      → IsDead l.phase.packed.net.now (one_of l.phase.t.now) (place_of l.phase.packed.halves.now) (cell_of l.current)
+      (slice_index l.phase.s.now k);
+  gentle : (level : ℕ → ℕ) → IsOrdered l.phase.packed.net.now level (cell_of l.phase.rank.now)
+      → IsGentle l.phase.packed.net.now l.fn.flow.flows level → IsGentle l.phase.packed.net.now l.flow.flows level;
   never_lowered : l.fn.flow.steps ≤ l.flow.steps;
-  steps : l.flow.steps + owed l.phase.packed.net.now l.phase.packed.halves.now l.phase.rank.now l.current l.flow.flows ≤ l.fn.flow.steps + owed l.phase.packed.net.now l.phase.packed.halves.now l.phase.rank.now l.fn.current l.fn.flow.flows;
+  steps : l.flow.steps + owed l.phase.packed.net.now l.phase.packed.halves.now l.phase.rank.now l.current l.flow.flows
+      ≤ l.fn.flow.steps
+      + owed l.phase.packed.net.now l.phase.packed.halves.now l.phase.rank.now l.fn.current l.fn.flow.flows;
 }

@@ -1,4 +1,5 @@
-use Rattle.std.proofs.Common.{inl, inr, ap, ◌+◌, ◌≡◌, refl, ◌-◌, ◌≤◌, ◌<◌, IsTrue, get_or, subst, sym, ◌∙◌, below_more, arith}
+use Rattle.std.proofs.Common.{inl, inr, ap, ◌+◌, ◌≡◌, refl, ◌-◌, ◌≤◌, ◌<◌, IsTrue, get_or, subst, sym, ◌∙◌, below_more}
+use Rattle.std.proofs.Common.{arith}
 use Rattle.flow_net.specs.Flows.{Fits}
 use Rattle.flow_net.specs.Residual.{head_of, residual}
 use Rattle.flow_solve.specs.Searches.{crossed, IsMarked, IsCome}
@@ -10,15 +11,19 @@ use Rattle.flow_solve.proofs.searching.follow_all.Goals as goal
 pub bounds-queue-progress : goal.bounds-queue-progress
 bounds-queue-progress c =
     let s = c.requires.search in
-    omega (arith, c.requires.next, queue_short c.args.dist.now c.args.queue.now c.args.progress.seen s.order, s.queue_size)
+    omega
+    (arith, c.requires.next, queue_short c.args.dist.now c.args.queue.now c.args.progress.seen s.order, s.queue_size)
 
 pub enter-progress-requires-clause-arrival : goal.enter-progress-requires-clause-arrival
 enter-progress-requires-clause-arrival c =
     let old = c.loop-spot.invariant in let place = get_or c.args.queue.now c.args.progress.followed 0 in
     let marked = c.requires.search.order.marks c.args.progress.followed c.requires.next in
     let inside = c.requires.search.order.places c.args.progress.followed c.requires.next in
-    let low = old.search.order.levels place (omega (arith, inside, old.cells, c.requires.cells)) (grown_marked old.grown place marked) in
-    let kept = (old.grown.kept place marked).0 in let to = c.in-Some.ensures.some in let new = c.in-Some.ensures.unseen in
+    let low = old.search.order.levels place (omega (arith, inside, old.cells, c.requires.cells))
+    (grown_marked old.grown place marked) in
+    let kept = (old.grown.kept place marked).0 in
+    let to = c.in-Some.ensures.some in
+    let new = c.in-Some.ensures.unseen in
     record {
       place = new.0;
       unseen = new.1;
@@ -29,15 +34,23 @@ enter-progress-requires-clause-arrival c =
 pub loop-spot-preserved : goal.loop-spot-preserved
 loop-spot-preserved c =
     let old = c.loop-spot.invariant in let looks = c.arrive.ensures.looks in
-    let net = c.args.plan.packed.net.now in let halves = c.args.plan.packed.halves.now in let flows = c.args.flow.now.flows in let dir = c.args.plan.direction in
+    let net = c.args.plan.packed.net.now in
+    let halves = c.args.plan.packed.halves.now in
+    let flows = c.args.flow.now.flows in
+    let dir = c.args.plan.direction in
     let place = get_or c.args.queue.now c.args.progress.followed 0 in let half = get_or halves c.loop-spot.spot 0 in
     let marked = c.requires.search.order.marks c.args.progress.followed c.requires.next in
-    let inside : place < net.nodes = omega (arith, c.requires.search.order.places c.args.progress.followed c.requires.next, c.requires.cells) in
+    let inside : place < net.nodes =
+    omega (arith, c.requires.search.order.places c.args.progress.followed c.requires.next, c.requires.cells) in
     let own = c.requires.packed.holds place c.loop-spot.spot inside old.begun c.loop-spot-test.true in
-    let room : residual net c.loop-spot.flow.flows (crossed dir half) ≡ residual net flows (crossed dir half) = ap (λ xs. residual net xs (crossed dir half)) old.flows in
+    let room : residual net c.loop-spot.flow.flows (crossed dir half) ≡ residual net flows (crossed dir half) =
+    ap (λ xs. residual net xs (crossed dir half)) old.flows in
     elim c.match-arrive.branch [
       | in-Some w ↦
-          let now = w.enter-progress.ensures in let to = w.in-Some.ensures.some in let dist' = w.enter-progress.new.dist in let via' = w.enter-progress.new.via in
+          let now = w.enter-progress.ensures in
+          let to = w.in-Some.ensures.some in
+          let dist' = w.enter-progress.new.dist in
+          let via' = w.enter-progress.new.via in
           let there = w.in-Some.arrival.place in
           let all_grown = grown_on old.grown now.grown in
           let still : IsMarked dist' place = grown_marked all_grown place marked in
@@ -55,7 +68,10 @@ loop-spot-preserved c =
             search = now.search;
             grown = all_grown;
             followed = now.followed ∙ old.followed;
-            done = below_more (λ p. get_or c.args.plan.packed.first.now place 0 ≤ p → 1 ≤ residual net flows (crossed dir (get_or halves p 0)) → IsMarked dist' (head_of net (get_or halves p 0) - 1)) c.loop-spot.spot
+            done =
+                below_more (λ p. get_or c.args.plan.packed.first.now place 0 ≤ p
+                → 1 ≤ residual net flows (crossed dir (get_or halves p 0))
+                → IsMarked dist' (head_of net (get_or halves p 0) - 1)) c.loop-spot.spot
                 (λ p l from r. grown_marked now.grown (head_of net (get_or halves p 0) - 1) (old.done p l from r))
                 (λ from r. subst (IsMarked dist') head now.arrived.marked);
             come = λ p m. elim (now.come p m) [
@@ -63,8 +79,11 @@ loop-spot-preserved c =
                 | inl first ↦ inl first
                 | inr came ↦ inr (come_on net flows dir p now.grown was came)
               ]
-              | inr new ↦ inr (subst (λ q. IsCome net flows dir dist' via' q) (sym new)
-                  (come_new net flows dir dist' via' there half place c.nodes-place.ensures.is_net own.0 inside own.1 to.head remains still (omega (arith, now.arrived.level, to.level, level)) (now.arrived.half ∙ to.half)))
+              | inr new ↦
+                  inr (subst (λ q. IsCome net flows dir dist' via' q) (sym new)
+                  (come_new net flows dir dist' via' there half place c.nodes-place.ensures.is_net own.0 inside
+                  own.1 to.head remains still (omega (arith, now.arrived.level, to.level, level))
+                  (now.arrived.half ∙ to.half)))
             ];
             next_level = λ p m. elim (now.come p m) [
               | inl was ↦ elim (old.next_level p was) [
@@ -75,8 +94,11 @@ loop-spot-preserved c =
             ];
             only = λ side closed in_side holds p l m. elim (now.come p m) [
               | inl was ↦ old.only side closed in_side holds p l was
-              | inr new ↦ subst (λ q. IsTrue (side (q + 1))) (sym new)
-                  (subst (λ v. IsTrue (side v)) to.head (closed_step net flows dir side half place c.nodes-place.ensures.is_net own.0 inside own.1 closed in_side remains))
+              | inr new ↦
+                  subst (λ q. IsTrue (side (q + 1))) (sym new)
+                  (subst (λ v. IsTrue (side v)) to.head
+                  (closed_step net flows dir side half place c.nodes-place.ensures.is_net own.0 inside own.1 closed
+                  in_side remains))
             ];
             never_lowered = omega (arith, old.never_lowered, looks.never_lowered);
             steps = omega (arith, old.steps, looks.steps, old.begun);
@@ -94,8 +116,10 @@ loop-spot-preserved c =
             search = old.search;
             grown = old.grown;
             followed = old.followed;
-            done = below_more (λ p. get_or c.args.plan.packed.first.now place 0 ≤ p → 1 ≤ residual net flows (crossed dir (get_or halves p 0)) → IsMarked c.loop-spot.dist (head_of net (get_or halves p 0) - 1)) c.loop-spot.spot
-                old.done
+            done =
+                below_more (λ p. get_or c.args.plan.packed.first.now place 0 ≤ p
+                → 1 ≤ residual net flows (crossed dir (get_or halves p 0))
+                → IsMarked c.loop-spot.dist (head_of net (get_or halves p 0) - 1)) c.loop-spot.spot old.done
                 (λ from r. none (omega (arith, r, room)));
             come = old.come;
             next_level = old.next_level;
@@ -107,8 +131,11 @@ loop-spot-preserved c =
 
 pub returns-clause-followed : goal.returns-clause-followed
 returns-clause-followed c =
-    let old = c.loop-spot.invariant in let net = c.args.plan.packed.net.now in let place = get_or c.args.queue.now c.args.progress.followed 0 in
-    let inside : place < net.nodes = omega (arith, c.requires.search.order.places c.args.progress.followed c.requires.next, c.requires.cells) in
+    let old = c.loop-spot.invariant in
+    let net = c.args.plan.packed.net.now in
+    let place = get_or c.args.queue.now c.args.progress.followed 0 in
+    let inside : place < net.nodes =
+    omega (arith, c.requires.search.order.places c.args.progress.followed c.requires.next, c.requires.cells) in
     record {
       near = old.near;
       come = old.come;
@@ -116,6 +143,7 @@ returns-clause-followed c =
       done = λ h l e r.
           let at = c.requires.packed.stands place h inside l e in
           subst (λ g. IsMarked c.loop-spot.dist (head_of net g - 1)) at.3
-          (old.done at.0 (omega (arith, at.2, c.loop-spot-test.false)) at.1 (subst (λ g. 1 ≤ residual net c.args.flow.now.flows (crossed c.args.plan.direction g)) (sym at.3) r));
+          (old.done at.0 (omega (arith, at.2, c.loop-spot-test.false)) at.1
+          (subst (λ g. 1 ≤ residual net c.args.flow.now.flows (crossed c.args.plan.direction g)) (sym at.3) r));
       only = old.only;
     }

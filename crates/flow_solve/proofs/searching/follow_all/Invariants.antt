@@ -17,10 +17,17 @@ invariant-loop-spot l = record {
   search : IsSearch l.dist l.via l.queue l.progress;
   grown : HasGrown l.fn.dist l.fn.via l.fn.queue l.fn.progress l.dist l.via l.queue l.progress;
   followed : l.progress.followed ≡ l.fn.progress.followed;
-  done : (p : ℕ) → p < l.spot → slice_index l.plan.packed.first.now l.place ≤ p → 1 ≤ residual l.plan.packed.net.now l.fn.flow.flows (crossed l.plan.direction (slice_index l.plan.packed.halves.now p)) → IsMarked l.dist (head_of l.plan.packed.net.now (slice_index l.plan.packed.halves.now p) - 1);
-  come : (p : ℕ) → IsMarked l.dist p → IsMarked l.fn.dist p ⊎ IsCome l.plan.packed.net.now l.fn.flow.flows l.plan.direction l.dist l.via p;
+  done : (p : ℕ) → p < l.spot → slice_index l.plan.packed.first.now l.place ≤ p
+      → 1
+      ≤ residual l.plan.packed.net.now l.fn.flow.flows
+      (crossed l.plan.direction (slice_index l.plan.packed.halves.now p))
+      → IsMarked l.dist (head_of l.plan.packed.net.now (slice_index l.plan.packed.halves.now p) - 1);
+  come : (p : ℕ) → IsMarked l.dist p
+      → IsMarked l.fn.dist p ⊎ IsCome l.plan.packed.net.now l.fn.flow.flows l.plan.direction l.dist l.via p;
   next_level : (p : ℕ) → IsMarked l.dist p → IsMarked l.fn.dist p ⊎ (slice_index l.dist p ≡ l.level);
-  only : (side : ℕ → Bool) → IsClosedFor l.plan.direction l.plan.packed.net.now l.fn.flow.flows side → IsTrue (side (l.place + 1)) → HoldsMarked l.plan.packed.net.now.nodes l.fn.dist side → HoldsMarked l.plan.packed.net.now.nodes l.dist side;
+  only : (side : ℕ → Bool) → IsClosedFor l.plan.direction l.plan.packed.net.now l.fn.flow.flows side
+      → IsTrue (side (l.place + 1)) → HoldsMarked l.plan.packed.net.now.nodes l.fn.dist side
+      → HoldsMarked l.plan.packed.net.now.nodes l.dist side;
   never_lowered : l.fn.flow.steps ≤ l.flow.steps;
   steps : l.flow.steps ≤ l.fn.flow.steps + (l.spot - slice_index l.plan.packed.first.now l.place);
 }

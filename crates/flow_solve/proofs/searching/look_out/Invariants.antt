@@ -4,4 +4,6 @@ use Rattle.flow_solve.specs.Searches.{unseen_cell}
 use Rattle.flow_solve.proofs.searching.look_out.Given as goal
 
 abbrev pub invariant-loop-node : goal.invariant-loop-node
-invariant-loop-node l = (length l.dist ≡ length l.fn.dist) × ((p : ℕ) → p < length l.fn.dist → slice_index l.dist p ≡ unseen_cell (take l.node-index l.until) p)
+invariant-loop-node l =
+    (length l.dist ≡ length l.fn.dist)
+    × ((p : ℕ) → p < length l.fn.dist → slice_index l.dist p ≡ unseen_cell (take l.node-index l.until) p)

@@ -10,7 +10,8 @@ invariant-places l = record {
   fits : Fits l.plan.packed.net.now l.flow.flows;
   flows : l.flow.flows ≡ l.fn.flow.flows;
   search : IsSearch l.dist l.via l.queue l.progress;
-  swept : IsSwept l.plan.packed.net.now l.fn.flow.flows l.plan.direction l.plan.starts.now l.dist l.via l.queue l.progress.seen l.progress.followed;
+  swept : IsSwept l.plan.packed.net.now l.fn.flow.flows l.plan.direction l.plan.starts.now l.dist l.via l.queue
+      l.progress.seen l.progress.followed;
   soon : 1 ≤ l.plan.enough → l.plan.enough ≤ l.progress.wanted → EndsWithWanted l.plan.until.now l.dist;
   count : IsCount l.plan.until.now l.dist l.progress.wanted;
   never_lowered : l.fn.flow.steps ≤ l.flow.steps;

@@ -7,7 +7,11 @@ use Rattle.flow_solve.proofs.Raises.{zero_flow}
 use Rattle.flow_solve.proofs.tests.empty_flow.Goals as goal
 
 pub returns-in-Ok-clause-feasible : goal.returns-in-Ok-clause-feasible
-returns-in-Ok-clause-feasible c = λ s t. subst (λ (table : Table). IsFeasible c.args.net.now s t table.flows) (sym c.in-Ok.ensures.empty) (zeros_feasible c.args.net.now s t)
+returns-in-Ok-clause-feasible c = λ s t.
+    subst (λ (table : Table). IsFeasible c.args.net.now s t table.flows) (sym c.in-Ok.ensures.empty)
+    (zeros_feasible c.args.net.now s t)
 
 pub returns-in-Ok-clause-flow : goal.returns-in-Ok-clause-flow
-returns-in-Ok-clause-flow c = λ s t. subst (λ (table : Table). IsFlow c.args.net.now s t table.flows 0) (sym c.in-Ok.ensures.empty) (zero_flow c.args.net.now s t)
+returns-in-Ok-clause-flow c = λ s t.
+    subst (λ (table : Table). IsFlow c.args.net.now s t table.flows 0) (sym c.in-Ok.ensures.empty)
+    (zero_flow c.args.net.now s t)

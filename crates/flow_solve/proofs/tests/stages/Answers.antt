@@ -5,4 +5,5 @@ pub grow_trees-reached-requires-clause-flow : goal.grow_trees-reached-requires-c
 grow_trees-reached-requires-clause-flow c = c.in_ok-flow.ensures.flow c.split_at.result.0.now c.split_at.result.1.now
 
 pub greatest-requires-clause-fits : goal.greatest-requires-clause-fits
-greatest-requires-clause-fits c = (c.in_ok-other.ensures.feasible (one_of c.split_at.result.0.now) (one_of c.split_at.result.1.now)).fits
+greatest-requires-clause-fits c =
+    (c.in_ok-other.ensures.feasible (one_of c.split_at.result.0.now) (one_of c.split_at.result.1.now)).fits

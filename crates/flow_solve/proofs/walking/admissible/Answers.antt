@@ -2,7 +2,8 @@ use Rattle.std.proofs.Common.{◌≡◌, ℕ, List, ◌+◌, ◌-◌, get_or, se
 use Rattle.flow_net.specs.Residual.{residual}
 use Rattle.flow_solve.specs.Levels.{cell_of, place_of, HasMoved, AreWithin, IsBlocked, IsAdmissible, left, any}
 use Rattle.flow_solve.proofs.Places.{IsMine, cell_set}
-use Rattle.flow_solve.proofs.Walks.{IsLooking, looking_start, looking_skip, looking_fail, looking_found, mine_at, set_moved, moved_within, rank_falls, rank_rises}
+use Rattle.flow_solve.proofs.Walks.{IsLooking, looking_start, looking_skip, looking_fail, looking_found, mine_at}
+use Rattle.flow_solve.proofs.Walks.{set_moved, moved_within, rank_falls, rank_rises}
 use Rattle.flow_solve.proofs.walking.admissible.Goals.{then-rank-head+else-room-gt0, else-rank-head}
 use Rattle.flow_solve.proofs.walking.admissible.Goals as goal
 
@@ -11,30 +12,55 @@ loop-place-init c = record {
   fits = c.requires.fits;
   flows = refl;
   current = refl;
-  looking = looking_start c.args.packed.net.now c.args.packed.first.now c.args.packed.halves.now c.args.rank.now c.args.current.now c.args.flow.now.flows c.args.node c.args.flow.now.steps c.requires.node c.requires.current.size c.requires.current.places;
+  looking =
+      looking_start c.args.packed.net.now c.args.packed.first.now c.args.packed.halves.now c.args.rank.now
+      c.args.current.now c.args.flow.now.flows c.args.node c.args.flow.now.steps c.requires.node
+      c.requires.current.size c.requires.current.places;
   never_lowered = omega arith;
 }
 
 pub head-requires : goal.head-requires
 head-requires c =
-    (mine_at c.args.packed.net.now c.args.packed.first.now c.args.packed.halves.now c.args.rank.now c.args.current.now c.args.flow.now.flows c.args.node c.loop-place.place c.args.flow.now.steps c.loop-place.flow.steps c.nodes-end.ensures.is_net c.requires.packed c.requires.node c.requires.current.places c.loop-place.invariant.looking c.loop-place-test.true).half
+    (mine_at c.args.packed.net.now c.args.packed.first.now c.args.packed.halves.now c.args.rank.now c.args.current.now
+    c.args.flow.now.flows c.args.node c.loop-place.place c.args.flow.now.steps c.loop-place.flow.steps
+    c.nodes-end.ensures.is_net c.requires.packed c.requires.node c.requires.current.places
+    c.loop-place.invariant.looking c.loop-place-test.true).half
 
 pub returns-then-room-gt0-clause-looked : goal.returns-then-room-gt0-clause-looked
 returns-then-room-gt0-clause-looked c = record {
-  size = omega (arith, c.requires.current.size, length-set c.loop-place.current (c.args.node - 1) c.loop-place.place, ap (λ (z : List ℕ). length z) c.loop-place.invariant.current);
+  size =
+      omega (
+        arith,
+        c.requires.current.size,
+        length-set c.loop-place.current (c.args.node - 1) c.loop-place.place,
+        ap (λ (z : List ℕ). length z) c.loop-place.invariant.current,
+      );
   places =
       let old = c.loop-place.invariant in let l = old.looking in
-      let m = set_moved c.args.current.now c.args.node c.loop-place.place c.requires.node.0 (omega (arith, c.requires.node, c.requires.current.size)) l.least in
-      subst (λ (z : List ℕ). AreWithin c.args.packed.net.now c.args.packed.first.now (cell_of (set z (c.args.node - 1) c.loop-place.place))) (sym old.current)
-      (moved_within c.args.packed.net.now c.args.packed.first.now (cell_of c.args.current.now) (cell_of (set c.args.current.now (c.args.node - 1) c.loop-place.place)) c.args.node (m.up, m.there)
-      (omega (arith, l.most, cell_set c.args.current.now c.args.node c.loop-place.place c.requires.node.0 (omega (arith, c.requires.node, c.requires.current.size)))) c.requires.current.places);
+      let m = set_moved c.args.current.now c.args.node c.loop-place.place c.requires.node.0
+      (omega (arith, c.requires.node, c.requires.current.size)) l.least in
+      subst (λ (z : List ℕ). AreWithin c.args.packed.net.now c.args.packed.first.now
+      (cell_of (set z (c.args.node - 1) c.loop-place.place))) (sym old.current)
+      (moved_within c.args.packed.net.now c.args.packed.first.now (cell_of c.args.current.now)
+      (cell_of (set c.args.current.now (c.args.node - 1) c.loop-place.place)) c.args.node (m.up, m.there)
+      (omega (
+        arith,
+        l.most,
+        cell_set c.args.current.now c.args.node c.loop-place.place c.requires.node.0
+            (omega (arith, c.requires.node, c.requires.current.size)),
+      )) c.requires.current.places);
   moved =
       let old = c.loop-place.invariant in
-      subst (λ (z : List ℕ). HasMoved (cell_of c.args.current.now) (cell_of (set z (c.args.node - 1) c.loop-place.place)) c.args.node) (sym old.current)
-      (set_moved c.args.current.now c.args.node c.loop-place.place c.requires.node.0 (omega (arith, c.requires.node, c.requires.current.size)) old.looking.least);
+      subst (λ (z : List ℕ). HasMoved (cell_of c.args.current.now)
+      (cell_of (set z (c.args.node - 1) c.loop-place.place)) c.args.node) (sym old.current)
+      (set_moved c.args.current.now c.args.node c.loop-place.place c.requires.node.0
+      (omega (arith, c.requires.node, c.requires.current.size)) old.looking.least);
   blocked = λ t b.
       let old = c.loop-place.invariant in
-      subst (λ (z : List ℕ). IsBlocked c.args.packed.net.now t (cell_of c.args.rank.now) (place_of c.args.packed.halves.now) (cell_of (set z (c.args.node - 1) c.loop-place.place)) c.args.flow.now.flows) (sym old.current) (old.looking.blocked t b);
+      subst
+      (λ (z : List ℕ). IsBlocked c.args.packed.net.now t (cell_of c.args.rank.now) (place_of c.args.packed.halves.now)
+      (cell_of (set z (c.args.node - 1) c.loop-place.place)) c.args.flow.now.flows) (sym old.current)
+      (old.looking.blocked t b);
 }
 
 pub returns-then-room-gt0-clause-some : goal.returns-then-room-gt0-clause-some
@@ -42,17 +68,31 @@ returns-then-room-gt0-clause-some c =
     let old = c.loop-place.invariant in let l = old.looking in
     let net = c.args.packed.net.now in
     let half = get_or c.args.packed.halves.now c.loop-place.place 0 in
-    let g : IsMine net c.args.packed.halves.now c.args.node c.loop-place.place half = mine_at net c.args.packed.first.now c.args.packed.halves.now c.args.rank.now c.args.current.now c.args.flow.now.flows c.args.node c.loop-place.place c.args.flow.now.steps c.loop-place.flow.steps c.nodes-end.ensures.is_net c.requires.packed c.requires.node c.requires.current.places l c.loop-place-test.true in
-    let falls = rank_falls net c.args.rank.now c.args.node c.head.result half c.head.ensures.head g.tail c.requires.node.0 c.head.ensures.node.0 c.if-rank-head.true in
-    let same : residual net c.loop-place.flow.flows half ≡ residual net c.args.flow.now.flows half = ap (λ (ys : List ℕ). residual net ys half) old.flows in
-    subst (λ (z : List ℕ). IsAdmissible net (cell_of c.args.rank.now) (place_of c.args.packed.halves.now) (cell_of (set z (c.args.node - 1) c.loop-place.place)) c.args.flow.now.flows c.args.node half) (sym old.current)
-    (looking_found net c.args.packed.first.now c.args.packed.halves.now c.args.rank.now c.args.current.now c.args.flow.now.flows c.args.node c.loop-place.place c.args.flow.now.steps c.loop-place.flow.steps c.nodes-end.ensures.is_net c.requires.packed c.requires.node c.requires.current.size c.requires.current.places c.loop-place-test.true falls (omega (arith, same, c.look-room.ensures.residual, c.if-room-gt0.true)) l)
+    let g : IsMine net c.args.packed.halves.now c.args.node c.loop-place.place half =
+    mine_at net c.args.packed.first.now c.args.packed.halves.now c.args.rank.now c.args.current.now
+    c.args.flow.now.flows c.args.node c.loop-place.place c.args.flow.now.steps c.loop-place.flow.steps
+    c.nodes-end.ensures.is_net c.requires.packed c.requires.node c.requires.current.places l
+    c.loop-place-test.true in
+    let falls = rank_falls net c.args.rank.now c.args.node c.head.result half c.head.ensures.head g.tail
+    c.requires.node.0 c.head.ensures.node.0 c.if-rank-head.true in
+    let same : residual net c.loop-place.flow.flows half ≡ residual net c.args.flow.now.flows half =
+    ap (λ (ys : List ℕ). residual net ys half) old.flows in
+    subst (λ (z : List ℕ). IsAdmissible net (cell_of c.args.rank.now) (place_of c.args.packed.halves.now)
+    (cell_of (set z (c.args.node - 1) c.loop-place.place)) c.args.flow.now.flows c.args.node half) (sym old.current)
+    (looking_found net c.args.packed.first.now c.args.packed.halves.now c.args.rank.now c.args.current.now
+    c.args.flow.now.flows c.args.node c.loop-place.place c.args.flow.now.steps c.loop-place.flow.steps
+    c.nodes-end.ensures.is_net c.requires.packed c.requires.node c.requires.current.size c.requires.current.places
+    c.loop-place-test.true falls (omega (arith, same, c.look-room.ensures.residual, c.if-room-gt0.true)) l)
 
 pub returns-then-room-gt0-clause-steps_some : goal.returns-then-room-gt0-clause-steps_some
 returns-then-room-gt0-clause-steps_some c =
     let old = c.loop-place.invariant in let net = c.args.packed.net.now in
-    let same : left net (cell_of c.args.rank.now) (place_of c.args.packed.halves.now) (cell_of (set c.loop-place.current (c.args.node - 1) c.loop-place.place)) any ≡ left net (cell_of c.args.rank.now) (place_of c.args.packed.halves.now) (cell_of (set c.args.current.now (c.args.node - 1) c.loop-place.place)) any =
-    ap (λ (z : List ℕ). left net (cell_of c.args.rank.now) (place_of c.args.packed.halves.now) (cell_of (set z (c.args.node - 1) c.loop-place.place)) any) old.current in
+    let same : left net (cell_of c.args.rank.now) (place_of c.args.packed.halves.now)
+    (cell_of (set c.loop-place.current (c.args.node - 1) c.loop-place.place)) any
+    ≡ left net (cell_of c.args.rank.now) (place_of c.args.packed.halves.now)
+    (cell_of (set c.args.current.now (c.args.node - 1) c.loop-place.place)) any =
+    ap (λ (z : List ℕ). left net (cell_of c.args.rank.now) (place_of c.args.packed.halves.now)
+    (cell_of (set z (c.args.node - 1) c.loop-place.place)) any) old.current in
     omega (arith, old.looking.paid, c.look-room.ensures.steps, same)
 
 pub loop-place-preserved : goal.loop-place-preserved
@@ -60,61 +100,118 @@ loop-place-preserved c =
     let old = c.loop-place.invariant in let l = old.looking in
     let net = c.args.packed.net.now in
     let half = get_or c.args.packed.halves.now c.loop-place.place 0 in
-    let g : IsMine net c.args.packed.halves.now c.args.node c.loop-place.place half = mine_at net c.args.packed.first.now c.args.packed.halves.now c.args.rank.now c.args.current.now c.args.flow.now.flows c.args.node c.loop-place.place c.args.flow.now.steps c.loop-place.flow.steps c.nodes-end.ensures.is_net c.requires.packed c.requires.node c.requires.current.places l c.loop-place-test.true in
+    let g : IsMine net c.args.packed.halves.now c.args.node c.loop-place.place half =
+    mine_at net c.args.packed.first.now c.args.packed.halves.now c.args.rank.now c.args.current.now
+    c.args.flow.now.flows c.args.node c.loop-place.place c.args.flow.now.steps c.loop-place.flow.steps
+    c.nodes-end.ensures.is_net c.requires.packed c.requires.node c.requires.current.places l
+    c.loop-place-test.true in
     elim c.if-rank-head.branch [
       | then-rank-head+else-room-gt0 w ↦
-          let falls = rank_falls net c.args.rank.now c.args.node c.head.result half c.head.ensures.head g.tail c.requires.node.0 c.head.ensures.node.0 w.if-rank-head.true in
-          let same : residual net c.loop-place.flow.flows half ≡ residual net c.args.flow.now.flows half = ap (λ (ys : List ℕ). residual net ys half) old.flows in
-          let more = looking_fail net c.args.packed.first.now c.args.packed.halves.now c.args.rank.now c.args.current.now c.args.flow.now.flows c.args.node c.loop-place.place c.args.flow.now.steps c.loop-place.flow.steps c.nodes-end.ensures.is_net c.requires.packed c.requires.node c.requires.current.size c.requires.current.places c.loop-place-test.true falls (omega (arith, same, w.look-room.ensures.residual, w.if-room-gt0.false)) l in
+          let falls = rank_falls net c.args.rank.now c.args.node c.head.result half c.head.ensures.head g.tail
+          c.requires.node.0 c.head.ensures.node.0 w.if-rank-head.true in
+          let same : residual net c.loop-place.flow.flows half ≡ residual net c.args.flow.now.flows half =
+          ap (λ (ys : List ℕ). residual net ys half) old.flows in
+          let more = looking_fail net c.args.packed.first.now c.args.packed.halves.now c.args.rank.now
+          c.args.current.now c.args.flow.now.flows c.args.node c.loop-place.place c.args.flow.now.steps
+          c.loop-place.flow.steps c.nodes-end.ensures.is_net c.requires.packed c.requires.node c.requires.current.size
+          c.requires.current.places c.loop-place-test.true falls
+          (omega (arith, same, w.look-room.ensures.residual, w.if-room-gt0.false)) l in
           rw w.flow-is (record {
             fits = w.look-room.ensures.still_fits;
             flows = w.look-room.ensures.flows ∙ old.flows;
             current = old.current;
-            looking = subst (λ (k : ℕ). IsLooking net c.args.packed.first.now c.args.packed.halves.now c.args.rank.now c.args.current.now c.args.flow.now.flows c.args.node (c.loop-place.place + 1) c.args.flow.now.steps k) (sym w.look-room.ensures.steps) more;
+            looking =
+                subst (λ (k : ℕ). IsLooking net c.args.packed.first.now c.args.packed.halves.now c.args.rank.now
+                c.args.current.now c.args.flow.now.flows c.args.node (c.loop-place.place + 1) c.args.flow.now.steps k)
+                (sym w.look-room.ensures.steps) more;
             never_lowered = omega (arith, old.never_lowered, w.look-room.ensures.steps);
           })
       | else-rank-head w ↦
-          let rises = rank_rises net c.args.rank.now c.args.node c.head.result half c.head.ensures.head g.tail c.requires.node.0 c.head.ensures.node.0 w.if-rank-head.false in
+          let rises = rank_rises net c.args.rank.now c.args.node c.head.result half c.head.ensures.head g.tail
+          c.requires.node.0 c.head.ensures.node.0 w.if-rank-head.false in
           rw w.flow-is (record {
             fits = old.fits;
             flows = old.flows;
             current = old.current;
-            looking = looking_skip net c.args.packed.first.now c.args.packed.halves.now c.args.rank.now c.args.current.now c.args.flow.now.flows c.args.node c.loop-place.place c.args.flow.now.steps c.loop-place.flow.steps c.nodes-end.ensures.is_net c.requires.packed c.requires.node c.requires.current.size c.requires.current.places c.loop-place-test.true rises l;
+            looking =
+                looking_skip net c.args.packed.first.now c.args.packed.halves.now c.args.rank.now c.args.current.now
+                c.args.flow.now.flows c.args.node c.loop-place.place c.args.flow.now.steps c.loop-place.flow.steps
+                c.nodes-end.ensures.is_net c.requires.packed c.requires.node c.requires.current.size
+                c.requires.current.places c.loop-place-test.true rises l;
             never_lowered = old.never_lowered;
           })
     ]
 
 pub returns-clause-looked : goal.returns-clause-looked
 returns-clause-looked c = record {
-  size = omega (arith, c.requires.current.size, length-set c.loop-place.current (c.args.node - 1) (get_or c.args.packed.first.now c.args.node 0), ap (λ (z : List ℕ). length z) c.loop-place.invariant.current);
+  size =
+      omega (
+        arith,
+        c.requires.current.size,
+        length-set c.loop-place.current (c.args.node - 1) (get_or c.args.packed.first.now c.args.node 0),
+        ap (λ (z : List ℕ). length z) c.loop-place.invariant.current,
+      );
   places =
       let old = c.loop-place.invariant in let l = old.looking in
-      let end : c.loop-place.place ≡ get_or c.args.packed.first.now c.args.node 0 = omega (arith, l.most, c.loop-place-test.false) in
-      let m = set_moved c.args.current.now c.args.node (get_or c.args.packed.first.now c.args.node 0) c.requires.node.0 (omega (arith, c.requires.node, c.requires.current.size)) (omega (arith, l.least, end)) in
-      subst (λ (z : List ℕ). AreWithin c.args.packed.net.now c.args.packed.first.now (cell_of (set z (c.args.node - 1) (get_or c.args.packed.first.now c.args.node 0)))) (sym old.current)
-      (moved_within c.args.packed.net.now c.args.packed.first.now (cell_of c.args.current.now) (cell_of (set c.args.current.now (c.args.node - 1) (get_or c.args.packed.first.now c.args.node 0))) c.args.node (m.up, m.there)
-      (omega (arith, cell_set c.args.current.now c.args.node (get_or c.args.packed.first.now c.args.node 0) c.requires.node.0 (omega (arith, c.requires.node, c.requires.current.size)))) c.requires.current.places);
+      let end : c.loop-place.place ≡ get_or c.args.packed.first.now c.args.node 0 =
+      omega (arith, l.most, c.loop-place-test.false) in
+      let m = set_moved c.args.current.now c.args.node (get_or c.args.packed.first.now c.args.node 0) c.requires.node.0
+      (omega (arith, c.requires.node, c.requires.current.size)) (omega (arith, l.least, end)) in
+      subst (λ (z : List ℕ). AreWithin c.args.packed.net.now c.args.packed.first.now
+      (cell_of (set z (c.args.node - 1) (get_or c.args.packed.first.now c.args.node 0)))) (sym old.current)
+      (moved_within c.args.packed.net.now c.args.packed.first.now (cell_of c.args.current.now)
+      (cell_of (set c.args.current.now (c.args.node - 1) (get_or c.args.packed.first.now c.args.node 0)))
+      c.args.node (m.up, m.there)
+      (omega (
+        arith,
+        cell_set c.args.current.now c.args.node (get_or c.args.packed.first.now c.args.node 0)
+            c.requires.node.0 (omega (arith, c.requires.node, c.requires.current.size)),
+      ))
+      c.requires.current.places);
   moved =
       let old = c.loop-place.invariant in let l = old.looking in
-      subst (λ (z : List ℕ). HasMoved (cell_of c.args.current.now) (cell_of (set z (c.args.node - 1) (get_or c.args.packed.first.now c.args.node 0))) c.args.node) (sym old.current)
-      (set_moved c.args.current.now c.args.node (get_or c.args.packed.first.now c.args.node 0) c.requires.node.0 (omega (arith, c.requires.node, c.requires.current.size)) (omega (arith, l.least, l.most, c.loop-place-test.false)));
+      subst (λ (z : List ℕ). HasMoved (cell_of c.args.current.now)
+      (cell_of (set z (c.args.node - 1) (get_or c.args.packed.first.now c.args.node 0))) c.args.node)
+      (sym old.current) (set_moved c.args.current.now c.args.node (get_or c.args.packed.first.now c.args.node 0)
+      c.requires.node.0 (omega (arith, c.requires.node, c.requires.current.size))
+      (omega (arith, l.least, l.most, c.loop-place-test.false)));
   blocked = λ t b.
       let old = c.loop-place.invariant in let l = old.looking in
-      let end : c.loop-place.place ≡ get_or c.args.packed.first.now c.args.node 0 = omega (arith, l.most, c.loop-place-test.false) in
-      subst (λ (z : List ℕ). IsBlocked c.args.packed.net.now t (cell_of c.args.rank.now) (place_of c.args.packed.halves.now) (cell_of (set z (c.args.node - 1) (get_or c.args.packed.first.now c.args.node 0))) c.args.flow.now.flows) (sym old.current)
-      (subst (λ (p : ℕ). IsBlocked c.args.packed.net.now t (cell_of c.args.rank.now) (place_of c.args.packed.halves.now) (cell_of (set c.args.current.now (c.args.node - 1) p)) c.args.flow.now.flows) end (l.blocked t b));
+      let end : c.loop-place.place ≡ get_or c.args.packed.first.now c.args.node 0 =
+      omega (arith, l.most, c.loop-place-test.false) in
+      subst
+      (λ (z : List ℕ). IsBlocked c.args.packed.net.now t (cell_of c.args.rank.now) (place_of c.args.packed.halves.now)
+      (cell_of (set z (c.args.node - 1) (get_or c.args.packed.first.now c.args.node 0))) c.args.flow.now.flows)
+      (sym old.current) (subst (λ (p : ℕ). IsBlocked c.args.packed.net.now t (cell_of c.args.rank.now)
+      (place_of c.args.packed.halves.now) (cell_of (set c.args.current.now (c.args.node - 1) p))
+      c.args.flow.now.flows) end (l.blocked t b));
 }
 
 pub returns-clause-none : goal.returns-clause-none
 returns-clause-none c =
-    cell_set c.loop-place.current c.args.node (get_or c.args.packed.first.now c.args.node 0) c.requires.node.0 (omega (arith, c.requires.node, c.requires.current.size, ap (λ (z : List ℕ). length z) c.loop-place.invariant.current))
+    cell_set c.loop-place.current c.args.node (get_or c.args.packed.first.now c.args.node 0) c.requires.node.0
+    (omega (
+      arith,
+      c.requires.node,
+      c.requires.current.size,
+      ap (λ (z : List ℕ). length z) c.loop-place.invariant.current,
+    ))
 
 pub returns-clause-steps_none : goal.returns-clause-steps_none
 returns-clause-steps_none c =
     let old = c.loop-place.invariant in let l = old.looking in let net = c.args.packed.net.now in
-    let end : c.loop-place.place ≡ get_or c.args.packed.first.now c.args.node 0 = omega (arith, l.most, c.loop-place-test.false) in
-    let same : left net (cell_of c.args.rank.now) (place_of c.args.packed.halves.now) (cell_of (set c.loop-place.current (c.args.node - 1) (get_or c.args.packed.first.now c.args.node 0))) any ≡ left net (cell_of c.args.rank.now) (place_of c.args.packed.halves.now) (cell_of (set c.args.current.now (c.args.node - 1) (get_or c.args.packed.first.now c.args.node 0))) any =
-    ap (λ (z : List ℕ). left net (cell_of c.args.rank.now) (place_of c.args.packed.halves.now) (cell_of (set z (c.args.node - 1) (get_or c.args.packed.first.now c.args.node 0))) any) old.current in
-    let at : left net (cell_of c.args.rank.now) (place_of c.args.packed.halves.now) (cell_of (set c.args.current.now (c.args.node - 1) c.loop-place.place)) any ≡ left net (cell_of c.args.rank.now) (place_of c.args.packed.halves.now) (cell_of (set c.args.current.now (c.args.node - 1) (get_or c.args.packed.first.now c.args.node 0))) any =
-    ap (λ (p : ℕ). left net (cell_of c.args.rank.now) (place_of c.args.packed.halves.now) (cell_of (set c.args.current.now (c.args.node - 1) p)) any) end in
+    let end : c.loop-place.place ≡ get_or c.args.packed.first.now c.args.node 0 =
+    omega (arith, l.most, c.loop-place-test.false) in
+    let same : left net (cell_of c.args.rank.now) (place_of c.args.packed.halves.now)
+    (cell_of (set c.loop-place.current (c.args.node - 1) (get_or c.args.packed.first.now c.args.node 0))) any
+    ≡ left net (cell_of c.args.rank.now) (place_of c.args.packed.halves.now)
+    (cell_of (set c.args.current.now (c.args.node - 1) (get_or c.args.packed.first.now c.args.node 0))) any =
+    ap (λ (z : List ℕ). left net (cell_of c.args.rank.now) (place_of c.args.packed.halves.now)
+    (cell_of (set z (c.args.node - 1) (get_or c.args.packed.first.now c.args.node 0))) any) old.current in
+    let at : left net (cell_of c.args.rank.now) (place_of c.args.packed.halves.now)
+    (cell_of (set c.args.current.now (c.args.node - 1) c.loop-place.place)) any
+    ≡ left net (cell_of c.args.rank.now) (place_of c.args.packed.halves.now)
+    (cell_of (set c.args.current.now (c.args.node - 1) (get_or c.args.packed.first.now c.args.node 0))) any =
+    ap (λ (p : ℕ). left net (cell_of c.args.rank.now) (place_of c.args.packed.halves.now)
+    (cell_of (set c.args.current.now (c.args.node - 1) p)) any) end in
     omega (arith, l.paid, same, at)

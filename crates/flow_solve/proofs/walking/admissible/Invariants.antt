@@ -8,7 +8,8 @@ invariant-loop-place l = record {
   fits : Fits l.packed.net.now l.flow.flows;
   flows : l.flow.flows ≡ l.fn.flow.flows;
   current : l.current ≡ l.fn.current;
-  looking : IsLooking l.packed.net.now l.packed.first.now l.packed.halves.now l.rank l.fn.current l.fn.flow.flows l.node l.place l.fn.flow.steps l.flow.steps;
+  looking : IsLooking l.packed.net.now l.packed.first.now l.packed.halves.now l.rank l.fn.current l.fn.flow.flows l.node
+      l.place l.fn.flow.steps l.flow.steps;
   never_lowered : l.fn.flow.steps ≤ l.flow.steps;
 }
 

@@ -3,4 +3,6 @@ use Rattle.flow_solve.proofs.BothWays.{counts_even}
 use Rattle.flow_solve.proofs.growth.mirrors.is_both_ways.Goals as goal
 
 pub returns : goal.returns
-returns c = λ yes. counts_even c.args.net.now (c.len-half.result / 2) (omega arith) (λ j h. c.loop-i.invariant.turned j (omega (arith, c.loop-i-test.false)))
+returns c = λ yes.
+    counts_even c.args.net.now (c.len-half.result / 2) (omega arith)
+    (λ j h. c.loop-i.invariant.turned j (omega (arith, c.loop-i-test.false)))

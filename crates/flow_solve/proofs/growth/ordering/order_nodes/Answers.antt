@@ -1,9 +1,22 @@
-use Rattle.std.proofs.Common.{subst, arith}
-use Rattle.flow_solve.specs.Growth.{IsClean}
-use Rattle.flow_solve.proofs.SeenCells.{part_order}
+use Rattle.std.proofs.Common.{refl, subst}
+use Rattle.flow_solve.specs.Growth.{IsInOrder}
+use Rattle.flow_solve.proofs.SeenCells.{whole_order, whole_places, whole_clean}
 use Rattle.flow_solve.proofs.growth.ordering.order_nodes.Goals as goal
 
-pub returns-then-tail-n-clause-order : goal.returns-then-tail-n-clause-order
-returns-then-tail-n-clause-order c = λ all.
-    let j = c.loop-node.invariant in
-    part_order c.args.packed.net.now c.loop-node.order c.loop-node.cells c.loop-node.tail (omega arith) j.order_size (subst (λ n. IsClean n c.loop-node.cells) j.size (c.all_placed.ensures all)) j.part
+pub returns-clause-order : goal.returns-clause-order
+returns-clause-order c =
+    let j = c.loop-place.invariant in
+    whole_order c.args.packed.net.now c.loop-place.order c.loop-place.cells j.order_size
+    (subst (λ n. IsInOrder n c.loop-place.order c.loop-place.cells) j.size (c.if-not-is_whole.ensures refl))
+
+pub returns-clause-places : goal.returns-clause-places
+returns-clause-places c =
+    whole_places c.args.packed.net.now.nodes c.loop-place.order c.loop-place.cells
+    (subst (λ n. IsInOrder n c.loop-place.order c.loop-place.cells) c.loop-place.invariant.size
+    (c.if-not-is_whole.ensures refl))
+
+pub returns-clause-clean : goal.returns-clause-clean
+returns-clause-clean c =
+    whole_clean c.args.packed.net.now.nodes c.loop-place.order c.loop-place.cells
+    (subst (λ n. IsInOrder n c.loop-place.order c.loop-place.cells) c.loop-place.invariant.size
+    (c.if-not-is_whole.ensures refl))

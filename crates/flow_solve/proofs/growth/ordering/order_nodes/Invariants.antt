@@ -1,19 +1,10 @@
-use Rattle.std.proofs.Common.{◌≡◌, ◌⊎◌, ℕ, ◌+◌, ◌-◌, ◌*◌, ◌<◌, ◌≤◌, Bool, List, IsTrue, length}
-use Rattle.std.specs.Prelude.{slice_index}
-use Rattle.flow_net.specs.Flows.{Fits, IsFeasible}
-use Rattle.flow_net.specs.Nets.{IsNode}
-use Rattle.flow_net.specs.NodeSets.{just}
-use Rattle.flow_net.specs.Orders.{before}
-use Rattle.flow_net.specs.Connectivity.{leaving, IsProper}
-use Rattle.flow_net.specs.Residual.{head_of, residual}
-use Rattle.flow_solve.specs.Searches.{crossed}
-use Rattle.flow_solve.specs.Growth.{IsRaised, IsBalanced, IsBelow, ArePlaces, IsClean, IsQueued, IsPassed, IsPartOrder}
+use Rattle.std.proofs.Common.{◌≡◌, length}
 use Rattle.flow_solve.proofs.growth.ordering.order_nodes.Given as goal
 
-abbrev pub invariant-loop-node : goal.invariant-loop-node
-invariant-loop-node l = record {
-  end : l.node-end ≡ l.packed.net.now.nodes + 1;
+abbrev pub invariant-loop-place : goal.invariant-loop-place
+invariant-loop-place l = record {
+  all : l.n ≡ l.packed.net.now.nodes;
   order_size : length l.order ≡ l.packed.net.now.nodes;
   size : length l.cells ≡ l.packed.net.now.nodes;
-  part : IsPartOrder l.packed.net.now.nodes l.order l.cells l.tail;
+  joins_size : length l.joins ≡ l.packed.net.now.nodes;
 }

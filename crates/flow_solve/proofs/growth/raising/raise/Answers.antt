@@ -1,4 +1,4 @@
-use Rattle.std.proofs.Common.{◌≡◌, ℕ, List, sym, subst, arith}
+use Rattle.std.proofs.Common.{ℕ, List, sym, subst}
 use Rattle.flow_solve.specs.Searches.{IsClosedFor}
 use Rattle.flow_solve.specs.Growth.{IsQueued, seen_in}
 use Rattle.flow_solve.proofs.Growing.{raised_parted}
@@ -9,10 +9,18 @@ returns-then-frontier-eq0-clause-parted c = λ less.
     let net = c.args.turn.packed.net.now in
     let dir = c.args.turn.direction in
     let X = seen_in net.nodes c.search-frontier.new.cells in
-    let closed : IsClosedFor dir net c.loop-raised.flow.flows X = subst (λ (z : List ℕ). IsClosedFor dir net z X) c.search-frontier.ensures.flows c.in_ok-left.ensures.closed in
-    (X, c.in_ok-left.ensures.cut, raised_parted dir net c.args.turn.order.now c.args.turn.place c.loop-raised.flow.flows c.loop-raised.raised.value X c.nodes.ensures.is_net c.requires.unit c.loop-raised.invariant.raised c.in_ok-left.ensures.cut closed)
+    let closed : IsClosedFor dir net c.loop-raised.flow.flows X =
+    subst (λ (z : List ℕ). IsClosedFor dir net z X) c.search-frontier.ensures.flows c.in_ok-left.ensures.closed in (
+      X,
+      c.in_ok-left.ensures.cut,
+      raised_parted dir net c.args.turn.order.now c.args.turn.place c.loop-raised.flow.flows
+          c.loop-raised.raised.value X
+          c.nodes.ensures.is_net c.requires.unit c.loop-raised.invariant.raised c.in_ok-left.ensures.cut closed,
+    )
 
 pub forget-requires-in-loop-raised-clause-queued : goal.forget-requires-in-loop-raised-clause-queued
 forget-requires-in-loop-raised-clause-queued c =
-    subst (λ n. IsQueued n c.args.turn.order.now c.walk_all.new.cells c.search-frontier.new.queue c.search-frontier.result.tail) (sym c.requires.turn.size)
-    (c.walk_all.ensures.queued c.search-frontier.new.queue c.search-frontier.result.tail c.search-frontier.ensures.queued)
+    subst (λ n. IsQueued n c.args.turn.order.now c.walk_all.new.cells c.search-frontier.new.queue
+    c.search-frontier.result.tail) (sym c.requires.turn.size)
+    (c.walk_all.ensures.queued c.search-frontier.new.queue c.search-frontier.result.tail
+    c.search-frontier.ensures.queued)

@@ -1,13 +1,6 @@
-use Rattle.std.proofs.Common.{◌≡◌, ◌⊎◌, ℕ, ◌+◌, ◌-◌, ◌*◌, ◌<◌, ◌≤◌, Bool, List, IsTrue, length}
-use Rattle.std.specs.Prelude.{slice_index}
-use Rattle.flow_net.specs.Flows.{Fits, IsFeasible}
-use Rattle.flow_net.specs.Nets.{IsNode}
-use Rattle.flow_net.specs.NodeSets.{just}
-use Rattle.flow_net.specs.Orders.{before}
-use Rattle.flow_net.specs.Connectivity.{leaving, IsProper}
-use Rattle.flow_net.specs.Residual.{head_of, residual}
-use Rattle.flow_solve.specs.Searches.{crossed}
-use Rattle.flow_solve.specs.Growth.{IsRaised, IsBalanced, IsBelow, ArePlaces, IsClean, IsQueued, IsPassed, IsPartOrder}
+use Rattle.std.proofs.Common.{◌≡◌, ◌+◌, ◌≤◌, length}
+use Rattle.flow_net.specs.Flows.{Fits}
+use Rattle.flow_solve.specs.Growth.{IsRaised, ArePlaces, IsClean}
 use Rattle.flow_solve.proofs.growth.raising.raise.Given as goal
 
 abbrev pub invariant-loop-raised : goal.invariant-loop-raised

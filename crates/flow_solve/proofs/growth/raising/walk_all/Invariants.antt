@@ -1,13 +1,7 @@
-use Rattle.std.proofs.Common.{◌≡◌, ◌⊎◌, ℕ, ◌+◌, ◌-◌, ◌*◌, ◌<◌, ◌≤◌, Bool, List, IsTrue, length}
-use Rattle.std.specs.Prelude.{slice_index}
-use Rattle.flow_net.specs.Flows.{Fits, IsFeasible}
+use Rattle.std.proofs.Common.{◌≡◌, ℕ, ◌+◌, ◌≤◌, List, length}
+use Rattle.flow_net.specs.Flows.{Fits}
 use Rattle.flow_net.specs.Nets.{IsNode}
-use Rattle.flow_net.specs.NodeSets.{just}
-use Rattle.flow_net.specs.Orders.{before}
-use Rattle.flow_net.specs.Connectivity.{leaving, IsProper}
-use Rattle.flow_net.specs.Residual.{head_of, residual}
-use Rattle.flow_solve.specs.Searches.{crossed}
-use Rattle.flow_solve.specs.Growth.{IsRaised, IsBalanced, IsBelow, ArePlaces, IsClean, IsQueued, IsPassed, IsPartOrder}
+use Rattle.flow_solve.specs.Growth.{IsRaised, ArePlaces, IsQueued}
 use Rattle.flow_solve.proofs.growth.raising.walk_all.Given as goal
 
 abbrev pub invariant-loop-walk : goal.invariant-loop-walk
@@ -18,7 +12,8 @@ invariant-loop-walk l = record {
   path_size : length l.path ≡ l.turn.packed.net.now.nodes;
   node : IsNode l.turn.packed.net.now l.walk.node;
   places : ArePlaces l.turn.packed.net.now.nodes l.turn.order.now l.cells;
-  queued : (queue : List ℕ) (tail : ℕ) → IsQueued l.turn.packed.net.now.nodes l.turn.order.now l.fn.cells queue tail → IsQueued l.turn.packed.net.now.nodes l.turn.order.now l.cells queue tail;
+  queued : (queue : List ℕ) (tail : ℕ) → IsQueued l.turn.packed.net.now.nodes l.turn.order.now l.fn.cells queue tail
+      → IsQueued l.turn.packed.net.now.nodes l.turn.order.now l.cells queue tail;
   raised : IsRaised l.turn.direction l.turn.packed.net.now l.turn.order.now l.turn.place l.flow.flows l.walk.value;
   below : l.walk.value ≤ l.wanted;
   fewer : l.walk.left ≤ l.fn.raised.left;

@@ -13,7 +13,10 @@ pub loop-half-init : goal.loop-half-init
 loop-half-init c = record {
   fits = c.requires.fits;
   node = c.requires.turn.ordered.within c.args.turn.place (omega (arith, c.requires.turn.place, c.requires.turn.size));
-  way = λ f. way_begins c.args.turn.direction c.args.turn.packed.net.now (just (slice_index c.args.turn.order.now c.args.turn.place)) (before c.args.turn.order.now c.args.turn.place) c.args.flow.now.flows (slice_index c.args.turn.order.now c.args.turn.place) f;
+  way = λ f.
+      way_begins c.args.turn.direction c.args.turn.packed.net.now
+      (just (slice_index c.args.turn.order.now c.args.turn.place)) (before c.args.turn.order.now c.args.turn.place)
+      c.args.flow.now.flows (slice_index c.args.turn.order.now c.args.turn.place) f;
   never_lowered = omega arith;
   steps = omega arith;
 }
@@ -26,15 +29,18 @@ loop-half-preserved c =
     let t = before c.args.turn.order.now c.args.turn.place in
     let xs = c.args.flow.now.flows in let ys = c.loop-half.flow.flows in
     let half = get_or c.args.path.now c.loop-half.half-index 0 in
-    let same : c.push.new.self.flows ≡ pushed ys half 1 = c.push.ensures.flows ∙ ap (λ (z : List ℕ). pushed z half 1) c.look-room.ensures.flows in
+    let same : c.push.new.self.flows ≡ pushed ys half 1 =
+    c.push.ensures.flows ∙ ap (λ (z : List ℕ). pushed z half 1) c.look-room.ensures.flows in
     let room : 1 ≤ residual net ys half = omega (arith, c.look-room.ensures.residual, c.if-room-eq0.false) in
-    let from : near_end dir net half ≡ c.loop-half.node = sym c.near.ensures.near ∙ omega (arith, c.if-near-node.false) in
+    let from : near_end dir net half ≡ c.loop-half.node =
+    sym c.near.ensures.near ∙ omega (arith, c.if-near-node.false) in
     record {
       fits = c.push.ensures.still_fits;
       node = c.far-node.ensures.node;
       way = λ f. subst (λ z. IsUnderWay dir net (just w) t xs w z c.push.new.self.flows) (sym c.far-node.ensures.far)
           (subst (λ z. IsUnderWay dir net (just w) t xs w (far_end dir net half) z) (sym same)
-          (way_on dir net (just w) t xs w c.loop-half.node half ys (omega (arith, c.if-half-len.false, c.len.ensures.len)) room from (j.way f)));
+          (way_on dir net (just w) t xs w c.loop-half.node half ys
+          (omega (arith, c.if-half-len.false, c.len.ensures.len)) room from (j.way f)));
       never_lowered = omega (arith, j.never_lowered, c.look-room.ensures.steps, c.push.ensures.steps);
       steps = omega (arith, j.steps, c.look-room.ensures.steps, c.push.ensures.steps);
     }
@@ -43,5 +49,9 @@ pub returns-clause-raised : goal.returns-clause-raised
 returns-clause-raised c = λ yes value r.
     let j = c.loop-half.invariant in
     let turn = c.requires.turn in
-    let end = terminal_at c.args.turn.packed.net.now c.args.turn.order.now c.args.cells.now c.args.turn.place c.loop-half.node turn.size turn.place j.node c.requires.places (ltb-true (slice_index c.args.cells.now (c.loop-half.node - 1)) c.args.turn.place yes) in
-    way_ends c.args.turn.direction c.args.turn.packed.net.now c.args.turn.order.now c.args.turn.place c.loop-half.node c.args.flow.now.flows c.loop-half.flow.flows value turn.ordered (omega (arith, turn.place, turn.size)) end r (j.way r.feasible)
+    let end = terminal_at c.args.turn.packed.net.now c.args.turn.order.now c.args.cells.now c.args.turn.place
+    c.loop-half.node turn.size turn.place j.node c.requires.places
+    (ltb-true (slice_index c.args.cells.now (c.loop-half.node - 1)) c.args.turn.place yes) in
+    way_ends c.args.turn.direction c.args.turn.packed.net.now c.args.turn.order.now c.args.turn.place c.loop-half.node
+    c.args.flow.now.flows c.loop-half.flow.flows value turn.ordered (omega (arith, turn.place, turn.size)) end r
+    (j.way r.feasible)

@@ -1,13 +1,9 @@
-use Rattle.std.proofs.Common.{◌≡◌, ◌⊎◌, ℕ, ◌+◌, ◌-◌, ◌*◌, ◌<◌, ◌≤◌, Bool, List, IsTrue, length}
+use Rattle.std.proofs.Common.{◌+◌, ◌*◌, ◌≤◌}
 use Rattle.std.specs.Prelude.{slice_index}
 use Rattle.flow_net.specs.Flows.{Fits, IsFeasible}
 use Rattle.flow_net.specs.Nets.{IsNode}
 use Rattle.flow_net.specs.NodeSets.{just}
 use Rattle.flow_net.specs.Orders.{before}
-use Rattle.flow_net.specs.Connectivity.{leaving, IsProper}
-use Rattle.flow_net.specs.Residual.{head_of, residual}
-use Rattle.flow_solve.specs.Searches.{crossed}
-use Rattle.flow_solve.specs.Growth.{IsRaised, IsBalanced, IsBelow, ArePlaces, IsClean, IsQueued, IsPassed, IsPartOrder}
 use Rattle.flow_solve.proofs.Growing.{IsUnderWay}
 use Rattle.flow_solve.proofs.growth.turns.augment.Given as goal
 
@@ -15,7 +11,11 @@ abbrev pub invariant-loop-half : goal.invariant-loop-half
 invariant-loop-half l = record {
   fits : Fits l.turn.packed.net.now l.flow.flows;
   node : IsNode l.turn.packed.net.now l.node;
-  way : IsFeasible l.turn.packed.net.now (just (slice_index l.turn.order.now l.turn.place)) (before l.turn.order.now l.turn.place) l.fn.flow.flows → IsUnderWay l.turn.direction l.turn.packed.net.now (just (slice_index l.turn.order.now l.turn.place)) (before l.turn.order.now l.turn.place) l.fn.flow.flows (slice_index l.turn.order.now l.turn.place) l.node l.flow.flows;
+  way : IsFeasible l.turn.packed.net.now (just (slice_index l.turn.order.now l.turn.place))
+      (before l.turn.order.now l.turn.place) l.fn.flow.flows
+      → IsUnderWay l.turn.direction l.turn.packed.net.now (just (slice_index l.turn.order.now l.turn.place))
+      (before l.turn.order.now l.turn.place) l.fn.flow.flows (slice_index l.turn.order.now l.turn.place) l.node
+      l.flow.flows;
   never_lowered : l.fn.flow.steps ≤ l.flow.steps;
   steps : l.flow.steps ≤ l.fn.flow.steps + 2 * l.half-index;
 }

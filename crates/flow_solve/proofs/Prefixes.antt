@@ -1,0 +1,56 @@
+-- The sets of the nodes before a place in an order: a first bound on the connectivity.
+use Rattle.std.proofs.Common.{◌≡◌, ℕ, ◌-◌, ◌≤◌, ◌<◌, Bool, true, false, not, List, length, get_or}
+use Rattle.std.proofs.Common.{◌∙◌, sym, ap, ltb, arith}
+use Rattle.std.specs.Prelude.{slice_index}
+use Rattle.std.proofs.lemmas.Bool.Decides.{nat_tests}
+use Rattle.flow_net.specs.Nets.{Net}
+use Rattle.flow_net.specs.Orders.{IsOrder}
+use Rattle.flow_net.specs.Cuts.{leaves, enters}
+use Rattle.flow_net.specs.Connectivity.{leaving, IsProper}
+use Rattle.flow_solve.specs.declared.searching.Direction.TheVariants.{Forwards, Backwards}
+use Rattle.flow_solve.specs.Growth.{ArePlaces, IsClean, earlier_in, parted}
+use Rattle.flow_solve.proofs.Growing.{count_by_agree, leaves_others}
+use Rattle.flow_solve.proofs.SeenCells.{cell_at}
+
+less : (x y : ℕ) → x < y → ltb x y ≡ true
+less x y l = grind (arith, nat_tests)
+
+not_less : (x y : ℕ) → y ≤ x → ltb x y ≡ false
+not_less x y l = grind (arith, nat_tests)
+
+-- the nodes before a place other than the first are neither none nor all
+pub prefix_proper : (net : Net) (order cells : List ℕ) (k : ℕ) → IsOrder net order → length order ≡ net.nodes
+    → ArePlaces net.nodes order cells → IsClean net.nodes cells → 1 ≤ k → k < net.nodes
+    → IsProper net (earlier_in cells k)
+prefix_proper net order cells k o s a c one l =
+    let first : get_or cells (slice_index order 0 - 1) 0 ≡ 0 = cell_at net order cells 0 o s (omega arith) c a in
+    let here : get_or cells (slice_index order k - 1) 0 ≡ k = cell_at net order cells k o s (omega arith) c a in
+    let v = o.within 0 (omega arith) in
+    let w = o.within k (omega arith) in
+    record {
+      inside = (slice_index order 0, v.0, v.1, less (get_or cells (slice_index order 0 - 1) 0) k (omega arith));
+      outside = (slice_index order k, w.0, w.1, not_less (get_or cells (slice_index order k - 1) 0) k (omega arith));
+    }
+
+others_proper : (net : Net) (X : ℕ → Bool) → IsProper net X → IsProper net (λ v. not (X v))
+others_proper net X p = record {
+  inside = (p.outside.0, p.outside.1, p.outside.2, ap not p.outside.3);
+  outside = (p.inside.0, p.inside.1, p.inside.2, ap not p.inside.3);
+}
+
+-- as many arcs as leave them leave a proper set, and as many as enter them leave the others
+pub prefix_out : (net : Net) (order cells : List ℕ) (k j : ℕ) → IsOrder net order → length order ≡ net.nodes
+    → ArePlaces net.nodes order cells → IsClean net.nodes cells → 1 ≤ k → k < net.nodes
+    → j ≡ parted Forwards net (earlier_in cells k) → (X : ℕ → Bool) × IsProper net X × (leaving net X ≡ j)
+prefix_out net order cells k j o s a c one l e =
+    (earlier_in cells k, prefix_proper net order cells k o s a c one l, sym e)
+
+pub prefix_back : (net : Net) (order cells : List ℕ) (k j : ℕ) → IsOrder net order → length order ≡ net.nodes
+    → ArePlaces net.nodes order cells → IsClean net.nodes cells → 1 ≤ k → k < net.nodes
+    → j ≡ parted Backwards net (earlier_in cells k) → (X : ℕ → Bool) × IsProper net X × (leaving net X ≡ j)
+prefix_back net order cells k j o s a c one l e = (
+  (λ v. not (earlier_in cells k v)),
+  others_proper net (earlier_in cells k) (prefix_proper net order cells k o s a c one l),
+  count_by_agree (leaves (λ v. not (earlier_in cells k v))) (enters (earlier_in cells k)) net.arcs
+      (leaves_others (earlier_in cells k)) ∙ sym e,
+)

@@ -1,0 +1,77 @@
+//! A first bound on the connectivity: how many arcs lead from the nodes before a place in the order to the others, or back.
+ghost use Rattle.std.specs.Prelude.{◌≡◌, ℕ, Bool, ◌≤◌, ◌<◌, length};
+ghost use Rattle.flow_net.specs.Nets.{arc_at};
+ghost use Rattle.flow_net.specs.Cuts.{leaves, enters};
+ghost use Rattle.flow_net.specs.Orders.{IsOrder};
+ghost use Rattle.flow_net.specs.Connectivity.{leaving, IsProper};
+ghost use Rattle.flow_solve.specs.Growth.{ArePlaces, IsClean, earlier_in, parted};
+
+use crate::growth::ordering::Sweep;
+use crate::searching::Direction;
+use flow_net::Network;
+
+/// Whether an arc leaves the nodes before a place, and whether it enters them.
+fn crosses(net: &Network, cells: &[u32], place: u32, arc: u32) -> (bool, bool)
+    requires size { length cells.now ≡ net.now.nodes }
+    requires arc { arc < length net.now.arcs }
+    ensures out { result.0 ≡ leaves (earlier_in cells.now place) (arc_at net.now arc) }
+    ensures back { result.1 ≡ enters (earlier_in cells.now place) (arc_at net.now arc) }
+{
+    let _ = net.nodes();
+    let arc = net.arc(arc);
+    let from = cells[arc.src as usize - 1] < place;
+    let to = cells[arc.dst as usize - 1] < place;
+    (from && !to, to && !from)
+}
+
+/// How many arcs leave the nodes before a place, and how many enter them.
+fn count_crossings(net: &Network, cells: &[u32], place: u32) -> (u64, u64)
+    requires { length cells.now ≡ net.now.nodes }
+    ensures out { result.0 ≡ parted Direction.Forwards net.now (earlier_in cells.now place) }
+    ensures back { result.1 ≡ parted Direction.Backwards net.now (earlier_in cells.now place) }
+{
+    let mut out = 0u64;
+    let mut back = 0u64;
+    for i in 0..net.len() {
+        let (leaves, enters) = crosses(net, cells, place, i);
+        if leaves {
+            out += 1;
+        }
+        if enters {
+            back += 1;
+        }
+    }
+    (out, back)
+}
+
+/// The least of a number of arcs that leave some set and of those that leave or enter the nodes before a place, where the
+/// sweep over the order has found few of these.
+pub(crate) fn bound_by_prefix(
+    net: &Network,
+    order: &[u32],
+    cells: &[u32],
+    sweep: Sweep,
+    least: u64,
+) -> u64
+    requires order { IsOrder net.now order.now }
+    requires order_size { length order.now ≡ net.now.nodes }
+    requires size { length cells.now ≡ net.now.nodes }
+    requires places { ArePlaces net.now.nodes order.now cells.now }
+    requires clean { IsClean net.now.nodes cells.now }
+    requires reached { (X : ℕ → Bool) × IsProper net.now X × (leaving net.now X ≡ least) }
+    ensures { (X : ℕ → Bool) × IsProper net.now X × (leaving net.now X ≡ result) }
+{
+    let n = net.nodes();
+    let place = sweep.place;
+    if place == 0 || place >= n || u64::from(sweep.least / 2) >= least {
+        return least;
+    }
+    let (out, back) = count_crossings(net, cells, place);
+    if out <= back && out < least {
+        return out;
+    }
+    if back < least {
+        return back;
+    }
+    least
+}

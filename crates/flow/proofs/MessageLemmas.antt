@@ -1,15 +1,17 @@
 -- How far a message was taken where a put of one of its parts failed.
-use Rattle.std.proofs.Common.{Result, Ok, Err, OnOk, OnErr, ◌≡◌, Bool, ℕ, List, [], ◌∷◌, ◌++◌, refl, sym, ap, ◌∙◌, append_assoc, Option}
+use Rattle.std.proofs.Common.{Result, Ok, Err, OnOk, OnErr, ◌≡◌, Bool, ℕ, List, [], ◌∷◌, ◌++◌, refl, sym, ap, ◌∙◌}
+use Rattle.std.proofs.Common.{append_assoc, Option}
 use Rattle.std.specs.Prelude.{codes}
 use Rattle.std.specs.Io.KnownBytes.{Appends}
 use Rattle.std.proofs.KnownBytes.{Appends-trans}
-use Rattle.flow_tools.specs.Streams.{IsPut, Stops}
+use Rattle.flow_tools.specs.Sending.{IsPut, Stops}
 use Rattle.flow_tools.proofs.SendLemmas.{flags_on, stops_early}
 use Rattle.flow_tools.proofs.StreamParts.{stream}
 use Rattle.flow.specs.Messages.{cannot_open}
 
 -- a stream fails behind what it took
-stops_behind : (a b c : Option (List ℕ)) (front text : List ℕ) → Appends a b front → Stops b c text → Stops a c (front ++ text)
+stops_behind : (a b c : Option (List ℕ)) (front text : List ℕ) → Appends a b front → Stops b c text
+    → Stops a c (front ++ text)
 stops_behind a b c front text p s = record {
   sent = front ++ s.sent;
   taken = Appends-trans a b c front s.sent p s.taken;
@@ -17,29 +19,36 @@ stops_behind a b c front text p s = record {
 }
 
 -- in the words before the name
-pub stops_before_name : (a b : Option (List ℕ)) (name : List ℕ) → Stops a b (codes "flow: cannot open ") → Stops a b (cannot_open name)
+pub stops_before_name : (a b : Option (List ℕ)) (name : List ℕ) → Stops a b (codes "flow: cannot open ")
+    → Stops a b (cannot_open name)
 stops_before_name a b name s = stops_early a b (codes "flow: cannot open ") (name ++ 10 ∷ []) (cannot_open name) s refl
 
 -- in the name
-pub stops_in_name : (a b c : Option (List ℕ)) (name : List ℕ) → Appends a b (codes "flow: cannot open ") → Stops b c name → Stops a c (cannot_open name)
+pub stops_in_name : (a b c : Option (List ℕ)) (name : List ℕ) → Appends a b (codes "flow: cannot open ")
+    → Stops b c name → Stops a c (cannot_open name)
 stops_in_name a b c name p s =
-    stops_behind a b c (codes "flow: cannot open ") (name ++ 10 ∷ []) p (stops_early b c name (10 ∷ []) (name ++ 10 ∷ []) s refl)
+    stops_behind a b c (codes "flow: cannot open ") (name ++ 10 ∷ []) p
+    (stops_early b c name (10 ∷ []) (name ++ 10 ∷ []) s refl)
 
 -- at the line's end
-stops_behind_name : {E : Type 0} (a b c d : Option (List ℕ)) (name : List ℕ) (r : Result (Unit {0}) E) → Appends a b (codes "flow: cannot open ") → Appends b c name
+stops_behind_name : {E : Type 0} (a b c d : Option (List ℕ)) (name : List ℕ) (r : Result (Unit {0}) E)
+    → Appends a b (codes "flow: cannot open ") → Appends b c name
     → OnErr r (Stops c d (10 ∷ [])) → OnErr r (Stops a d (cannot_open name))
 stops_behind_name a b c d name (Ok x) p q s = tt
 stops_behind_name a b c d name (Err e) p q s =
     stops_behind a b d (codes "flow: cannot open ") (name ++ 10 ∷ []) p (stops_behind b c d name (10 ∷ []) q s)
 
 -- the whole line is put
-whole_put : {E : Type 0} (a b c d : Option (List ℕ)) (name : List ℕ) (r : Result (Unit {0}) E) → Appends a b (codes "flow: cannot open ") → Appends b c name
+whole_put : {E : Type 0} (a b c d : Option (List ℕ)) (name : List ℕ) (r : Result (Unit {0}) E)
+    → Appends a b (codes "flow: cannot open ") → Appends b c name
     → OnOk r (Appends c d (10 ∷ [])) → OnOk r (Appends a d (cannot_open name))
 whole_put a b c d name (Ok x) p q s =
     Appends-trans a b d (codes "flow: cannot open ") (name ++ 10 ∷ []) p (Appends-trans b c d name (10 ∷ []) q s)
 whole_put a b c d name (Err e) p q s = tt
 
-pub put_whole : {E : Type 0} (a b c d : Option (List ℕ)) (f g h : Bool) (name : List ℕ) (r : Result (Unit {0}) E) → Appends a b (codes "flow: cannot open ") → Appends b c name → g ≡ f
+-- all of it
+pub put_whole : {E : Type 0} (a b c d : Option (List ℕ)) (f g h : Bool) (name : List ℕ) (r : Result (Unit {0}) E)
+    → Appends a b (codes "flow: cannot open ") → Appends b c name → g ≡ f
     → IsPut (10 ∷ []) (stream c d g h) r → IsPut (cannot_open name) (stream a d f h) r
 put_whole a b c d f g h name r p q kept put = record {
   ok = whole_put a b c d name r p q put.ok;

@@ -1,7 +1,8 @@
 //! The program over any files and streams.
 
 ghost use Rattle.std.specs.Prelude.{◌≡◌};
-ghost use Rattle.flow_tools.specs.Streams.{IsPut, over};
+ghost use Rattle.flow_tools.specs.Streams.{over};
+ghost use Rattle.flow_tools.specs.Sending.{IsPut};
 ghost use Rattle.flow_tools.specs.Exits.{IsTold};
 ghost use Rattle.flow.specs.Messages.{cannot_open, given_name};
 

@@ -1,24 +1,29 @@
 -- The exits of a run, from how its inputs were read and its answer was put.
-use Rattle.std.proofs.Common.{true≢false, ◌≡◌, ◌↔◌, ℕ, Bool, true, false, List, [], refl, sym, not, IsTrue, IsFalse, arith, Option, Result, Ok, Err, inl, inr}
+use Rattle.std.proofs.Common.{true≢false, ◌≡◌, ◌↔◌, ℕ, Bool, true, false, List, [], refl, sym, not, IsTrue, IsFalse}
+use Rattle.std.proofs.Common.{arith, Option, Result, Ok, Err, inl, inr}
 use Rattle.std.specs.Io.KnownBytes.{Appends}
 use Rattle.std.proofs.KnownBytes.{Consumes-nil, Appends-nil}
-use Rattle.flow_net.specs.Nets.{Instance, IsNode}
-use Rattle.flow_net.specs.NodeSets.{one_of, marked}
+use Rattle.flow_net.specs.Nets.{Instance}
+use Rattle.flow_net.specs.NodeSets.{one_of}
+use Rattle.flow_net.specs.MarkedNodes.{marked}
 use Rattle.flow_net.specs.Flows.{HasValue}
-use Rattle.flow_net.specs.Cuts.{IsMinimumCut, capacity, IsInLeastSourceSide, IsInLeastSinkSide}
+use Rattle.flow_solve.specs.Sides.{IsLeastSourceSide, IsLeastSinkSide}
 use Rattle.flow_text.specs.Problem.{early, problem}
 use Rattle.flow_text.specs.Solution.{early_solution, solution}
-use Rattle.flow_tools.specs.Streams.{Stream, Stops}
+use Rattle.flow_tools.specs.Streams.{Stream}
+use Rattle.flow_tools.specs.Sending.{Stops}
 use Rattle.flow_tools.proofs.StreamParts.{stream}
 use Rattle.flow_tools.specs.Reading.{IsRead}
-use Rattle.flow_tools.specs.Answers.{IsAnswer, IsFlowOf, IsCutOf}
-use Rattle.flow_tools.specs.Exits.{Puts, PutsAt, Runs, EndsAt, IsDoneWith, Checks, ChecksAt}
+use Rattle.flow_tools.specs.Answers.{IsAnswer, IsCutOf}
+use Rattle.flow_tools.specs.Exits.{Runs, EndsAt, IsCheck}
+use Rattle.flow_tools.specs.AnswerExits.{Puts, PutsAt, Checks, ChecksAt}
 use Rattle.flow_tools.specs.declared.jobs.Job.{Job}
 use Rattle.flow_tools.specs.declared.jobs.Job.TheVariants.{Check}
 use Rattle.flow_tools.specs.declared.jobs.Stop.{Stop}
 use Rattle.flow_tools.specs.declared.jobs.Stop.TheVariants.{Fault, ReadFailed, WriteFailed, OutOfMemory}
 
-module _ (job : Job) (p : Instance) (before after : Option (List ℕ)) (fb fa : Bool) (text : List ℕ) (answers : IsAnswer job p [] text 0) where
+module _ (job : Job) (p : Instance) (before after : Option (List ℕ)) (fb fa : Bool) (text : List ℕ)
+    (answers : IsAnswer job p [] text 0) where
   -- the whole answer was put
   pub puts_all : Appends before after text → fa ≡ fb → Puts job p [] (stream before after fb fa) (Ok 0)
   puts_all put kept = record { o = text; put_o = put; exit = (kept, answers) }
@@ -27,27 +32,35 @@ module _ (job : Job) (p : Instance) (before after : Option (List ℕ)) (fb fa : 
   pub puts_some : Stops before after text → fa ≡ true → Puts job p [] (stream before after fb fa) (Err WriteFailed)
   puts_some put failed = record { o = put.sent; put_o = put.taken; exit = (failed, (text, 0, answers, put.part)) }
 
-module _ (p : Instance) (value : ℕ) (flows : List ℕ) (flow : IsFlowOf p value flows) (cells : List Bool) where
+module _ (p : Instance) (value : ℕ) (flows : List ℕ) (valued : HasValue p.net (one_of p.sources) flows value)
+    (cells : List Bool) where
+  -- a flow has one value
   same_value : (k : ℕ) → HasValue p.net (one_of p.sources) flows k → k ≡ value
-  same_value k h = let g = flow.valued in omega arith
+  same_value k h = omega (arith, h, valued)
 
   -- the cells mark the least source side
-  pub cut_of_sources : IsMinimumCut p.net (one_of p.sources) (one_of p.sinks) (marked cells) → HasValue p.net (one_of p.sources) flows (capacity p.net (marked cells))
-      → ((v : ℕ) → IsNode p.net v → IsTrue (marked cells v) ↔ IsInLeastSourceSide p.net (one_of p.sources) (one_of p.sinks) v) → IsCutOf p value false (marked cells)
-  cut_of_sources minimum valued nearest = record { minimum = minimum; valued = same_value _ valued; nearest = nearest }
+  pub cut_of_sources : IsLeastSourceSide p.net p.sources p.sinks flows (marked cells)
+      → IsCutOf p value false (marked cells)
+  cut_of_sources side = record { minimum = side.minimum; valued = same_value _ side.value; nearest = side.nodes }
 
+  -- the opposite of a test holds where the test fails
   false_of_not : (b : Bool) (P : Type 0) → IsTrue b ↔ P → IsFalse (not b) ↔ P
   false_of_not true P h = (λ e. h.0 refl, λ q. refl)
   false_of_not false P h = (λ e. absurd (true≢false e), λ q. absurd (true≢false (sym (h.1 q))))
 
   -- the cells mark the least sink side
-  pub cut_of_sinks : IsMinimumCut p.net (one_of p.sources) (one_of p.sinks) (λ v. not (marked cells v)) → HasValue p.net (one_of p.sources) flows (capacity p.net (λ v. not (marked cells v)))
-      → ((v : ℕ) → IsNode p.net v → IsTrue (marked cells v) ↔ IsInLeastSinkSide p.net (one_of p.sources) (one_of p.sinks) v) → IsCutOf p value true (λ v. not (marked cells v))
-  cut_of_sinks minimum valued nearest = record { minimum = minimum; valued = same_value _ valued; nearest = λ v within. false_of_not (marked cells v) _ (nearest v within) }
+  pub cut_of_sinks : IsLeastSinkSide p.net p.sources p.sinks flows (marked cells)
+      → IsCutOf p value true (λ v. not (marked cells v))
+  cut_of_sinks side = record {
+    minimum = side.minimum;
+    valued = same_value _ side.value;
+    nearest = λ v within. false_of_not (marked cells v) _ (side.nodes v within);
+  }
 
 module _ (source : Stream) (q : Option (List ℕ)) (qf : Bool) (job : Job) where
   -- the problem is refused, or can't be read
-  pub problem_stops : (w : Option (List ℕ)) (wf : Bool) (stop : Stop) → IsRead {T = Instance} early (λ b fault. problem b ≡ Err fault) (λ b p. problem b ≡ Ok p) source false (Err stop)
+  pub problem_stops : (w : Option (List ℕ)) (wf : Bool) (stop : Stop)
+      → IsRead {T = Instance} early (λ b fault. problem b ≡ Err fault) (λ b p. problem b ≡ Ok p) source false (Err stop)
       → Runs job source (stream q q qf qf) (stream w w wf wf) (Err stop)
   problem_stops w wf stop r = record {
     p = r.text;
@@ -60,7 +73,9 @@ module _ (source : Stream) (q : Option (List ℕ)) (qf : Bool) (job : Job) where
     solution_read = inl (refl, refl);
     exit = exit_of stop r;
   } where
-    exit_of : (stop : Stop) (r : IsRead {T = Instance} early (λ b fault. problem b ≡ Err fault) (λ b p. problem b ≡ Ok p) source false (Err stop)) → EndsAt job source (stream q q qf qf) (stream w w wf wf) r.text [] [] (Err stop)
+    exit_of : (stop : Stop)
+        (r : IsRead {T = Instance} early (λ b fault. problem b ≡ Err fault) (λ b p. problem b ≡ Ok p) source false
+        (Err stop)) → EndsAt job source (stream q q qf qf) (stream w w wf wf) r.text [] [] (Err stop)
     exit_of (Fault true line code) r = absurd (true≢false r.judged.1)
     exit_of (Fault false line code) r = (r.judged.0, refl, refl, refl, refl, r.judged.2)
     exit_of ReadFailed r = (refl, refl, inl (r.judged.0, refl, refl, r.judged.1))
@@ -68,9 +83,11 @@ module _ (source : Stream) (q : Option (List ℕ)) (qf : Bool) (job : Job) where
     exit_of OutOfMemory r = (r.judged, refl, refl, refl)
 
   -- the problem is answered
-  pub answered : (out : Stream) (instance : Instance) (end : Result ℕ Stop) → IsDoneWith job (stream q q qf qf) → IsRead {T = Instance} early (λ b fault. problem b ≡ Err fault) (λ b p. problem b ≡ Ok p) source false (Ok instance)
+  pub answered : (out : Stream) (instance : Instance) (end : Result ℕ Stop) → (IsCheck job → ⊥)
+      → IsRead {T = Instance} early (λ b fault. problem b ≡ Err fault) (λ b p. problem b ≡ Ok p) source false
+      (Ok instance)
       → Puts job instance [] out end → Runs job source (stream q q qf qf) out end
-  answered out instance end done r a = record {
+  answered out instance end no_check r a = record {
     p = r.text;
     q = [];
     o = a.o;
@@ -81,16 +98,19 @@ module _ (source : Stream) (q : Option (List ℕ)) (qf : Bool) (job : Job) where
     solution_read = inl (refl, refl);
     exit = exit_of end a.o a.exit;
   } where
-    exit_of : (end : Result ℕ Stop) (o : List ℕ) → PutsAt job instance [] out o end → EndsAt job source (stream q q qf qf) out r.text [] o end
-    exit_of (Ok status) o x = (r.judged.0, done, x.0, (instance, r.judged.1, x.1))
+    exit_of : (end : Result ℕ Stop) (o : List ℕ) → PutsAt job instance [] out o end
+        → EndsAt job source (stream q q qf qf) out r.text [] o end
+    exit_of (Ok status) o x = (x.0, (r.judged.0, refl, (λ c. absurd (no_check c)), (instance, r.judged.1, x.1)))
     exit_of (Err (Fault told line code)) o x = absurd x
     exit_of (Err ReadFailed) o x = absurd x
-    exit_of (Err WriteFailed) o x = (r.judged.0, done, x.0, (x.1.0, x.1.1, (instance, r.judged.1, x.1.2), x.1.3))
+    exit_of (Err WriteFailed) o x =
+        (x.0, (x.1.0, x.1.1, (r.judged.0, refl, (λ c. absurd (no_check c)), (instance, r.judged.1, x.1.2)), x.1.3))
     exit_of (Err OutOfMemory) o x = (r.judged.0.0, refl, x.0, x.1)
 
 module _ (source given out : Stream) (feasible_only : Bool) (instance : Instance) (end : Result ℕ Stop) where
   -- the solution is checked
-  pub checked : IsRead {T = Instance} early (λ b fault. problem b ≡ Err fault) (λ b p. problem b ≡ Ok p) source false (Ok instance)
+  pub checked : IsRead {T = Instance} early (λ b fault. problem b ≡ Err fault) (λ b p. problem b ≡ Ok p) source false
+      (Ok instance)
       → Checks feasible_only instance given out end → Runs (Check feasible_only) source given out end
   checked r a = record {
     p = r.text;
@@ -100,20 +120,24 @@ module _ (source given out : Stream) (feasible_only : Bool) (instance : Instance
     delivered_q = a.delivered;
     put_o = a.put_o;
     one_pass = r.one_pass;
-    solution_read = inr (record { checks = tt; ended = r.judged.0; instance = instance; accepted = r.judged.1; one_pass = a.one_pass });
+    solution_read = inr (tt, r.judged.0, (instance, r.judged.1, a.one_pass));
     exit = exit_of end a.o a.exit;
   } where
-    exit_of : (end : Result ℕ Stop) (o : List ℕ) → ChecksAt feasible_only instance given out a.q o end → EndsAt (Check feasible_only) source given out r.text a.q o end
-    exit_of (Ok status) o x = (r.judged.0, x.0, x.1, (instance, r.judged.1, x.2))
+    exit_of : (end : Result ℕ Stop) (o : List ℕ) → ChecksAt feasible_only instance given out a.q o end
+        → EndsAt (Check feasible_only) source given out r.text a.q o end
+    exit_of (Ok status) o x = (x.1, (r.judged.0, x.0.0, (λ c. x.0), (instance, r.judged.1, x.2)))
     exit_of (Err (Fault false line code)) o x = absurd x
-    exit_of (Err (Fault true line code)) o x = (tt, r.judged.0, x.0, x.1, x.2, (instance, r.judged.1, x.3))
-    exit_of (Err ReadFailed) o x = (x.1, x.2, inr (tt, r.judged.0, x.0, (instance, r.judged.1, x.3)))
-    exit_of (Err WriteFailed) o x = (r.judged.0, x.0, x.1, (x.2.0, x.2.1, (instance, r.judged.1, x.2.2), x.2.3))
+    exit_of (Err (Fault true line code)) o x = (x.0, x.1, x.2, (tt, r.judged.0, (instance, r.judged.1, x.3)))
+    exit_of (Err ReadFailed) o x = (x.1, x.2, inr (x.0, (tt, r.judged.0, (instance, r.judged.1, x.3))))
+    exit_of (Err WriteFailed) o x =
+        (x.1, (x.2.0, x.2.1, (r.judged.0, x.0.0, (λ c. x.0), (instance, r.judged.1, x.2.2)), x.2.3))
     exit_of (Err OutOfMemory) o x = (r.judged.0.0, x.0, x.1, x.2)
 
 module _ (feasible_only : Bool) (instance : Instance) (given : Stream) (w : Option (List ℕ)) (wf : Bool) where
   -- the solution is refused, or can't be read
-  pub solution_stops : {T : Type 0} (accepts : List ℕ → T → Type 0) (stop : Stop) → IsRead {T = T} (λ b. early_solution b instance.net.nodes) (λ b fault. solution b instance.net.nodes ≡ Err fault) accepts given true (Err stop)
+  pub solution_stops : {T : Type 0} (accepts : List ℕ → T → Type 0) (stop : Stop)
+      → IsRead {T = T} (λ b. early_solution b instance.net.nodes) (λ b fault. solution b instance.net.nodes ≡ Err fault)
+      accepts given true (Err stop)
       → Checks feasible_only instance given (stream w w wf wf) (Err stop)
   solution_stops accepts stop r = record {
     q = r.text;
@@ -123,7 +147,10 @@ module _ (feasible_only : Bool) (instance : Instance) (given : Stream) (w : Opti
     one_pass = r.one_pass;
     exit = exit_of stop r;
   } where
-    exit_of : (stop : Stop) (r : IsRead (λ b. early_solution b instance.net.nodes) (λ b fault. solution b instance.net.nodes ≡ Err fault) accepts given true (Err stop)) → ChecksAt feasible_only instance given (stream w w wf wf) r.text [] (Err stop)
+    exit_of : (stop : Stop)
+        (r : IsRead (λ b. early_solution b instance.net.nodes) (λ b fault. solution b instance.net.nodes ≡ Err fault)
+        accepts given true (Err stop))
+        → ChecksAt feasible_only instance given (stream w w wf wf) r.text [] (Err stop)
     exit_of (Fault false line code) r = absurd (true≢false (sym r.judged.1))
     exit_of (Fault true line code) r = (r.judged.0, refl, refl, r.judged.2)
     exit_of ReadFailed r = (r.judged.0, refl, refl, r.judged.1)
@@ -131,8 +158,10 @@ module _ (feasible_only : Bool) (instance : Instance) (given : Stream) (w : Opti
     exit_of OutOfMemory r = (r.judged, refl, refl)
 
 -- the verdict is put
-pub solution_answered : {T : Type 0} (feasible_only : Bool) (instance : Instance) (given out : Stream) (end : Result ℕ Stop) (accepts : List ℕ → T → Type 0) (found : T)
-    → (r : IsRead {T = T} (λ b. early_solution b instance.net.nodes) (λ b fault. solution b instance.net.nodes ≡ Err fault) accepts given true (Ok found))
+pub solution_answered : {T : Type 0} (feasible_only : Bool) (instance : Instance) (given out : Stream)
+    (end : Result ℕ Stop) (accepts : List ℕ → T → Type 0) (found : T)
+    → (r : IsRead {T = T} (λ b. early_solution b instance.net.nodes)
+    (λ b fault. solution b instance.net.nodes ≡ Err fault) accepts given true (Ok found))
     → Puts (Check feasible_only) instance r.text out end → Checks feasible_only instance given out end
 solution_answered feasible_only instance given out end accepts found r a = record {
   q = r.text;
@@ -142,7 +171,8 @@ solution_answered feasible_only instance given out end accepts found r a = recor
   one_pass = r.one_pass;
   exit = exit_of end a.o a.exit;
 } where
-  exit_of : (end : Result ℕ Stop) (o : List ℕ) → PutsAt (Check feasible_only) instance r.text out o end → ChecksAt feasible_only instance given out r.text o end
+  exit_of : (end : Result ℕ Stop) (o : List ℕ) → PutsAt (Check feasible_only) instance r.text out o end
+      → ChecksAt feasible_only instance given out r.text o end
   exit_of (Ok status) o x = (r.judged.0, x.0, x.1)
   exit_of (Err (Fault told line code)) o x = absurd x
   exit_of (Err ReadFailed) o x = absurd x

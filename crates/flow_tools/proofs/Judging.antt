@@ -1,11 +1,14 @@
 -- What a flow that carries the lines of a solution says of them.
-use Rattle.std.proofs.Common.{◌≡◌, ℕ, suc, ◌+◌, ◌<◌, Bool, true, eqb, List, [], ◌∷◌, length, get_or, ◌∙◌, sym, ap, subst, inl, inr, pos, ◌-ℤ◌, length-append, arith}
+use Rattle.std.proofs.Common.{◌≡◌, ℕ, suc, ◌+◌, ◌<◌, Bool, true, eqb, List, [], ◌∷◌, length, get_or, ◌∙◌, sym, ap}
+use Rattle.std.proofs.Common.{subst, inl, inr, pos, ◌-ℤ◌, length-append, arith}
 use Rattle.std.proofs.lemmas.Bool.{cases_eq, eqb-true, or_cases}
 use Rattle.std.proofs.lemmas.Int.{ints}
 use Rattle.std.proofs.lemmas.List.{get_or_append_left, get_or-append-add}
-use Rattle.flow_net.specs.Nets.{Net, Instance, IsNet, IsProblem, AreTerminals}
+use Rattle.flow_net.specs.Nets.{Net, Instance}
+use Rattle.flow_net.specs.Limits.{IsNet, IsProblem, AreTerminals}
 use Rattle.flow_net.specs.NodeSets.{one_of, just}
-use Rattle.flow_net.specs.Flows.{Fits, IsFeasible, HasValue, IsGreatest, HasGreatestValue}
+use Rattle.flow_net.specs.Flows.{Fits, IsFeasible, HasValue, IsGreatest}
+use Rattle.flow_net.specs.GreatestFlows.{HasGreatestValue}
 use Rattle.flow_net.specs.Laws.{AreApart}
 use Rattle.flow_net.proofs.Zips.{zip_from_fits}
 use Rattle.flow_net.proofs.Cuts.{flow_over-le-cap_over}
@@ -17,21 +20,30 @@ use Rattle.flow_tools.specs.ArcShares.{Carries, HasLessValue}
 use Rattle.flow_tools.proofs.NodeSumLemmas.{not_one_of}
 
 -- no pair's flow passes its capacity
-pub carried_within : (net : Net) (lines : List FlowLine) (xs : List ℕ) → Fits net xs → Carries net lines xs → IsWithinCapacities net lines
-carried_within net lines xs f c u v = omega (arith, c (is_pair u v), flow_over-le-cap_over (λ a. is_pair u v a.src a.dst) net.arcs xs (zip_from_fits net xs f))
+pub carried_within : (net : Net) (lines : List FlowLine) (xs : List ℕ) → Fits net xs → Carries net lines xs
+    → IsWithinCapacities net lines
+carried_within net lines xs f c u v =
+    omega (
+      arith,
+      c (is_pair u v),
+      flow_over-le-cap_over (λ a. is_pair u v a.src a.dst) net.arcs xs (zip_from_fits net xs f),
+    )
 
 -- where the nodes are balanced it is feasible
-pub carried_feasible : (p : Instance) (lines : List FlowLine) (xs : List ℕ) → Fits p.net xs → Carries p.net lines xs → IsBalanced p lines → IsFeasible p.net (one_of p.sources) (one_of p.sinks) xs
+pub carried_feasible : (p : Instance) (lines : List FlowLine) (xs : List ℕ) → Fits p.net xs → Carries p.net lines xs
+    → IsBalanced p lines → IsFeasible p.net (one_of p.sources) (one_of p.sinks) xs
 carried_feasible p lines xs f c b = record {
   fits = f;
   conserved = λ v l h i o. c (λ src dst. just v dst) ∙ b v ((l, h), i, o) ∙ sym (c (λ src dst. just v src));
 }
 
+-- a number that is a difference of signed numbers is one of natural numbers
 positive : (value a b : ℕ) → pos value ≡ pos a -ℤ pos b → a ≡ value + b
 positive value a b e = omega (arith, ints, e)
 
 -- its value is what leaves the sources less what enters them
-pub carried_value : (p : Instance) (lines : List FlowLine) (xs : List ℕ) (value : ℕ) → Carries p.net lines xs → pos value ≡ net_outflow p lines → HasValue p.net (one_of p.sources) xs value
+pub carried_value : (p : Instance) (lines : List FlowLine) (xs : List ℕ) (value : ℕ) → Carries p.net lines xs
+    → pos value ≡ net_outflow p lines → HasValue p.net (one_of p.sources) xs value
 carried_value p lines xs value c e =
     let s = one_of p.sources in
     let out = c (λ src dst. s src) in
@@ -39,14 +51,19 @@ carried_value p lines xs value c e =
     out ∙ positive value _ _ e ∙ ap (λ k. value + k) (sym in')
 
 -- a greatest value is this one
-pub greatest_value : (net : Net) (s t : ℕ → Bool) (xs : List ℕ) (value : ℕ) → HasValue net s xs value → HasGreatestValue net s t xs → IsGreatest net s t value
-greatest_value net s t xs value v g = let same : g.0 ≡ value = omega (arith, g.1, v) in subst (IsGreatest net s t) same g.2
+pub greatest_value : (net : Net) (s t : ℕ → Bool) (xs : List ℕ) (value : ℕ) → HasValue net s xs value
+    → HasGreatestValue net s t xs → IsGreatest net s t value
+greatest_value net s t xs value v g =
+    let same : g.0 ≡ value = omega (arith, g.1, v) in
+    subst (IsGreatest net s t) same g.2
 
 -- no source is a sink
-pub terminals_apart : (net : Net) (sources sinks : List ℕ) → AreTerminals net sources sinks → AreApart (one_of sources) (one_of sinks)
+pub terminals_apart : (net : Net) (sources sinks : List ℕ) → AreTerminals net sources sinks
+    → AreApart (one_of sources) (one_of sinks)
 terminals_apart net sources sinks t v e =
     let at = place_in sources v e in
-    not_one_of sinks v (λ j l f. t.distinct at.0 (length sources + j) (omega (arith, at.1)) (omega (arith, length-append sources sinks))
+    not_one_of sinks v
+    (λ j l f. t.distinct at.0 (length sources + j) (omega (arith, at.1)) (omega (arith, length-append sources sinks))
     (get_or_append_left sources sinks 0 at.0 at.1 ∙ at.2 ∙ f ∙ sym (get_or-append-add sources sinks j 0)))
   where
     place_in : (ws : List ℕ) (v : ℕ) → one_of ws v ≡ true → (k : ℕ) × (k < length ws) × (get_or ws k 0 ≡ v)
@@ -57,9 +74,12 @@ terminals_apart net sources sinks t v e =
     ]
 
 -- a value that isn't the greatest is less than it
-pub less_value : (p : Instance) (xs : List ℕ) → IsNet p.net → IsProblem p → IsFeasible p.net (one_of p.sources) (one_of p.sinks) xs → (HasGreatestValue p.net (one_of p.sources) (one_of p.sinks) xs → ⊥) → HasLessValue p xs
+pub less_value : (p : Instance) (xs : List ℕ) → IsNet p.net → IsProblem p
+    → IsFeasible p.net (one_of p.sources) (one_of p.sinks) xs
+    → (HasGreatestValue p.net (one_of p.sources) (one_of p.sinks) xs → ⊥) → HasLessValue p xs
 less_value p xs n h f never =
-    let m = max_flow_min_cut p.net (one_of p.sources) (one_of p.sinks) n (terminals_apart p.net p.sources p.sinks h.terminals) in (
+    let m = max_flow_min_cut p.net (one_of p.sources) (one_of p.sinks) n
+    (terminals_apart p.net p.sources p.sinks h.terminals) in (
       m.0,
       m.1,
       λ j v. elim (cases_eq j m.0) [

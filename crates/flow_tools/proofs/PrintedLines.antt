@@ -1,25 +1,31 @@
 -- The lines of a printed flow, read as those of a solution.
-use Rattle.std.proofs.Common.{◌≡◌, ℕ, ◌+◌, ◌^◌, ◌≤◌, ◌<◌, true, false, List, [], ◌∷◌, ◌++◌, length, refl, ◌∙◌, sym, ap, append_assoc, append-nil, length-append, Some, None, nat_lt, nat_le, is_some, Ok, arith, rules as std_rules}
+use Rattle.std.proofs.Common.{◌≡◌, ℕ, ◌+◌, ◌^◌, ◌≤◌, ◌<◌, true, false, List, [], ◌∷◌, ◌++◌, length, refl, ◌∙◌, sym, ap}
+use Rattle.std.proofs.Common.{append_assoc, append-nil, length-append, Some, None, nat_lt, nat_le, is_some, Ok, arith}
+use Rattle.std.proofs.Common.{rules as std_rules}
 use Rattle.std.specs.Prelude.{decimal, map}
 use Rattle.std.specs.List.{All, AllByRecursion, AllZip, flat_map, zip}
 use Rattle.std.proofs.lemmas.Bool.{le-ltb}
 use Rattle.std.proofs.lemmas.List.Elements.{All-nil, All-cons, All-append, recursion_from_All}
 use Rattle.flow_net.specs.declared.networks.Arc.{Arc}
-use Rattle.flow_net.specs.Nets.{Net, IsNet, IsArcWithin}
+use Rattle.flow_net.specs.Nets.{Net}
+use Rattle.flow_net.specs.Limits.{IsNet, IsArcWithin}
 use Rattle.flow_net.specs.Flows.{Fits}
 use Rattle.flow_net.proofs.Zips.{zip_from_fits}
-use Rattle.flow_text.specs.Lines.{rest, lines, is_end}
-use Rattle.flow_text.specs.LineParts.{joined, HasNoEnd}
+use Rattle.flow_text.specs.Lines.{rest, lines}
+use Rattle.flow_text.specs.LineParts.{is_end, joined, HasNoEnd}
 use Rattle.flow_text.specs.Fields.{fields_of, is_blank}
 use Rattle.flow_text.specs.Digits.{value_of, is_number}
 use Rattle.flow_text.specs.Tests.{first_failed}
 use Rattle.flow_text.specs.Rules.{fault_of, first_fault, whole_fault}
 use Rattle.flow_text.specs.Output.{solution_line, flow_line, arc_flow_line, solve_text}
 use Rattle.flow_text.specs.Reading.{with_line}
-use Rattle.flow_text.specs.Solution.{Stated, stated_of, solution_rules, solution_tests, value_tests, flow_tests, given_of, flow_of, solution}
-use Rattle.flow_text.specs.SolutionReading.{with_solution_record}
+use Rattle.flow_text.specs.Solution.{Stated, stated_of, solution_rules, solution_tests, value_tests, flow_tests}
+use Rattle.flow_text.specs.Solution.{solution}
+use Rattle.flow_text.specs.SolutionReading.{given_of, flow_of, with_solution_record}
 use Rattle.flow_text.specs.declared.solutions.FlowLine.{FlowLine}
 use Rattle.flow_text.specs.declared.faults.FaultCode.TheVariants.{FlowOutOfRange}
+use Rattle.flow_net.specs.declared.limits.TheConstants.{MOST_NODES, MOST_ARCS}
+use Rattle.flow_text.specs.declared.limits.TheConstants.{LONGEST_LINE, MOST_FLOW_LINES, GREATEST_VALUE}
 use Rattle.flow_text.proofs.CutLemmas.{ended-joined}
 use Rattle.flow_text.proofs.FieldLemmas.{fields_of-blank, fields_of-last, fields_of-field}
 use Rattle.flow_text.proofs.RuleLemmas.{of_fields}
@@ -31,6 +37,7 @@ use Rattle.flow_tools.proofs.PrintedNumbers.{IsPrinted, printed, digits_solid, n
 
 -- ---- lines without their byte 10
 
+-- the line of the value, that of a flow, and that of an arc's flow
 abbrev pub value_body : ℕ → List ℕ
 value_body value = 115 ∷ 32 ∷ decimal value
 
@@ -40,6 +47,7 @@ flow_body src dst flow = 102 ∷ 32 ∷ (decimal src ++ 32 ∷ (decimal dst ++ 3
 abbrev pub body_of : Arc × ℕ → List ℕ
 body_of (arc, flow) = flow_body arc.src arc.dst flow
 
+-- with byte 10 behind they are the printed lines
 value_line_is : (value : ℕ) → solution_line value ≡ value_body value ++ 10 ∷ []
 unfolding solution_line
 value_line_is value = simp append_assoc
@@ -48,28 +56,36 @@ flow_line_is : (src dst flow : ℕ) → flow_line src dst flow ≡ flow_body src
 unfolding flow_line
 flow_line_is src dst flow = simp append_assoc
 
+-- the printed text is these lines, joined
 flows_joined : (zs : List (Arc × ℕ)) → flat_map arc_flow_line zs ≡ joined (map body_of zs) []
 flows_joined [] = refl
 flows_joined ((a, x) ∷ zs) =
-    ap (λ l. l ++ flat_map arc_flow_line zs) (flow_line_is a.src a.dst x) ∙ append_assoc (flow_body a.src a.dst x) (10 ∷ []) (flat_map arc_flow_line zs)
+    ap (λ l. l ++ flat_map arc_flow_line zs) (flow_line_is a.src a.dst x)
+    ∙ append_assoc (flow_body a.src a.dst x) (10 ∷ []) (flat_map arc_flow_line zs)
     ∙ ap (λ l. flow_body a.src a.dst x ++ 10 ∷ l) (flows_joined zs)
 
-text_joined : (net : Net) (value : ℕ) (flows : List ℕ) → solve_text net value flows ≡ joined (value_body value ∷ map body_of (zip net.arcs flows)) []
+text_joined : (net : Net) (value : ℕ) (flows : List ℕ)
+    → solve_text false net value flows ≡ joined (value_body value ∷ map body_of (zip net.arcs flows)) []
 unfolding solve_text
 text_joined net value flows =
-    ap (λ l. l ++ flat_map arc_flow_line (zip net.arcs flows)) (value_line_is value) ∙ append_assoc (value_body value) (10 ∷ []) (flat_map arc_flow_line (zip net.arcs flows))
+    ap (λ l. l ++ flat_map arc_flow_line (zip net.arcs flows)) (value_line_is value)
+    ∙ append_assoc (value_body value) (10 ∷ []) (flat_map arc_flow_line (zip net.arcs flows))
     ∙ ap (λ l. value_body value ++ 10 ∷ l) (flows_joined (zip net.arcs flows))
 
 -- ---- their fields
 
+-- the fields of the line of the value, and of a flow's
 value_fields : (value : ℕ) (ds : List ℕ) → IsPrinted value ds → fields_of (115 ∷ 32 ∷ ds) ≡ (115 ∷ []) ∷ ds ∷ []
 value_fields value ds p =
-    fields_of-field (115 ∷ []) 32 ds (omega arith) (All-cons (λ c. is_blank c ≡ false) 115 [] refl (All-nil (λ c. is_blank c ≡ false))) refl
+    fields_of-field (115 ∷ []) 32 ds (omega arith)
+    (All-cons (λ c. is_blank c ≡ false) 115 [] refl (All-nil (λ c. is_blank c ≡ false))) refl
     ∙ ap (λ fs. (115 ∷ []) ∷ fs) (fields_of-blank 32 ds refl ∙ fields_of-last ds p.some (digits_solid ds p.digits).0)
 
-flow_fields : (src dst flow : ℕ) (s t x : List ℕ) → IsPrinted src s → IsPrinted dst t → IsPrinted flow x → fields_of (102 ∷ 32 ∷ (s ++ 32 ∷ (t ++ 32 ∷ x))) ≡ (102 ∷ []) ∷ s ∷ t ∷ x ∷ []
+flow_fields : (src dst flow : ℕ) (s t x : List ℕ) → IsPrinted src s → IsPrinted dst t → IsPrinted flow x
+    → fields_of (102 ∷ 32 ∷ (s ++ 32 ∷ (t ++ 32 ∷ x))) ≡ (102 ∷ []) ∷ s ∷ t ∷ x ∷ []
 flow_fields src dst flow s t x p q r =
-    fields_of-field (102 ∷ []) 32 (s ++ 32 ∷ (t ++ 32 ∷ x)) (omega arith) (All-cons (λ c. is_blank c ≡ false) 102 [] refl (All-nil (λ c. is_blank c ≡ false))) refl
+    fields_of-field (102 ∷ []) 32 (s ++ 32 ∷ (t ++ 32 ∷ x)) (omega arith)
+    (All-cons (λ c. is_blank c ≡ false) 102 [] refl (All-nil (λ c. is_blank c ≡ false))) refl
     ∙ ap (λ fs. (102 ∷ []) ∷ fs) (fields_of-blank 32 (s ++ 32 ∷ (t ++ 32 ∷ x)) refl
     ∙ fields_of-field s 32 (t ++ 32 ∷ x) p.some (digits_solid s p.digits).0 refl
     ∙ ap (λ fs. s ∷ fs) (fields_of-blank 32 (t ++ 32 ∷ x) refl
@@ -78,13 +94,17 @@ flow_fields src dst flow s t x p q r =
 
 -- ---- no byte 10 in them
 
+-- no byte of either is byte 10
 ends : ℕ → Type 0
 ends c = is_end c ≡ false
 
 value_no_end : (value : ℕ) (ds : List ℕ) → IsPrinted value ds → HasNoEnd (115 ∷ 32 ∷ ds)
-value_no_end value ds p = All-cons (λ c. is_end c ≡ false) 115 (32 ∷ ds) refl (All-cons (λ c. is_end c ≡ false) 32 ds refl (digits_solid ds p.digits).1)
+value_no_end value ds p =
+    All-cons (λ c. is_end c ≡ false) 115 (32 ∷ ds) refl
+    (All-cons (λ c. is_end c ≡ false) 32 ds refl (digits_solid ds p.digits).1)
 
-flow_no_end : (src dst flow : ℕ) (s t x : List ℕ) → IsPrinted src s → IsPrinted dst t → IsPrinted flow x → HasNoEnd (102 ∷ 32 ∷ (s ++ 32 ∷ (t ++ 32 ∷ x)))
+flow_no_end : (src dst flow : ℕ) (s t x : List ℕ) → IsPrinted src s → IsPrinted dst t → IsPrinted flow x
+    → HasNoEnd (102 ∷ 32 ∷ (s ++ 32 ∷ (t ++ 32 ∷ x)))
 flow_no_end src dst flow s t x p q r =
     let E : ℕ → Type 0 = λ c. is_end c ≡ false in
     All-cons E 102 (32 ∷ (s ++ 32 ∷ (t ++ 32 ∷ x))) refl (All-cons E 32 (s ++ 32 ∷ (t ++ 32 ∷ x)) refl
@@ -93,32 +113,48 @@ flow_no_end src dst flow s t x p q r =
 
 -- ---- no faults in them, and what they add
 
-value_passes : (nodes value : ℕ) (ds : List ℕ) → IsPrinted value ds → value ≤ 73786976294838206460000000 → first_failed (solution_tests (stated_of nodes []) ((115 ∷ []) ∷ ds ∷ [])) ≡ None
+-- the value passes all tests of its line
+value_passes : (nodes value : ℕ) (ds : List ℕ) → IsPrinted value ds → value ≤ GREATEST_VALUE
+    → first_failed (solution_tests (stated_of nodes []) ((115 ∷ []) ∷ ds ∷ [])) ≡ None
 unfolding value_tests stated_of
 value_passes nodes value ds p h =
     let is : is_number ds ≡ true = number_printed value ds p in
     let least : nat_lt (value_of ds) 0 ≡ false = le-ltb (value_of ds) 0 (omega arith) in
-    let most : nat_lt 73786976294838206460000000 (value_of ds) ≡ false = le-ltb 73786976294838206460000000 (value_of ds) (omega (arith, p.value)) in
+    let most : nat_lt GREATEST_VALUE (value_of ds) ≡ false =
+    le-ltb GREATEST_VALUE (value_of ds) (omega (arith, p.value)) in
     simp (is, least, most)
 
-begun : (nodes : ℕ) (ds : List ℕ) (value : ℕ) → value_of ds ≡ value → ◌≡◌ {A = Stated} (record (stated_of nodes []) { value = Some (given_of ((115 ∷ []) ∷ ds ∷ [])) }) (record { nodes = nodes; value = Some value; lines = [] })
+-- what is known after it
+begun : (nodes : ℕ) (ds : List ℕ) (value : ℕ) → value_of ds ≡ value
+    → ◌≡◌ {A = Stated} (record (stated_of nodes []) { value = Some (given_of ((115 ∷ []) ∷ ds ∷ [])) })
+    (record { nodes = nodes; value = Some value; lines = [] })
 unfolding stated_of
-begun nodes ds value e = ap (λ (v : ℕ). let stated : Stated = record { nodes = nodes; value = Some v; lines = [] } in stated) e
+begun nodes ds value e =
+    ap (λ (v : ℕ). let stated : Stated = record { nodes = nodes; value = Some v; lines = [] } in stated) e
 
-value_added : (nodes value : ℕ) → value ≤ 73786976294838206460000000
-    → (fault_of solution_rules (stated_of nodes []) (value_body value) ≡ None) × (stated_of nodes (value_body value ∷ []) ≡ record { nodes = nodes; value = Some value; lines = [] })
+-- so the first line has no fault, and says the value
+value_added : (nodes value : ℕ) → value ≤ GREATEST_VALUE
+    → (fault_of solution_rules (stated_of nodes []) (value_body value) ≡ None)
+    × (stated_of nodes (value_body value ∷ []) ≡ record { nodes = nodes; value = Some value; lines = [] })
 value_added nodes value h =
     let ds = decimal value in
     let p = printed value (omega arith) in
     let size : length (solution_line value) ≤ 128 = solution_line_short value (omega arith) in
-    let short : length (value_body value) ≤ 200 = omega (arith, ap length (value_line_is value), length-append (value_body value) (10 ∷ [])) in
-    let of = of_fields solution_rules with_solution_record (stated_of nodes []) (value_body value) (115 ∷ []) (ds ∷ []) refl short (value_fields value ds p) in
+    let short : length (value_body value) ≤ LONGEST_LINE =
+    omega (arith, ap length (value_line_is value), length-append (value_body value) (10 ∷ [])) in
+    let of = of_fields solution_rules with_solution_record (stated_of nodes []) (value_body value) (115 ∷ []) (ds ∷ [])
+    refl short (value_fields value ds p) in
     let as_value = of_solution (stated_of nodes []) (115 ∷ []) (ds ∷ []) refl in
     let fine = of.0 ∙ as_value.0 ∙ value_passes nodes value ds p h in
     (fine, Adds-solution nodes [] (value_body value) fine ∙ of.1 ∙ as_value.1 ∙ begun nodes ds value p.value)
 
-flow_added : (old : Stated) (flow : FlowLine) → old.nodes ≤ 1000000 → is_some old.value ≡ true → length old.lines < 4000000 → 1 ≤ flow.src → flow.src ≤ old.nodes → 1 ≤ flow.dst → flow.dst ≤ old.nodes → flow.flow < 2 ^ 64
-    → (fault_of solution_rules old (flow_body flow.src flow.dst flow.flow) ≡ None) × (with_line with_solution_record old (flow_body flow.src flow.dst flow.flow) ≡ record old { lines = old.lines ++ flow ∷ [] })
+-- a flow line behind it has no fault, and is kept
+flow_added : (old : Stated) (flow : FlowLine) → old.nodes ≤ MOST_NODES → is_some old.value ≡ true
+    → length old.lines < MOST_FLOW_LINES → 1 ≤ flow.src → flow.src ≤ old.nodes → 1 ≤ flow.dst → flow.dst ≤ old.nodes
+    → flow.flow < 2 ^ 64
+    → (fault_of solution_rules old (flow_body flow.src flow.dst flow.flow) ≡ None)
+    × (with_line with_solution_record old (flow_body flow.src flow.dst flow.flow)
+    ≡ record old { lines = old.lines ++ flow ∷ [] })
 flow_added old flow n some room s_least s_most d_least d_most fits =
     let s = decimal flow.src in
     let t = decimal flow.dst in
@@ -127,15 +163,23 @@ flow_added old flow n some room s_least s_most d_least d_most fits =
     let q = printed flow.dst (omega arith) in
     let r = printed flow.flow (omega arith) in
     let body = flow_body flow.src flow.dst flow.flow in
-    let size : length (flow_line flow.src flow.dst flow.flow) ≤ 128 = flow_line_short flow.src flow.dst flow.flow (omega arith) (omega arith) fits in
-    let short : length body ≤ 200 = omega (arith, ap length (flow_line_is flow.src flow.dst flow.flow), length-append body (10 ∷ [])) in
-    let of = of_fields solution_rules with_solution_record old body (102 ∷ []) (s ∷ t ∷ x ∷ []) refl short (flow_fields flow.src flow.dst flow.flow s t x p q r) in
+    let size : length (flow_line flow.src flow.dst flow.flow) ≤ 128 =
+    flow_line_short flow.src flow.dst flow.flow (omega arith) (omega arith) fits in
+    let short : length body ≤ LONGEST_LINE =
+    omega (arith, ap length (flow_line_is flow.src flow.dst flow.flow), length-append body (10 ∷ [])) in
+    let of = of_fields solution_rules with_solution_record old body (102 ∷ []) (s ∷ t ∷ x ∷ []) refl short
+    (flow_fields flow.src flow.dst flow.flow s t x p q r) in
     let as_flow = of_flow old (102 ∷ []) (s ∷ t ∷ x ∷ []) refl refl in
     let is : flow_of ((102 ∷ []) ∷ s ∷ t ∷ x ∷ []) ≡ flow = rw (p.value, q.value, r.value) refl in
-    let few : nat_le 4000000 (length old.lines) ≡ false = search (std_rules, arith) in
-    let passes : first_failed (flow_tests old ((102 ∷ []) ∷ s ∷ t ∷ x ∷ [])) ≡ None = rw (some, few) (ends-pass old.nodes FlowOutOfRange (102 ∷ []) s t x
-    (number_printed flow.src s p) (rw p.value (s_least, s_most)) (number_printed flow.dst t q) (rw q.value (d_least, d_most)) (number_printed flow.flow x r) (rw r.value (omega arith))) in
-    (of.0 ∙ as_flow.0 ∙ passes, of.1 ∙ as_flow.1 ∙ ap (λ (f : FlowLine). let stated : Stated = record old { lines = old.lines ++ f ∷ [] } in stated) is)
+    let few : nat_le MOST_FLOW_LINES (length old.lines) ≡ false = search (std_rules, arith) in
+    let passes : first_failed (flow_tests old ((102 ∷ []) ∷ s ∷ t ∷ x ∷ [])) ≡ None =
+    rw (some, few) (ends-pass old.nodes FlowOutOfRange (102 ∷ []) s t x (number_printed flow.src s p)
+    (rw p.value (s_least, s_most)) (number_printed flow.dst t q) (rw q.value (d_least, d_most))
+    (number_printed flow.flow x r) (rw r.value (omega arith))) in (
+      of.0 ∙ as_flow.0 ∙ passes,
+      of.1 ∙ as_flow.1
+          ∙ ap (λ (f : FlowLine). let stated : Stated = record old { lines = old.lines ++ f ∷ [] } in stated) is,
+    )
 
 -- ---- all lines
 
@@ -143,7 +187,11 @@ flow_added old flow n some room s_least s_most d_least d_most fits =
 abbrev pub known : ℕ → ℕ → List FlowLine → Stated
 known nodes value done = record { nodes = nodes; value = Some value; lines = done }
 
-one_fine : (before after : List (List ℕ)) (line : List ℕ) (nodes : ℕ) → fault_of solution_rules (stated_of nodes before) line ≡ None → first_fault solution_rules (stated_of nodes) (before ++ line ∷ []) after ≡ None → first_fault solution_rules (stated_of nodes) before (line ∷ after) ≡ None
+-- no fault in a line and none in those behind it: none in all
+one_fine : (before after : List (List ℕ)) (line : List ℕ) (nodes : ℕ)
+    → fault_of solution_rules (stated_of nodes before) line ≡ None
+    → first_fault solution_rules (stated_of nodes) (before ++ line ∷ []) after ≡ None
+    → first_fault solution_rules (stated_of nodes) before (line ∷ after) ≡ None
 unfolding first_fault
 one_fine before after line nodes fine rest = rw (fine, rest) refl
 
@@ -151,10 +199,17 @@ none_fine : (before : List (List ℕ)) (nodes : ℕ) → first_fault solution_ru
 unfolding first_fault
 none_fine before nodes = refl
 
-flows_fine : (nodes value : ℕ) (before : List (List ℕ)) (done : List FlowLine) (arcs : List Arc) (xs : List ℕ) → nodes ≤ 1000000 → stated_of nodes before ≡ known nodes value done → length done + length arcs ≤ 4000000
+-- so no line has a fault, and all flow lines are kept
+flows_fine : (nodes value : ℕ) (before : List (List ℕ)) (done : List FlowLine) (arcs : List Arc) (xs : List ℕ)
+    → nodes ≤ MOST_NODES → stated_of nodes before ≡ known nodes value done → length done + length arcs ≤ MOST_FLOW_LINES
     → AllByRecursion (IsArcWithin nodes) arcs → AllZip (λ a x. x ≤ a.cap) arcs xs
-    → (first_fault solution_rules (stated_of nodes) before (map body_of (zip arcs xs)) ≡ None) × (stated_of nodes (before ++ map body_of (zip arcs xs)) ≡ known nodes value (done ++ map carried_line (zip arcs xs)))
-flows_fine nodes value before done [] [] n e few w f = (none_fine before nodes, ap (stated_of nodes) (append-nil before) ∙ e ∙ ap (known nodes value) (sym (append-nil done)))
+    → (first_fault solution_rules (stated_of nodes) before (map body_of (zip arcs xs)) ≡ None)
+    × (stated_of nodes (before ++ map body_of (zip arcs xs))
+    ≡ known nodes value (done ++ map carried_line (zip arcs xs)))
+flows_fine nodes value before done [] [] n e few w f = (
+  none_fine before nodes,
+  ap (stated_of nodes) (append-nil before) ∙ e ∙ ap (known nodes value) (sym (append-nil done)),
+)
 flows_fine nodes value before done [] (x ∷ xs) n e few w f = absurd f
 flows_fine nodes value before done (a ∷ arcs) [] n e few w f = absurd f
 flows_fine nodes value before done (a ∷ arcs) (x ∷ xs) n e few w f =
@@ -162,15 +217,23 @@ flows_fine nodes value before done (a ∷ arcs) (x ∷ xs) n e few w f =
     let body = flow_body a.src a.dst x in
     let cap = w.0.cap_fits in
     let at_most = f.0 in
-    let added = flow_added (known nodes value done) line n refl (omega arith) w.0.src_least w.0.src_most w.0.dst_least w.0.dst_most (omega arith) in
-    let fine : fault_of solution_rules (stated_of nodes before) body ≡ None = ap (λ k. fault_of solution_rules k body) e ∙ added.0 in
-    let next : stated_of nodes (before ++ body ∷ []) ≡ known nodes value (done ++ line ∷ []) = Adds-solution nodes before body fine ∙ ap (λ k. with_line with_solution_record k body) e ∙ added.1 in
-    let rest = flows_fine nodes value (before ++ body ∷ []) (done ++ line ∷ []) arcs xs n next (omega (arith, length-append done (line ∷ []))) w.1 f.1 in (
+    let added = flow_added (known nodes value done) line n refl (omega arith) w.0.src_least w.0.src_most w.0.dst_least
+    w.0.dst_most (omega arith) in
+    let fine : fault_of solution_rules (stated_of nodes before) body ≡ None =
+    ap (λ k. fault_of solution_rules k body) e ∙ added.0 in
+    let next : stated_of nodes (before ++ body ∷ []) ≡ known nodes value (done ++ line ∷ []) =
+    Adds-solution nodes before body fine ∙ ap (λ k. with_line with_solution_record k body) e ∙ added.1 in
+    let rest = flows_fine nodes value (before ++ body ∷ []) (done ++ line ∷ []) arcs xs n next
+    (omega (arith, length-append done (line ∷ []))) w.1 f.1 in (
       one_fine before (map body_of (zip arcs xs)) body nodes fine rest.0,
-      ap (stated_of nodes) (sym (append_assoc before (body ∷ []) (map body_of (zip arcs xs)))) ∙ rest.1 ∙ ap (known nodes value) (append_assoc done (line ∷ []) (map carried_line (zip arcs xs))),
+      ap (stated_of nodes) (sym (append_assoc before (body ∷ []) (map body_of (zip arcs xs)))) ∙ rest.1
+          ∙ ap (known nodes value) (append_assoc done (line ∷ []) (map carried_line (zip arcs xs))),
     )
 
-flows_no_end : (nodes : ℕ) (arcs : List Arc) (xs : List ℕ) → nodes ≤ 1000000 → AllByRecursion (IsArcWithin nodes) arcs → AllZip (λ a x. x ≤ a.cap) arcs xs → All HasNoEnd (map body_of (zip arcs xs))
+-- nor has any line byte 10
+flows_no_end : (nodes : ℕ) (arcs : List Arc) (xs : List ℕ) → nodes ≤ MOST_NODES
+    → AllByRecursion (IsArcWithin nodes) arcs → AllZip (λ a x. x ≤ a.cap) arcs xs
+    → All HasNoEnd (map body_of (zip arcs xs))
 flows_no_end nodes [] [] n w f = All-nil HasNoEnd
 flows_no_end nodes [] (x ∷ xs) n w f = absurd f
 flows_no_end nodes (a ∷ arcs) [] n w f = absurd f
@@ -179,27 +242,39 @@ flows_no_end nodes (a ∷ arcs) (x ∷ xs) n w f =
     let at_most = f.0 in
     let src = w.0.src_most in
     let dst = w.0.dst_most in
-    All-cons HasNoEnd (flow_body a.src a.dst x) (map body_of (zip arcs xs)) (flow_no_end a.src a.dst x (decimal a.src) (decimal a.dst) (decimal x) (printed a.src (omega arith)) (printed a.dst (omega arith)) (printed x (omega arith)))
-    (flows_no_end nodes arcs xs n w.1 f.1)
+    All-cons HasNoEnd (flow_body a.src a.dst x) (map body_of (zip arcs xs))
+    (flow_no_end a.src a.dst x (decimal a.src) (decimal a.dst) (decimal x) (printed a.src (omega arith))
+    (printed a.dst (omega arith)) (printed x (omega arith))) (flows_no_end nodes arcs xs n w.1 f.1)
 
+-- joined lines without byte 10 are cut into themselves
 lines_of_joined : (ls : List (List ℕ)) → All HasNoEnd ls → lines (joined ls []) ≡ ls
 unfolding lines
-lines_of_joined ls none = let cut = ended-joined ls [] none (All-nil (λ c. is_end c ≡ false)) in rw (cut.0, cut.1) (append-nil ls)
+lines_of_joined ls none =
+    let cut = ended-joined ls [] none (All-nil (λ c. is_end c ≡ false)) in
+    rw (cut.0, cut.1) (append-nil ls)
 
-whole_read : (nodes value : ℕ) (ls : List (List ℕ)) (b : List ℕ) (done : List FlowLine) → lines b ≡ ls → first_fault solution_rules (stated_of nodes) [] ls ≡ None → stated_of nodes ls ≡ known nodes value done → solution b nodes ≡ Ok (record { value = value; lines = done })
+-- a text whose lines have no fault is the solution that they say
+whole_read : (nodes value : ℕ) (ls : List (List ℕ)) (b : List ℕ) (done : List FlowLine) → lines b ≡ ls
+    → first_fault solution_rules (stated_of nodes) [] ls ≡ None → stated_of nodes ls ≡ known nodes value done
+    → solution b nodes ≡ Ok (record { value = value; lines = done })
 unfolding solution whole_fault
 whole_read nodes value ls b done e fine says = rw (e, fine, says) refl
 
 -- a printed flow, read as a solution
-pub solved_is_accepted : (net : Net) (value : ℕ) (flows : List ℕ) → IsNet net → length net.arcs ≤ 4000000 → value ≤ 73786976294838206460000000 → Fits net flows → solution (solve_text net value flows) net.nodes ≡ Ok (written_flow net value flows)
+pub solved_is_accepted : (net : Net) (value : ℕ) (flows : List ℕ) → IsNet net → length net.arcs ≤ MOST_ARCS
+    → value ≤ GREATEST_VALUE → Fits net flows
+    → solution (solve_text false net value flows) net.nodes ≡ Ok (written_flow net value flows)
 solved_is_accepted net value flows n few small f =
     let arcs = recursion_from_All (IsArcWithin net.nodes) net.arcs n.arcs_within in
     let fits = zip_from_fits net flows f in
     let first = value_added net.nodes value small in
-    let rest = flows_fine net.nodes value (value_body value ∷ []) [] net.arcs flows n.nodes_most first.1 (omega arith) arcs fits in
+    let rest = flows_fine net.nodes value (value_body value ∷ []) [] net.arcs flows n.nodes_most first.1 (omega arith)
+    arcs fits in
     let bodies = map body_of (zip net.arcs flows) in
-    let none = All-cons HasNoEnd (value_body value) bodies (value_no_end value (decimal value) (printed value (omega arith))) (flows_no_end net.nodes net.arcs flows n.nodes_most arcs fits) in
-    whole_read net.nodes value (value_body value ∷ bodies) (solve_text net value flows) (map carried_line (zip net.arcs flows))
+    let none = All-cons HasNoEnd (value_body value) bodies
+    (value_no_end value (decimal value) (printed value (omega arith)))
+    (flows_no_end net.nodes net.arcs flows n.nodes_most arcs fits) in
+    whole_read net.nodes value (value_body value ∷ bodies) (solve_text false net value flows)
+    (map carried_line (zip net.arcs flows))
     (ap lines (text_joined net value flows) ∙ lines_of_joined (value_body value ∷ bodies) none)
-    (one_fine [] bodies (value_body value) net.nodes first.0 rest.0)
-    rest.1
+    (one_fine [] bodies (value_body value) net.nodes first.0 rest.0) rest.1

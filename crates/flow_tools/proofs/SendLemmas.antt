@@ -1,40 +1,53 @@
 -- What goes on holding of a text that is sent in parts.
-use Rattle.std.proofs.Common.{Result, Ok, Err, OnOk, OnErr, ◌-◌, arith, ◌≡◌, ℕ, List, [], ◌++◌, length, take, drop, refl, sym, ap, ◌∙◌, append_assoc, take-append-drop, Option, Bool}
+use Rattle.std.proofs.Common.{Result, Ok, Err, OnOk, OnErr, ◌-◌, arith, ◌≡◌, ℕ, List, [], ◌++◌, length, take, drop}
+use Rattle.std.proofs.Common.{refl, sym, ap, ◌∙◌, append_assoc, take-append-drop, Option, Bool}
 use Rattle.std.specs.Io.KnownBytes.{Appends}
 use Rattle.std.proofs.KnownBytes.{Appends-nil, Appends-trans}
 use Rattle.std.proofs.lemmas.Slice.{between_to_end}
-use Rattle.flow_tools.specs.Streams.{Flags, IsPut, Sends, Stops}
+use Rattle.flow_tools.specs.Streams.{Flags}
+use Rattle.flow_tools.specs.Sending.{IsPut, Sends, Stops}
 use Rattle.flow_tools.proofs.StreamParts.{stream}
 
+-- nothing was taken, and all of the text waits
 pub sends_start : (a : Option (List ℕ)) (text : List ℕ) → Sends a a text text
 sends_start a text = record { sent = []; taken = Appends-nil a; whole = refl }
 
-pub sends_taken : (a b c : Option (List ℕ)) (held text : List ℕ) (n : ℕ) → Sends a b held text → Appends b c (take n held) → Sends a c (drop n held) text
+-- some of what waits is taken
+pub sends_taken : (a b c : Option (List ℕ)) (held text : List ℕ) (n : ℕ) → Sends a b held text
+    → Appends b c (take n held) → Sends a c (drop n held) text
 sends_taken a b c held text n s p = record {
   sent = s.sent ++ take n held;
   taken = Appends-trans a b c s.sent (take n held) s.taken p;
-  whole = s.whole ∙ ap (λ l. s.sent ++ l) (sym (take-append-drop n held)) ∙ sym (append_assoc s.sent (take n held) (drop n held));
+  whole =
+      s.whole ∙ ap (λ l. s.sent ++ l) (sym (take-append-drop n held))
+      ∙ sym (append_assoc s.sent (take n held) (drop n held));
 }
 
+-- what was taken so far is a beginning of the text
 pub sends_stopped : (a b : Option (List ℕ)) (held text : List ℕ) → Sends a b held text → Stops a b text
 sends_stopped a b held text s = record { sent = s.sent; taken = s.taken; part = (held, s.whole) }
 
 -- the same, of `&held[n..]`
-pub sends_rest : (a b c : Option (List ℕ)) (held text : List ℕ) (n : ℕ) → Sends a b held text → Appends b c (take n held) → Sends a c (take (length held - n) (drop n held)) text
+pub sends_rest : (a b c : Option (List ℕ)) (held text : List ℕ) (n : ℕ) → Sends a b held text
+    → Appends b c (take n held) → Sends a c (take (length held - n) (drop n held)) text
 sends_rest a b c held text n s p =
     let e : take (length held - n) (drop n held) ≡ drop n held = between_to_end held n (length held) (omega arith) in
     rw e (sends_taken a b c held text n s p)
 
 -- a line more is held
-pub sends_more : (a b c : Option (List ℕ)) (held more text line : List ℕ) → Sends a b held text → Sends b c more (held ++ line) → Sends a c more (text ++ line)
+pub sends_more : (a b c : Option (List ℕ)) (held more text line : List ℕ) → Sends a b held text
+    → Sends b c more (held ++ line) → Sends a c more (text ++ line)
 sends_more a b c held more text line s r = record {
   sent = s.sent ++ r.sent;
   taken = Appends-trans a b c s.sent r.sent s.taken r.taken;
-  whole = ap (λ l. l ++ line) s.whole ∙ append_assoc s.sent held line ∙ ap (λ l. s.sent ++ l) r.whole ∙ sym (append_assoc s.sent r.sent more);
+  whole =
+      ap (λ l. l ++ line) s.whole ∙ append_assoc s.sent held line ∙ ap (λ l. s.sent ++ l) r.whole
+      ∙ sym (append_assoc s.sent r.sent more);
 }
 
 -- all that was held is taken
-pub sends_all : (a b c : Option (List ℕ)) (held text : List ℕ) → Sends a b held text → Appends b c held → Appends a c text
+pub sends_all : (a b c : Option (List ℕ)) (held text : List ℕ) → Sends a b held text → Appends b c held
+    → Appends a c text
 sends_all a b c held text s p = rw s.whole (Appends-trans a b c s.sent held s.taken p)
 
 -- a stream fails at some of what was held
@@ -46,31 +59,40 @@ stops_in a b c held text s r = record {
 }
 
 -- a stream fails at some of what follows what was taken
-pub stops_at : (a b c : Option (List ℕ)) (held line before : List ℕ) → Sends a b held before → Stops b c (held ++ line) → Stops a c (before ++ line)
+pub stops_at : (a b c : Option (List ℕ)) (held line before : List ℕ) → Sends a b held before → Stops b c (held ++ line)
+    → Stops a c (before ++ line)
 stops_at a b c held line before s r = record {
   sent = s.sent ++ r.sent;
   taken = Appends-trans a b c s.sent r.sent s.taken r.taken;
-  part = (r.part.0, ap (λ l. l ++ line) s.whole ∙ append_assoc s.sent held line ∙ ap (λ l. s.sent ++ l) r.part.1 ∙ sym (append_assoc s.sent r.sent r.part.0));
+  part = (
+    r.part.0,
+    ap (λ l. l ++ line) s.whole ∙ append_assoc s.sent held line ∙ ap (λ l. s.sent ++ l) r.part.1
+        ∙ sym (append_assoc s.sent r.sent r.part.0),
+  );
 }
 
 -- a stream fails before the text's end
-pub stops_early : (a b : Option (List ℕ)) (front rest text : List ℕ) → Stops a b front → text ≡ front ++ rest → Stops a b text
+pub stops_early : (a b : Option (List ℕ)) (front rest text : List ℕ) → Stops a b front → text ≡ front ++ rest
+    → Stops a b text
 stops_early a b front rest text s e = record {
   sent = s.sent;
   taken = s.taken;
   part = (s.part.0 ++ rest, e ∙ ap (λ l. l ++ rest) s.part.1 ∙ append_assoc s.sent s.part.0 rest);
 }
 
+-- what holds anyway holds where a result is an error
 pub on_err : {T E : Type 0} {P : Type 0} (r : Result T E) → P → OnErr r P
 on_err (Ok x) p = tt
 on_err (Err e) p = p
 
 -- what was held is put: all of the text was taken, or a beginning of it
-put_ok : {E : Type 0} (a b c : Option (List ℕ)) (held text bytes : List ℕ) (r : Result (Unit {0}) E) → Sends a b held text → bytes ≡ held → OnOk r (Appends b c bytes) → OnOk r (Appends a c text)
+put_ok : {E : Type 0} (a b c : Option (List ℕ)) (held text bytes : List ℕ) (r : Result (Unit {0}) E)
+    → Sends a b held text → bytes ≡ held → OnOk r (Appends b c bytes) → OnOk r (Appends a c text)
 put_ok a b c held text bytes (Ok x) s e p = sends_all a b c held text s (rw (← e) p)
 put_ok a b c held text bytes (Err x) s e p = tt
 
-put_err : {E : Type 0} (a b c : Option (List ℕ)) (held text bytes : List ℕ) (r : Result (Unit {0}) E) → Sends a b held text → bytes ≡ held → OnErr r (Stops b c bytes) → OnErr r (Stops a c text)
+put_err : {E : Type 0} (a b c : Option (List ℕ)) (held text bytes : List ℕ) (r : Result (Unit {0}) E)
+    → Sends a b held text → bytes ≡ held → OnErr r (Stops b c bytes) → OnErr r (Stops a c text)
 put_err a b c held text bytes (Ok x) s e p = tt
 put_err a b c held text bytes (Err x) s e p = stops_in a b c held text s (rw (← e) p)
 
@@ -80,7 +102,8 @@ flags_on f g h (Ok x) e p = p ∙ e
 flags_on f g h (Err x) e p = p
 
 -- a text of which some waits is put once what waits is put
-pub waiting_put : {E : Type 0} (a b c : Option (List ℕ)) (f g h : Bool) (waiting text bytes : List ℕ) (r : Result (Unit {0}) E) → Sends a b waiting text → g ≡ f → bytes ≡ waiting
+pub waiting_put : {E : Type 0} (a b c : Option (List ℕ)) (f g h : Bool) (waiting text bytes : List ℕ)
+    (r : Result (Unit {0}) E) → Sends a b waiting text → g ≡ f → bytes ≡ waiting
     → IsPut bytes (stream b c g h) r → IsPut text (stream a c f h) r
 waiting_put a b c f g h waiting text bytes r sent kept e put = record {
   ok = put_ok a b c waiting text bytes r sent e put.ok;
@@ -89,8 +112,13 @@ waiting_put a b c f g h waiting text bytes r sent kept e put = record {
 }
 
 -- a line more waits, and none more is taken
-pub sends_with : (a b : Option (List ℕ)) (waiting text line : List ℕ) → Sends a b waiting text → Sends a b (waiting ++ line) (text ++ line)
-sends_with a b waiting text line s = record { sent = s.sent; taken = s.taken; whole = ap (λ l. l ++ line) s.whole ∙ append_assoc s.sent waiting line }
+pub sends_with : (a b : Option (List ℕ)) (waiting text line : List ℕ) → Sends a b waiting text
+    → Sends a b (waiting ++ line) (text ++ line)
+sends_with a b waiting text line s = record {
+  sent = s.sent;
+  taken = s.taken;
+  whole = ap (λ l. l ++ line) s.whole ∙ append_assoc s.sent waiting line;
+}
 
 -- a stream fails at some of what waited, and so of what waits with a line more
 pub stops_with : (a b : Option (List ℕ)) (text line : List ℕ) → Stops a b text → Stops a b (text ++ line)

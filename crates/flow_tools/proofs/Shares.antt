@@ -1,12 +1,15 @@
 -- Sharing the flow lines out over the arcs.
-use Rattle.std.proofs.Common.{◌≡◌, ℕ, ◌+◌, ◌-◌, ◌≤◌, ◌<◌, ◌⊎◌, Bool, true, false, cond, eqb, List, [], ◌∷◌, length, get_or, set, take, drop, replicate, refl, length-drop, eq-eqb, ◌∙◌, sym, ap, subst, inl, inr, get_or-set_same, get_or-set_other, arith}
+use Rattle.std.proofs.Common.{◌≡◌, ℕ, ◌+◌, ◌-◌, ◌≤◌, ◌<◌, ◌⊎◌, Bool, true, false, cond, eqb, List, [], ◌∷◌, length}
+use Rattle.std.proofs.Common.{get_or, set, take, drop, replicate, refl, length-drop, eq-eqb, ◌∙◌, sym, ap, subst, inl}
+use Rattle.std.proofs.Common.{inr, get_or-set_same, get_or-set_other, arith}
 use Rattle.std.specs.List.{All}
 use Rattle.std.specs.List.Sorted.{IsNonDecreasingBy, IsPermutation}
 use Rattle.std.proofs.lemmas.Bool.{cases_eq, cases_lt, eqb-true, ne_eqb, and_parts, and_left, and_right, and_from}
 use Rattle.std.proofs.lemmas.List.{get_or_default, get_or-drop}
 use Rattle.std.proofs.lemmas.List.Elements.{All-get_or}
 use Rattle.std.proofs.lemmas.List.Sorted.{All-permutation, Contains-permutation}
-use Rattle.flow_net.specs.Nets.{Net, IsNet, arc_at}
+use Rattle.flow_net.specs.Nets.{Net, arc_at}
+use Rattle.flow_net.specs.Limits.{IsNet}
 use Rattle.flow_net.specs.declared.networks.Arc.{Arc}
 use Rattle.flow_net.specs.Flows.{flow_over, Fits}
 use Rattle.flow_net.proofs.Zips.{AllZip-from, zip_from_fits}
@@ -15,21 +18,27 @@ use Rattle.flow_text.specs.SolutionReading.{IsLineWithin}
 use Rattle.flow_text.specs.declared.solutions.FlowLine.{FlowLine}
 use Rattle.flow_tools.specs.SolutionFlows.{line_flow, is_pair, pair_flow, pair_cap}
 use Rattle.flow_tools.specs.Verdicts.{IsBefore, IsFirstOver}
-use Rattle.flow_tools.specs.ArcShares.{pair_rank, place_rank, line_rank, place_of, AreArcPlaces, AreOrderedArcs, arc_flow, Carries, HasMore, IsFull, ArePassed}
+use Rattle.flow_tools.specs.ArcShares.{pair_rank, place_rank, line_rank, place_of, AreArcPlaces, AreOrderedArcs}
+use Rattle.flow_tools.specs.ArcShares.{arc_flow, Carries, HasMore, IsFull, ArePassed}
 use Rattle.flow_tools.specs.declared.sharing.ArcPlace.{ArcPlace}
 use Rattle.flow_tools.proofs.LineSums.{line_flow_more, line_flow-take-drop, line_flow_none, line_flow-IsPermutation}
 use Rattle.flow_tools.proofs.ArcSums.{full_over, set_more, more_twice, more_none}
 
 -- ---- places in order
 
+-- stands for a place past the last
 abbrev pub no_place : ArcPlace
 no_place = record { src = 0; dst = 0; arc = 0 }
 
 -- each arc listed in turn
-pub places_listed : (net : Net) (places : List ArcPlace) → IsNet net → length places ≡ length net.arcs → ((k : ℕ) (d : ArcPlace) → k < length net.arcs → get_or places k d ≡ place_of net k) → AreArcPlaces net places
+pub places_listed : (net : Net) (places : List ArcPlace) → IsNet net → length places ≡ length net.arcs
+    → ((k : ℕ) (d : ArcPlace) → k < length net.arcs → get_or places k d ≡ place_of net k) → AreArcPlaces net places
 places_listed net places r n h = record {
   limits = r;
-  sound = λ k d l. (let e = h k d (omega arith) in let at : (get_or places k d).arc ≡ k = ap (λ p. p.arc) e in (omega arith, e ∙ sym (ap (place_of net) at)));
+  sound = λ k d l.
+      (let e = h k d (omega arith) in
+      let at : (get_or places k d).arc ≡ k = ap (λ p. p.arc) e in
+      (omega arith, e ∙ sym (ap (place_of net) at)));
   complete = λ i l. (i, omega arith, h i (place_of net i) l);
 }
 
@@ -43,10 +52,13 @@ places_moved net xs ys m a = record {
 
 -- ---- places passed
 
-full_kept : (net : Net) (xs : List ℕ) (i d j : ℕ) → length xs ≡ length net.arcs → i < length net.arcs → Fits net (set xs i (get_or xs i 0 + d)) → IsFull net xs j → IsFull net (set xs i (get_or xs i 0 + d)) j
+-- an arc that is full stays full
+full_kept : (net : Net) (xs : List ℕ) (i d j : ℕ) → length xs ≡ length net.arcs → i < length net.arcs
+    → Fits net (set xs i (get_or xs i 0 + d)) → IsFull net xs j → IsFull net (set xs i (get_or xs i 0 + d)) j
 full_kept net xs i d j n l f e = elim (cases_eq j i) [
   | inl at ↦
-      let same : get_or (set xs i (get_or xs i 0 + d)) i 0 ≡ get_or xs i 0 + d = get_or-set_same xs i (get_or xs i 0 + d) 0 (omega arith) in
+      let same : get_or (set xs i (get_or xs i 0 + d)) i 0 ≡ get_or xs i 0 + d =
+      get_or-set_same xs i (get_or xs i 0 + d) 0 (omega arith) in
       let low : get_or (set xs i (get_or xs i 0 + d)) i 0 ≤ (arc_at net i).cap = f.within i l in
       let P : ℕ → Type 0 = λ k. get_or (set xs i (get_or xs i 0 + d)) k 0 ≡ (arc_at net k).cap in
       let Q : ℕ → Type 0 = λ k. get_or xs k 0 ≡ (arc_at net k).cap in
@@ -56,21 +68,28 @@ full_kept net xs i d j n l f e = elim (cases_eq j i) [
 ]
 
 -- more flow leaves them passed
-pub passed_kept : (net : Net) (places : List ArcPlace) (at rank : ℕ) (xs : List ℕ) (i d : ℕ) → length xs ≡ length net.arcs → i < length net.arcs → Fits net (set xs i (get_or xs i 0 + d)) → ArePassed net places at rank xs → ArePassed net places at rank (set xs i (get_or xs i 0 + d))
+pub passed_kept : (net : Net) (places : List ArcPlace) (at rank : ℕ) (xs : List ℕ) (i d : ℕ)
+    → length xs ≡ length net.arcs → i < length net.arcs → Fits net (set xs i (get_or xs i 0 + d))
+    → ArePassed net places at rank xs → ArePassed net places at rank (set xs i (get_or xs i 0 + d))
 passed_kept net places at rank xs i d n l f h k e b = elim (h k e b) [
   | inl less ↦ inl less
   | inr full ↦ inr (full_kept net xs i d (get_or places k e).arc n l f full)
 ]
 
 -- one place more
-pub passed_more : (net : Net) (places : List ArcPlace) (at rank : ℕ) (xs : List ℕ) → ArePassed net places at rank xs → ((d : ArcPlace) → (place_rank (get_or places at d) < rank) ⊎ IsFull net xs (get_or places at d).arc) → ArePassed net places (at + 1) rank xs
+pub passed_more : (net : Net) (places : List ArcPlace) (at rank : ℕ) (xs : List ℕ) → ArePassed net places at rank xs
+    → ((d : ArcPlace) → (place_rank (get_or places at d) < rank) ⊎ IsFull net xs (get_or places at d).arc)
+    → ArePassed net places (at + 1) rank xs
 passed_more net places at rank xs h here k d b = elim (cases_eq k at) [
-  | inl e ↦ (let P : ℕ → Type 0 = λ j. (place_rank (get_or places j d) < rank) ⊎ IsFull net xs (get_or places j d).arc in subst P (sym e) (here d))
+  | inl e ↦
+      (let P : ℕ → Type 0 = λ j. (place_rank (get_or places j d) < rank) ⊎ IsFull net xs (get_or places j d).arc in
+      subst P (sym e) (here d))
   | inr n ↦ h k d (omega arith)
 ]
 
 -- for a greater rank
-pub passed_further : (net : Net) (places : List ArcPlace) (at r s : ℕ) (xs : List ℕ) → r ≤ s → ArePassed net places at r xs → ArePassed net places at s xs
+pub passed_further : (net : Net) (places : List ArcPlace) (at r s : ℕ) (xs : List ℕ) → r ≤ s
+    → ArePassed net places at r xs → ArePassed net places at s xs
 passed_further net places at r s xs le h k d b = elim (h k d b) [
   | inl less ↦ inl (omega arith)
   | inr full ↦ inr full
@@ -78,43 +97,60 @@ passed_further net places at r s xs le h k d b = elim (h k d b) [
 
 -- ---- a pair without room
 
+-- the test of a pair tells its two nodes
 pair_at : (u v src dst : ℕ) → is_pair u v src dst ≡ true → (u ≡ src) × (v ≡ dst)
 pair_at u v src dst e = let p = and_parts (eqb u src) (eqb v dst) e in (eqb-true u src p.0, eqb-true v dst p.1)
 
 -- where the places of a pair are passed, its arcs are full
-pub pair_full : (net : Net) (places : List ArcPlace) (at src dst : ℕ) (xs : List ℕ) → AreOrderedArcs net places → Fits net xs → ArePassed net places at (pair_rank src dst) xs → (at < length places → pair_rank src dst < place_rank (get_or places at no_place)) → arc_flow net (is_pair src dst) xs ≡ pair_cap net src dst
-pair_full net places at src dst xs o f h past = full_over (λ a. is_pair src dst a.src a.dst) net.arcs xs (AllZip-from (λ a x. is_pair src dst a.src a.dst ≡ true → x ≡ a.cap) net.arcs xs f.count each)
+pub pair_full : (net : Net) (places : List ArcPlace) (at src dst : ℕ) (xs : List ℕ) → AreOrderedArcs net places
+    → Fits net xs → ArePassed net places at (pair_rank src dst) xs
+    → (at < length places → pair_rank src dst < place_rank (get_or places at no_place))
+    → arc_flow net (is_pair src dst) xs ≡ pair_cap net src dst
+pair_full net places at src dst xs o f h past =
+    full_over (λ a. is_pair src dst a.src a.dst) net.arcs xs
+    (AllZip-from (λ a x. is_pair src dst a.src a.dst ≡ true → x ≡ a.cap) net.arcs xs f.count each)
   where
-    each : (i : ℕ) → i < length net.arcs → is_pair src dst (arc_at net i).src (arc_at net i).dst ≡ true → get_or xs i 0 ≡ (arc_at net i).cap
+    each : (i : ℕ) → i < length net.arcs → is_pair src dst (arc_at net i).src (arc_at net i).dst ≡ true
+        → get_or xs i 0 ≡ (arc_at net i).cap
     each i l e =
         let ends = pair_at src dst (arc_at net i).src (arc_at net i).dst e in
         let c = o.listed.complete i l in
         let place : ArcPlace = place_of net i in
         let found : get_or places c.0 place ≡ place = c.2 in
-        let same : get_or places c.0 no_place ≡ get_or places c.0 place = get_or_default places c.0 no_place place c.1 in
-        let rank : place_rank (get_or places c.0 place) ≡ pair_rank src dst = ap place_rank found ∙ sym (ap (λ u. pair_rank u dst) ends.0 ∙ ap (pair_rank (arc_at net i).src) ends.1) in
+        let same : get_or places c.0 no_place ≡ get_or places c.0 place =
+        get_or_default places c.0 no_place place c.1 in
+        let rank : place_rank (get_or places c.0 place) ≡ pair_rank src dst =
+        ap place_rank found ∙ sym (ap (λ u. pair_rank u dst) ends.0 ∙ ap (pair_rank (arc_at net i).src) ends.1) in
         elim (cases_lt c.0 at) [
           | inl before ↦ (elim (h c.0 place before) [
             | inl less ↦ absurd (omega arith)
             | inr full ↦ subst (λ (p : ArcPlace). get_or xs p.arc 0 ≡ (arc_at net p.arc).cap) found full
           ])
-          | inr after ↦ (let up = o.ordered at c.0 no_place after c.1 in let high = past (omega (arith, c.1)) in let equal = ap place_rank same in absurd (omega arith))
+          | inr after ↦
+              (let up = o.ordered at c.0 no_place after c.1 in
+              let high = past (omega (arith, c.1)) in
+              let equal = ap place_rank same in
+              absurd (omega arith))
         ]
 
 -- ---- one arc after another
 
 -- a pair is told by its rank
-same_pair : (u v src dst : ℕ) → v < 4294967296 → dst < 4294967296 → pair_rank u v ≡ pair_rank src dst → (u ≡ src) × (v ≡ dst)
+same_pair : (u v src dst : ℕ) → v < 4294967296 → dst < 4294967296 → pair_rank u v ≡ pair_rank src dst
+    → (u ≡ src) × (v ≡ dst)
 same_pair u v src dst l k e = let first : u ≡ src = omega arith in (first, omega arith)
 
 -- What holds while the flow of a line is put on the arcs of its pair: what is left of it, and the flow then.
-pub record IsPouring (net : Net) (places : List ArcPlace) (at : ℕ) (before : List ℕ) (src dst amount left : ℕ) (xs : List ℕ) : Type 0 where
+pub record IsPouring (net : Net) (places : List ArcPlace) (at : ℕ) (before : List ℕ) (src dst amount left : ℕ)
+    (xs : List ℕ) : Type 0 where
   pub fits : Fits net xs
   pub at_most : left ≤ amount
   pub more : HasMore net before src dst (amount - left) xs
   pub passed : ArePassed net places at (pair_rank src dst) xs
 
-pub poured_none : (net : Net) (places : List ArcPlace) (at : ℕ) (before : List ℕ) (src dst amount : ℕ) → Fits net before → ArePassed net places at (pair_rank src dst) before → IsPouring net places at before src dst amount amount before
+-- before the first place
+pub poured_none : (net : Net) (places : List ArcPlace) (at : ℕ) (before : List ℕ) (src dst amount : ℕ) → Fits net before
+    → ArePassed net places at (pair_rank src dst) before → IsPouring net places at before src dst amount amount before
 poured_none net places at before src dst amount f p = record {
   fits = f;
   at_most = omega arith;
@@ -123,20 +159,31 @@ poured_none net places at before src dst amount f p = record {
 }
 
 -- a place of a lesser pair
-pub poured_past : (net : Net) (places : List ArcPlace) (at : ℕ) (before : List ℕ) (src dst amount left : ℕ) (xs : List ℕ) → at < length places → place_rank (get_or places at no_place) < pair_rank src dst → IsPouring net places at before src dst amount left xs → IsPouring net places (at + 1) before src dst amount left xs
+pub poured_past : (net : Net) (places : List ArcPlace) (at : ℕ) (before : List ℕ) (src dst amount left : ℕ)
+    (xs : List ℕ) → at < length places → place_rank (get_or places at no_place) < pair_rank src dst
+    → IsPouring net places at before src dst amount left xs
+    → IsPouring net places (at + 1) before src dst amount left xs
 poured_past net places at before src dst amount left xs l less h = record {
   fits = h.fits;
   at_most = h.at_most;
   more = h.more;
-  passed = passed_more net places at (pair_rank src dst) xs h.passed (λ d. inl (let same = ap place_rank (get_or_default places at d no_place l) in omega arith));
+  passed =
+      passed_more net places at (pair_rank src dst) xs h.passed
+      (λ d. inl (let same = ap place_rank (get_or_default places at d no_place l) in omega arith));
 }
 
 -- a place of the pair, whose arc takes all but r
-pub poured_here : (net : Net) (places : List ArcPlace) (at : ℕ) (before : List ℕ) (src dst amount left r : ℕ) (xs ys : List ℕ) → AreOrderedArcs net places → at < length places → dst < 4294967296 → (get_or places at no_place).dst < 4294967296 → place_rank (get_or places at no_place) ≡ pair_rank src dst → r ≤ left → ys ≡ set xs (get_or places at no_place).arc (get_or xs (get_or places at no_place).arc 0 + (left - r)) → Fits net ys → IsPouring net places at before src dst amount left xs → IsPouring net places at before src dst amount r ys
+pub poured_here : (net : Net) (places : List ArcPlace) (at : ℕ) (before : List ℕ) (src dst amount left r : ℕ)
+    (xs ys : List ℕ) → AreOrderedArcs net places → at < length places → dst < 4294967296
+    → (get_or places at no_place).dst < 4294967296 → place_rank (get_or places at no_place) ≡ pair_rank src dst
+    → r ≤ left → ys ≡ set xs (get_or places at no_place).arc (get_or xs (get_or places at no_place).arc 0 + (left - r))
+    → Fits net ys → IsPouring net places at before src dst amount left xs
+    → IsPouring net places at before src dst amount r ys
 poured_here net places at before src dst amount left r xs ys o l low low' e k w f h =
     let place = get_or places at no_place in
     let ends = same_pair place.src place.dst src dst low' low e in
-    let known = All-get_or (λ p. (p.arc < length net.arcs) × (p ≡ place_of net p.arc)) places at no_place l o.listed.sound in
+    let known = All-get_or (λ p. (p.arc < length net.arcs) × (p ≡ place_of net p.arc)) places at no_place l
+    o.listed.sound in
     let arc = place.arc in
     let first : (arc_at net arc).src ≡ src = sym (ap (λ p. p.src) known.1) ∙ ends.0 in
     let second : (arc_at net arc).dst ≡ dst = sym (ap (λ p. p.dst) known.1) ∙ ends.1 in
@@ -148,23 +195,33 @@ poured_here net places at before src dst amount left r xs ys o l low low' e k w 
       fits = f;
       at_most = omega (arith, h.at_most);
       more = subst (λ n. HasMore net before src dst n ys) all both;
-      passed = subst (λ zs. ArePassed net places at (pair_rank src dst) zs) (sym w) (passed_kept net places at (pair_rank src dst) xs arc (left - r) h.fits.count known.0 (subst (Fits net) w f) h.passed);
+      passed =
+          subst (λ zs. ArePassed net places at (pair_rank src dst) zs) (sym w)
+          (passed_kept net places at (pair_rank src dst) xs arc (left - r) h.fits.count known.0 (subst (Fits net) w f)
+          h.passed);
     }
 
 -- which is full then
-pub poured_full : (net : Net) (places : List ArcPlace) (at : ℕ) (before : List ℕ) (src dst amount left : ℕ) (xs : List ℕ) → at < length places → IsFull net xs (get_or places at no_place).arc → IsPouring net places at before src dst amount left xs → IsPouring net places (at + 1) before src dst amount left xs
+pub poured_full : (net : Net) (places : List ArcPlace) (at : ℕ) (before : List ℕ) (src dst amount left : ℕ)
+    (xs : List ℕ) → at < length places → IsFull net xs (get_or places at no_place).arc
+    → IsPouring net places at before src dst amount left xs
+    → IsPouring net places (at + 1) before src dst amount left xs
 poured_full net places at before src dst amount left xs l full h = record {
   fits = h.fits;
   at_most = h.at_most;
   more = h.more;
-  passed = passed_more net places at (pair_rank src dst) xs h.passed (λ d. inr (subst (λ (p : ArcPlace). IsFull net xs p.arc) (get_or_default places at no_place d l) full));
+  passed =
+      passed_more net places at (pair_rank src dst) xs h.passed
+      (λ d. inr (subst (λ (p : ArcPlace). IsFull net xs p.arc) (get_or_default places at no_place d l) full));
 }
 
 -- ---- all lines
 
+-- stands for a line past the last
 abbrev pub no_line : FlowLine
 no_line = record { src = 0; dst = 0; flow = 0 }
 
+-- a pair that comes before another has a lesser rank, and differs from it
 before_rank : (u v src dst : ℕ) → v < 4294967296 → IsBefore u v src dst → pair_rank u v < pair_rank src dst
 before_rank u v src dst l b = elim b [
   | inl less ↦ omega arith
@@ -177,22 +234,32 @@ other_pair u v src dst l = elim (cases_eq u src) [
   | inr n ↦ and_left (eqb u src) (eqb v dst) (ne_eqb u src n)
 ]
 
+-- a pair is itself
 own_pair : (u v : ℕ) → is_pair u v u v ≡ true
 own_pair u v = and_from (eqb u u) (eqb v v) (eq-eqb u u refl) (eq-eqb v v refl)
 
 -- the further lines are of no lesser pair
-none_further : (lines : List FlowLine) (i u v : ℕ) → IsNonDecreasingBy line_rank lines → pair_rank u v < line_rank (get_or lines i no_line) → line_flow (is_pair u v) (drop i lines) ≡ 0
+none_further : (lines : List FlowLine) (i u v : ℕ) → IsNonDecreasingBy line_rank lines
+    → pair_rank u v < line_rank (get_or lines i no_line) → line_flow (is_pair u v) (drop i lines) ≡ 0
 none_further lines i u v o l = line_flow_none (is_pair u v) (drop i lines) (λ k d b.
     let inside : i + k < length lines = omega (arith, length-drop i lines) in
     let up = o i (i + k) d (omega arith) inside in
-    let here : line_rank (get_or lines i d) ≡ line_rank (get_or lines i no_line) = ap line_rank (get_or_default lines i d no_line (omega arith)) in
+    let here : line_rank (get_or lines i d) ≡ line_rank (get_or lines i no_line) =
+    ap line_rank (get_or_default lines i d no_line (omega arith)) in
     let there : get_or (drop i lines) k d ≡ get_or lines (i + k) d = get_or-drop i lines k d in
-    subst (λ (x : FlowLine). is_pair u v x.src x.dst ≡ false) (sym there) (other_pair u v (get_or lines (i + k) d).src (get_or lines (i + k) d).dst (omega arith)))
+    subst (λ (x : FlowLine). is_pair u v x.src x.dst ≡ false) (sym there)
+    (other_pair u v (get_or lines (i + k) d).src (get_or lines (i + k) d).dst (omega arith)))
 
 -- no line leads past the last node
-none_past : (nodes : ℕ) (lines : List FlowLine) (u v : ℕ) → nodes < v → All (IsLineWithin nodes) lines → line_flow (is_pair u v) lines ≡ 0
-none_past nodes lines u v l h = line_flow_none (is_pair u v) lines (λ k d b. let w = (h k d b).dst_most in and_right (eqb u (get_or lines k d).src) (eqb v (get_or lines k d).dst) (ne_eqb v (get_or lines k d).dst (λ e. omega arith)))
+none_past : (nodes : ℕ) (lines : List FlowLine) (u v : ℕ) → nodes < v → All (IsLineWithin nodes) lines
+    → line_flow (is_pair u v) lines ≡ 0
+none_past nodes lines u v l h =
+    line_flow_none (is_pair u v) lines (λ k d b.
+    let w = (h k d b).dst_most in
+    and_right (eqb u (get_or lines k d).src) (eqb v (get_or lines k d).dst)
+    (ne_eqb v (get_or lines k d).dst (λ e. omega arith)))
 
+-- a sum with a part that passes the test, and with one that doesn't
 yes_step : (b : Bool) (x m k : ℕ) → b ≡ true → m ≡ k + cond b x 0 → m ≡ k + x
 yes_step b x m k e h = grind arith
 
@@ -200,9 +267,13 @@ no_step : (b : Bool) (x m k : ℕ) → b ≡ false → m ≡ k + cond b x 0 → 
 no_step b x m k e h = grind arith
 
 -- the first line that finds no room is of the least pair whose flow passes its capacity
-pub first_over : (net : Net) (lines : List FlowLine) (i left : ℕ) (xs ys : List ℕ) → IsNet net → All (IsLineWithin net.nodes) lines → IsNonDecreasingBy line_rank lines → i < length lines → Carries net (take i lines) xs
-    → HasMore net xs (get_or lines i no_line).src (get_or lines i no_line).dst ((get_or lines i no_line).flow - left) ys → 0 < left → left ≤ (get_or lines i no_line).flow
-    → arc_flow net (is_pair (get_or lines i no_line).src (get_or lines i no_line).dst) ys ≡ pair_cap net (get_or lines i no_line).src (get_or lines i no_line).dst → Fits net ys
+pub first_over : (net : Net) (lines : List FlowLine) (i left : ℕ) (xs ys : List ℕ) → IsNet net
+    → All (IsLineWithin net.nodes) lines → IsNonDecreasingBy line_rank lines → i < length lines
+    → Carries net (take i lines) xs
+    → HasMore net xs (get_or lines i no_line).src (get_or lines i no_line).dst ((get_or lines i no_line).flow - left) ys
+    → 0 < left → left ≤ (get_or lines i no_line).flow
+    → arc_flow net (is_pair (get_or lines i no_line).src (get_or lines i no_line).dst) ys
+    ≡ pair_cap net (get_or lines i no_line).src (get_or lines i no_line).dst → Fits net ys
     → IsFirstOver net lines (get_or lines i no_line).src (get_or lines i no_line).dst
 first_over net lines i left xs ys n w o l c m some part full f = record { over = over; least = least }
   where
@@ -217,27 +288,44 @@ first_over net lines i left xs ys n w o l c m some part full f = record { over =
 
     over : pair_cap net s t < pair_flow lines s t
     over =
-        let own : arc_flow net (is_pair s t) ys ≡ arc_flow net (is_pair s t) xs + (x - left) = yes_step (is_pair s t s t) (x - left) _ _ (own_pair s t) (m (is_pair s t)) in
-        let next : line_flow (is_pair s t) (take (i + 1) lines) ≡ line_flow (is_pair s t) (take i lines) + x = yes_step (is_pair s t s t) x _ _ (own_pair s t) (line_flow_more (is_pair s t) lines i no_line l) in
+        let own : arc_flow net (is_pair s t) ys ≡ arc_flow net (is_pair s t) xs + (x - left) =
+        yes_step (is_pair s t s t) (x - left) _ _ (own_pair s t) (m (is_pair s t)) in
+        let next : line_flow (is_pair s t) (take (i + 1) lines) ≡ line_flow (is_pair s t) (take i lines) + x =
+        yes_step (is_pair s t s t) x _ _ (own_pair s t) (line_flow_more (is_pair s t) lines i no_line l) in
         omega (arith, own, next, c (is_pair s t), line_flow-take-drop (is_pair s t) lines (i + 1), full, some, part)
 
     least : (u v : ℕ) → IsBefore u v s t → pair_flow lines u v ≤ pair_cap net u v
     least u v b = elim (cases_lt v 4294967296) [
       | inl low ↦
           let rank : pair_rank u v < pair_rank s t = before_rank u v s t low b in
-          let own : arc_flow net (is_pair u v) ys ≡ arc_flow net (is_pair u v) xs = no_step (is_pair u v s t) (x - left) _ _ (other_pair u v s t rank) (m (is_pair u v)) in
-          omega (arith, own, c (is_pair u v), none_further lines i u v o rank, line_flow-take-drop (is_pair u v) lines i, flow_over-le-cap_over (λ a. is_pair u v a.src a.dst) net.arcs ys (zip_from_fits net ys f))
+          let own : arc_flow net (is_pair u v) ys ≡ arc_flow net (is_pair u v) xs =
+          no_step (is_pair u v s t) (x - left) _ _ (other_pair u v s t rank) (m (is_pair u v)) in
+          omega (
+            arith,
+            own,
+            c (is_pair u v),
+            none_further lines i u v o rank,
+            line_flow-take-drop (is_pair u v) lines i,
+            flow_over-le-cap_over (λ a. is_pair u v a.src a.dst) net.arcs ys (zip_from_fits net ys f),
+          )
       | inr high ↦ omega (arith, none_past net.nodes lines u v (omega (arith, n.nodes_most)) w)
     ]
 
 -- what the flow carries with one line more
-pub carries_more : (net : Net) (lines : List FlowLine) (i : ℕ) (xs ys : List ℕ) → i < length lines → Carries net (take i lines) xs → HasMore net xs (get_or lines i no_line).src (get_or lines i no_line).dst (get_or lines i no_line).flow ys → Carries net (take (i + 1) lines) ys
-carries_more net lines i xs ys l c m p = m p ∙ ap (λ k. k + cond (p (get_or lines i no_line).src (get_or lines i no_line).dst) (get_or lines i no_line).flow 0) (c p) ∙ sym (line_flow_more p lines i no_line l)
+pub carries_more : (net : Net) (lines : List FlowLine) (i : ℕ) (xs ys : List ℕ) → i < length lines
+    → Carries net (take i lines) xs
+    → HasMore net xs (get_or lines i no_line).src (get_or lines i no_line).dst (get_or lines i no_line).flow ys
+    → Carries net (take (i + 1) lines) ys
+carries_more net lines i xs ys l c m p =
+    m p
+    ∙ ap (λ k. k + cond (p (get_or lines i no_line).src (get_or lines i no_line).dst) (get_or lines i no_line).flow 0)
+    (c p) ∙ sym (line_flow_more p lines i no_line l)
 
 -- a table of zeros carries no lines
 zero_step : (b : Bool) (m : ℕ) → m ≡ 0 → cond b 0 0 + m ≡ 0
 zero_step b m e = grind arith
 
+-- a flow of zeros over any arcs
 zeros_over : (p : Arc → Bool) (arcs : List Arc) → flow_over p arcs (replicate (length arcs) 0) ≡ 0
 zeros_over p [] = refl
 zeros_over p (a ∷ arcs) = zero_step (p a) _ (zeros_over p arcs)
@@ -246,10 +334,13 @@ pub carries_none : (net : Net) → Carries net [] (replicate (length net.arcs) 0
 carries_none net p = zeros_over (λ a. p a.src a.dst) net.arcs
 
 -- the order of the lines doesn't matter
-pub carries_moved : (net : Net) (lines ordered : List FlowLine) (xs : List ℕ) → IsPermutation lines ordered → Carries net ordered xs → Carries net lines xs
+pub carries_moved : (net : Net) (lines ordered : List FlowLine) (xs : List ℕ) → IsPermutation lines ordered
+    → Carries net ordered xs → Carries net lines xs
 carries_moved net lines ordered xs m c p = c p ∙ line_flow-IsPermutation p lines ordered m
 
-pub first_over_moved : (net : Net) (lines ordered : List FlowLine) (src dst : ℕ) → IsPermutation lines ordered → IsFirstOver net ordered src dst → IsFirstOver net lines src dst
+-- nor does it to the least pair that is over
+pub first_over_moved : (net : Net) (lines ordered : List FlowLine) (src dst : ℕ) → IsPermutation lines ordered
+    → IsFirstOver net ordered src dst → IsFirstOver net lines src dst
 first_over_moved net lines ordered src dst m h = record {
   over = omega (arith, h.over, line_flow-IsPermutation (is_pair src dst) lines ordered m);
   least = λ u v b. omega (arith, h.least u v b, line_flow-IsPermutation (is_pair u v) lines ordered m);

@@ -1,11 +1,11 @@
 -- What each job puts for an accepted problem, and with which status it ends.
-use Rattle.std.specs.Prelude.{◌≡◌, ◌↔◌, ℕ, Bool, true, false, List, IsTrue, IsFalse, if◌then◌else◌, Ok}
-use Rattle.flow_net.specs.Nets.{Instance, Net, IsNode}
+use Rattle.std.specs.Prelude.{◌≡◌, ◌↔◌, ℕ, Bool, true, false, List, IsTrue, IsFalse, Ok}
+use Rattle.flow_net.specs.Nets.{Instance, IsNode}
 use Rattle.flow_net.specs.NodeSets.{one_of}
 use Rattle.flow_net.specs.Flows.{IsFeasible, HasValue, IsGreatest, HasNoLoops}
 use Rattle.flow_net.specs.Cuts.{IsMinimumCut, IsLeastCapacity, capacity, IsInLeastSourceSide, IsInLeastSinkSide}
 use Rattle.flow_net.specs.Connectivity.{IsConnectivity, IsUndirectedConnectivity, IsPairConnectivity, IsUndirectedPairConnectivity}
-use Rattle.flow_text.specs.Output.{value_text, solve_text, cut_text, cut_text_with_arcs, connect_line, verdict_line}
+use Rattle.flow_text.specs.Output.{solve_text, cut_text, connect_line, verdict_line}
 use Rattle.flow_text.specs.Solution.{Written, solution}
 use Rattle.flow_text.specs.declared.verdicts.Verdict.{Verdict}
 use Rattle.flow_text.specs.declared.verdicts.Verdict.TheVariants.{Feasible, Optimal}
@@ -36,21 +36,13 @@ pub record IsCutOf (p : Instance) (value : ℕ) (sink : Bool) (X : ℕ → Bool)
   pub valued : capacity p.net X ≡ value
   pub nearest : IsNearest p sink X
 
--- the value alone, or the value and the flows
-abbrev pub solution_text : Bool → Net → ℕ → List ℕ → List ℕ
-solution_text value_only net value flows = if value_only then value_text value else solve_text net value flows
-
--- the value and the source side, and where it is asked for the arcs that leave it
-abbrev pub source_side_text : Bool → Net → ℕ → (ℕ → Bool) → List ℕ
-source_side_text arcs net value X = if arcs then cut_text_with_arcs net value X else cut_text net value X
-
 -- What `solve` puts: the value, and some flow that has it.
 pub record IsSolveText (p : Instance) (value_only : Bool) (text : List ℕ) : Type 0 where
   pub value : ℕ
   pub flows : List ℕ
   pub value_is : IsValueOf p value
   pub flow_is : IsFlowOf p value flows
-  pub text_is : text ≡ solution_text value_only p.net value flows
+  pub text_is : text ≡ solve_text value_only p.net value flows
 
 -- What `cut` puts: the value, and the source side of the minimum cut that is asked for.
 pub record IsCutText (p : Instance) (arcs sink : Bool) (text : List ℕ) : Type 0 where
@@ -58,7 +50,7 @@ pub record IsCutText (p : Instance) (arcs sink : Bool) (text : List ℕ) : Type 
   pub X : ℕ → Bool
   pub value_is : IsValueOf p value
   pub cut_is : IsCutOf p value sink X
-  pub text_is : text ≡ source_side_text arcs p.net value X
+  pub text_is : text ≡ cut_text arcs p.net value X
 
 -- the connectivity that is asked for: of the arcs in their direction or, undirected, of their ends; over all proper sets of
 -- nodes or, with the pair, over those with every source inside and every sink outside
@@ -67,12 +59,6 @@ IsConnectivityOf p false false k = IsConnectivity p.net k
 IsConnectivityOf p true false k = IsUndirectedConnectivity p.net k
 IsConnectivityOf p false true k = IsPairConnectivity p.net (one_of p.sources) (one_of p.sinks) k
 IsConnectivityOf p true true k = IsUndirectedPairConnectivity p.net (one_of p.sources) (one_of p.sinks) k
-
--- What `connect` puts: the connectivity that is asked for.
-pub record IsConnectText (p : Instance) (undirected pair : Bool) (text : List ℕ) : Type 0 where
-  pub value : ℕ
-  pub value_is : IsConnectivityOf p undirected pair value
-  pub text_is : text ≡ connect_line value
 
 -- the status of a check: 0 where the solution is right
 abbrev pub verdict_status : Verdict → ℕ
@@ -93,5 +79,6 @@ pub record IsCheckText (p : Instance) (q : List ℕ) (feasible_only : Bool) (tex
 abbrev pub IsAnswer : Job → Instance → List ℕ → List ℕ → ℕ → Type 0
 IsAnswer (Solve value_only) p q text status = IsSolveText p value_only text × (status ≡ 0)
 IsAnswer (Cut arcs sink) p q text status = IsCutText p arcs sink text × (status ≡ 0)
-IsAnswer (Connect undirected pair) p q text status = IsConnectText p undirected pair text × (status ≡ 0)
+IsAnswer (Connect undirected pair) p q text status =
+    (value : ℕ) × IsConnectivityOf p undirected pair value × (text ≡ connect_line value) × (status ≡ 0)
 IsAnswer (Check feasible_only) p q text status = IsCheckText p q feasible_only text status

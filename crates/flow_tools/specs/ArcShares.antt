@@ -2,7 +2,8 @@
 use Rattle.std.specs.Prelude.{◌≡◌, ℕ, ◌+◌, ◌*◌, ◌<◌, ◌⊎◌, Bool, List, length, slice_index, slice_index_or, if◌then◌else◌}
 use Rattle.std.specs.List.{All, Contains}
 use Rattle.std.specs.List.Sorted.{IsNonDecreasingBy}
-use Rattle.flow_net.specs.Nets.{Net, IsNet, arc_at, Instance}
+use Rattle.flow_net.specs.Nets.{Net, arc_at, Instance}
+use Rattle.flow_net.specs.Limits.{IsNet}
 use Rattle.flow_net.specs.NodeSets.{one_of}
 use Rattle.flow_net.specs.Flows.{flow_over, Fits, HasValue, IsGreatest}
 use Rattle.flow_text.specs.declared.solutions.FlowLine.{FlowLine}

@@ -1,10 +1,14 @@
 pub mod Streams
+pub mod Sending
+pub mod OnePass
 pub mod Reading
 pub mod Sides
 pub mod Answers
 pub mod Exits
+pub mod AnswerExits
 pub mod SolutionFlows
 pub mod Verdicts
+pub mod FeasibleSolutions
 pub mod ArcShares
 pub mod NodeSums
 pub mod Degrees

@@ -1,10 +1,11 @@
 -- How an input is read, in one pass.
-use Rattle.std.specs.Prelude.{◌≡◌, ◌≤◌, ◌⊎◌, ◌++◌, ℕ, Bool, true, false, List, length, Result, Ok, Err, Option, None, Some, ⊤}
+use Rattle.std.specs.Prelude.{◌≡◌, ◌⊎◌, ℕ, Bool, true, false, List, Result, Ok, Err, Option, None, Some, ⊤}
 use Rattle.std.specs.Io.KnownBytes.{Consumes}
 use Rattle.flow_text.specs.declared.faults.FaultCode.{FaultCode}
 use Rattle.flow_text.specs.declared.faults.ReadFault.{ReadFault}
 use Rattle.flow_text.specs.declared.faults.ReadFault.TheVariants.{Fault, OutOfMemory}
 use Rattle.flow_tools.specs.Streams.{Stream, IsKept, HasFailed, HasEnded}
+use Rattle.flow_tools.specs.OnePass.{IsOnePass}
 use Rattle.flow_tools.specs.declared.reading.Role.{Role}
 use Rattle.flow_tools.specs.declared.reading.Role.TheVariants.{Problem, Solution}
 use Rattle.flow_tools.specs.declared.jobs.Stop.{Stop}
@@ -31,14 +32,6 @@ is_solution Solution = true
 abbrev pub stop_for : Bool → ReadFault → Stop
 stop_for solution (Fault line code) = StopFault solution line code
 stop_for solution OutOfMemory = StopOutOfMemory
-
--- Some beginning of the text that lacks at most what one pull delivers has no early fault.
-pub record IsOnePass (early : List ℕ → Option (ℕ × FaultCode)) (text : List ℕ) : Type 0 where
-  pub front : List ℕ
-  pub last : List ℕ
-  pub joined : text ≡ front ++ last
-  pub short : length last ≤ 4096
-  pub quiet : early front ≡ None
 
 -- what the bytes that an input delivered are judged to be, and how that leaves the input
 abbrev pub IsJudged : {T : Type 0} → (List ℕ → Option (ℕ × FaultCode)) → (List ℕ → ℕ × FaultCode → Type 0) → (List ℕ → T → Type 0) → Stream → List ℕ → Bool → Result T Stop → Type 0

@@ -1,8 +1,7 @@
 -- What the flow lines of a solution add up to (solution files of the DIMACS format, 1990).
-use Rattle.std.specs.Prelude.{◌≡◌, ℕ, ◌==◌, ◌&&◌, Bool, List, sum_by, pos, ◌-ℤ◌, ℤ, if◌then◌else◌}
+use Rattle.std.specs.Prelude.{ℕ, ◌==◌, ◌&&◌, Bool, List, sum_by, pos, ◌-ℤ◌, ℤ, if◌then◌else◌}
 use Rattle.flow_net.specs.Nets.{Net, Instance}
 use Rattle.flow_net.specs.NodeSets.{one_of}
-use Rattle.flow_net.specs.Flows.{flow_over, IsFeasible}
 use Rattle.flow_net.specs.Cuts.{cap_over}
 use Rattle.flow_text.specs.declared.solutions.FlowLine.{FlowLine}
 
@@ -32,8 +31,3 @@ lines_into X lines = line_flow (λ src dst. X dst) lines
 -- what leaves the sources less what enters them, below 0 where more enters them
 abbrev pub net_outflow : Instance → List FlowLine → ℤ
 net_outflow p lines = pos (lines_out_of (one_of p.sources) lines) -ℤ pos (lines_into (one_of p.sources) lines)
-
--- some feasible flow carries in all, over the arcs of each pair of nodes, what the lines say of the pair
-abbrev pub IsFeasibleSolution : Instance → List FlowLine → Type 0
-IsFeasibleSolution p lines = (xs : List ℕ) × IsFeasible p.net (one_of p.sources) (one_of p.sinks) xs
-    × ((u v : ℕ) → flow_over (λ a. is_pair u v a.src a.dst) p.net.arcs xs ≡ pair_flow lines u v)

@@ -54,12 +54,3 @@ IsVerdict p w feasible_only (Value given found) = IsWithinCapacities p.net w.lin
 IsVerdict p w feasible_only (Feasible value) = IsRight p w × (feasible_only ≡ true) × (value ≡ w.value)
 IsVerdict p w feasible_only (NotMaximal value) = IsRight p w × (feasible_only ≡ false) × (value ≡ w.value) × ((k : ℕ) × IsGreatest p.net (one_of p.sources) (one_of p.sinks) k × (value < k))
 IsVerdict p w feasible_only (Optimal value) = IsRight p w × (feasible_only ≡ false) × (value ≡ w.value) × IsGreatest p.net (one_of p.sources) (one_of p.sinks) value
-
--- the verdict says that the flow lines are those of a feasible flow
-abbrev pub is_of_feasible : Verdict → Bool
-is_of_feasible (Over src dst flow cap) = false
-is_of_feasible (Unbalanced node into out) = false
-is_of_feasible (Value given found) = true
-is_of_feasible (Feasible value) = true
-is_of_feasible (NotMaximal value) = true
-is_of_feasible (Optimal value) = true

@@ -1,23 +1,31 @@
 //! The answers to a problem: what is computed, and what is put. All memory is asked for before anything is put.
-ghost use Rattle.std.specs.Prelude.{◌≡◌, [], ◌≤◌, ◌+◌, ◌*◌, length, IfOk};
+ghost use Rattle.std.specs.Prelude.{◌≡◌, [], ◌≤◌, length, IfOk};
+ghost use Rattle.flow_net.specs.Flows.{Fits};
+ghost use Rattle.flow_solve.specs.Bounds.{work_cells};
 ghost use Rattle.flow_tools.specs.Answers.{IsValueOf, IsFlowOf, IsCutOf};
-ghost use Rattle.flow_tools.specs.Exits.{Puts};
+ghost use Rattle.flow_tools.specs.AnswerExits.{Puts};
 ghost use Rattle.flow_tools.specs.Sides.{side_of};
 ghost use Rattle.flow_tools.specs.Streams.{over};
 
-use super::jobs::{CutForm, Job, Stop};
-use super::printing::{put_cut, put_solution};
-use super::streams::Output;
-use flow_net::{FlowTable, OutOfMemory, Problem};
-use flow_solve::{Method, reach, reach_back, work_len};
+use crate::jobs::{CutForm, Job, Stop};
+use crate::printing::{put_cut, put_solution};
+use crate::streams::Output;
+use flow_net::{FlowTable, Network, OutOfMemory, Problem};
+use flow_solve::{Method, cut_nearest_sinks, cut_nearest_sources, work_len};
 use std::alloc::Global;
 
-/// The greatest value, a flow that has it, and the cells that were lent to find it.
+/// The memory of a solver: a table of flows, and the cells that it works in.
+#[derive(Drop)]
+struct Room {
+    table: FlowTable,
+    work: Vec<u32>,
+}
+
+/// The greatest value, and a flow that has it.
 #[derive(Drop)]
 struct Solved {
     value: u128,
     table: FlowTable,
-    work: Vec<u32>,
 }
 
 /// Puts the greatest value, and unless it is asked for alone a flow that has it.
@@ -33,11 +41,7 @@ pub fn answer_solve<M: Method, O: Output>(
 ) -> Result<u8, Stop>
     ensures { Puts (Job.Solve value_only) problem.now [] (over (O.state out.old) (O.state out.new)) result }
 {
-    let Solved {
-        value,
-        table,
-        work: _,
-    } = match find_flow::<M>(alloc, problem) {
+    let Solved { value, table } = match find_flow::<M>(alloc, problem) {
         Ok(solved) => solved,
         Err(_) => return Err(Stop::OutOfMemory),
     };
@@ -66,71 +70,74 @@ pub fn answer_cut<M: Method, O: Output>(
         Ok(side) => side,
         Err(_) => return Err(Stop::OutOfMemory),
     };
-    let solved = match find_flow::<M>(alloc, problem) {
-        Ok(solved) => solved,
+    let room = match make_room(alloc, problem.net()) {
+        Ok(room) => room,
         Err(_) => return Err(Stop::OutOfMemory),
     };
-    put_side(problem, solved, side.as_mut_slice(), form, out)
+    put_side::<M, O>(problem, room, side.as_mut_slice(), form, out)
 }
 
-// Finds the greatest value and a flow that has it. All the memory is asked for first.
+/// All the memory that a solver needs.
+fn make_room(alloc: Global, net: &Network) -> Result<Room, OutOfMemory>
+    ensures fits { IfOk result (λ room. Fits net.now room.table.flows) }
+    ensures cells { IfOk result (λ room. work_cells net.now ≤ length room.work.items) }
+{
+    let table = FlowTable::new(alloc, net)?;
+    match Vec::from_elem(alloc, 0u32, work_len(net.nodes(), net.len())) {
+        Ok(work) => Ok(Room { table, work }),
+        Err(_) => Err(OutOfMemory),
+    }
+}
+
+/// Finds the greatest value and a flow that has it. All the memory is asked for first.
 fn find_flow<M: Method>(alloc: Global, problem: &Problem) -> Result<Solved, OutOfMemory>
     ensures value { IfOk result (λ solved. IsValueOf problem.now solved.value) }
     ensures flows { IfOk result (λ solved. IsFlowOf problem.now solved.value solved.table.flows) }
-    ensures cells { IfOk result (λ solved. 6 * problem.now.net.nodes + 2 * length problem.now.net.arcs + 2 ≤ length solved.work.items) }
 {
     let net = problem.net();
-    let mut table = FlowTable::new(alloc, net)?;
-    let mut work = match Vec::from_elem(alloc, 0u32, work_len(net.nodes(), net.len())) {
-        Ok(work) => work,
-        Err(_) => return Err(OutOfMemory),
-    };
-    let value = M::greatest(
-        net,
-        problem.sources(),
-        problem.sinks(),
-        &mut table,
-        work.as_mut_slice(),
-    );
-    Ok(Solved { value, table, work })
+    let Room {
+        mut table,
+        mut work,
+    } = make_room(alloc, net)?;
+    let (s, t) = (problem.sources(), problem.sinks());
+    let value = M::greatest(net, s, t, &mut table, work.as_mut_slice());
+    Ok(Solved { value, table })
 }
 
-// Marks the least source side in lent cells, or where `form.sink` is true the least sink side, and puts the cut.
-fn put_side<O: Output>(
+/// Finds a minimum cut in the memory of a solver, and puts it. It marks the cut's side in lent cells.
+fn put_side<M: Method, O: Output>(
     problem: &Problem,
-    mut solved: Solved,
+    mut room: Room,
     side: &mut [bool],
     form: CutForm,
     out: &mut O,
 ) -> Result<u8, Stop>
-    requires value { IsValueOf problem.now solved.value }
-    requires flows { IsFlowOf problem.now solved.value solved.table.flows }
-    requires cells { 6 * problem.now.net.nodes + 2 * length problem.now.net.arcs + 2 ≤ length solved.work.items }
+    requires fits { Fits problem.now.net room.table.flows }
+    requires cells { work_cells problem.now.net ≤ length room.work.items }
     requires side { length side.old ≡ problem.now.net.nodes }
     ensures { Puts (Job.Cut form.arcs form.sink) problem.now [] (over (O.state out.old) (O.state out.new)) result }
 {
-    mark_side(problem, &mut solved, form.sink, side);
-    match put_cut(out, problem.net(), solved.value, side, form) {
+    let value = find_cut::<M>(problem, &mut room, form.sink, side);
+    match put_cut(out, problem.net(), value, side, form) {
         Ok(()) => Ok(0),
         Err(_) => Err(Stop::WriteFailed),
     }
 }
 
-// Marks the least source side, or where `sink` is true the least sink side: by the residual network of a greatest flow.
-fn mark_side(problem: &Problem, solved: &mut Solved, sink: bool, side: &mut [bool])
-    requires value { IsValueOf problem.now solved.old.value }
-    requires flows { IsFlowOf problem.now solved.old.value solved.old.table.flows }
-    requires cells { 6 * problem.now.net.nodes + 2 * length problem.now.net.arcs + 2 ≤ length solved.old.work.items }
+/// Marks the least source side, or where `sink` is true the least sink side. Answers the capacity of a minimum cut.
+fn find_cut<M: Method>(problem: &Problem, room: &mut Room, sink: bool, side: &mut [bool]) -> u128
+    requires fits { Fits problem.now.net room.old.table.flows }
+    requires cells { work_cells problem.now.net ≤ length room.old.work.items }
     requires side { length side.old ≡ problem.now.net.nodes }
-    ensures cut { IsCutOf problem.now solved.old.value sink (side_of sink side.new) }
-    ensures value { solved.new.value ≡ solved.old.value }
+    ensures value { IsValueOf problem.now result }
+    ensures cut { IsCutOf problem.now result sink (side_of sink side.new) }
 {
     let net = problem.net();
     let (s, t) = (problem.sources(), problem.sinks());
-    let work = solved.work.as_mut_slice();
+    let work = room.work.as_mut_slice();
     if sink {
-        reach_back(net, s, t, &mut solved.table, work, side);
+        cut_nearest_sinks::<M>(net, s, t, &mut room.table, work, side)
     } else {
-        reach(net, s, t, &mut solved.table, work, side);
+        cut_nearest_sources::<M>(net, s, t, &mut room.table, work, side)
     }
 }

@@ -3,19 +3,19 @@ ghost use Rattle.std.specs.Prelude.{◌≡◌, ◌≤◌, ℕ, List, Ok};
 ghost use Rattle.flow_text.specs.Solution.{solution};
 ghost use Rattle.flow_text.specs.SolutionReading.{IsWithinLimits, written_in};
 ghost use Rattle.flow_tools.specs.Answers.{verdict_status};
-ghost use Rattle.flow_tools.specs.Exits.{Puts, Checks};
+ghost use Rattle.flow_tools.specs.AnswerExits.{Puts, Checks};
 ghost use Rattle.flow_tools.specs.Streams.{over};
 
-use super::checking::check;
-use super::jobs::{Job, Stop};
-use super::reading::{Role, read_all};
-use super::sending::put_all;
-use super::streams::{Input, Output};
+use crate::checking::check;
+use crate::jobs::{Job, Stop};
+use crate::reading::{Role, read_all};
+use crate::sending::put_all;
+use crate::streams::{Input, Output};
 use flow_net::Problem;
 use flow_text::{Solution, SolutionReader, Verdict, verdict_line};
 use std::alloc::Global;
 
-// The status of a check: 0 where the solution is right.
+/// The status of a check: 0 where the solution is right.
 fn status_of_verdict(verdict: &Verdict) -> u8
     ensures { result ≡ verdict_status verdict.now }
 {
@@ -25,7 +25,7 @@ fn status_of_verdict(verdict: &Verdict) -> u8
     }
 }
 
-// Puts the verdict on a solution that was read.
+/// Puts the verdict on a solution that was read.
 fn put_verdict<O: Output>(
     alloc: Global,
     problem: &Problem,
@@ -53,7 +53,7 @@ fn put_verdict<O: Output>(
 ///
 /// `Fault` where the solution has one, `ReadFailed` where a pull failed, `WriteFailed` where a put failed, and
 /// `OutOfMemory`.
-pub fn answer_check<J: Input, O: Output>(
+pub(crate) fn answer_check<J: Input, O: Output>(
     alloc: Global,
     problem: &Problem,
     feasible_only: bool,

@@ -1,10 +1,11 @@
 ghost use Rattle.std.specs.Prelude.{◌≡◌, ◌≤◌, length, IfOk};
+ghost use Rattle.flow_net.specs.declared.limits.TheConstants.{FEWEST_NODES, MOST_ARCS};
 ghost use Rattle.flow_text.specs.SolutionReading.{IsWithinLimits, written_in};
 
-use super::test_nets::{ARCS_A, ARCS_B, ARCS_C, ARCS_D, Triple};
 use super::*;
-use flow_net::{Arc, Network, Problem};
-use flow_text::{FlowLine, Solution, Verdict};
+use crate::test_nets::{ARCS_A, ARCS_B, ARCS_C, ARCS_D, Triple};
+use flow_net::{Arc, FEWEST_NODES, GREATEST_CAPACITY, MOST_NODES, Network, Problem};
+use flow_text::{FlowLine, GREATEST_VALUE, Solution, Verdict};
 use std::alloc::Global;
 use std::process::Abort;
 use std::test::Fail;
@@ -24,10 +25,10 @@ struct Case<'a> {
 
 fn network(rt: &impl Abort, alloc: Global, nodes: u32, arcs: &[Triple]) -> Network
     ensures nodes { result.nodes ≡ nodes }
-    ensures some { 2 ≤ nodes }
-    ensures few { length result.arcs ≤ 4000000 }
+    ensures some { FEWEST_NODES ≤ nodes }
+    ensures few { length result.arcs ≤ MOST_ARCS }
 {
-    assert!(rt; 2 <= nodes && nodes <= 1000000);
+    assert!(rt; FEWEST_NODES <= nodes && nodes <= MOST_NODES);
     let mut net = Network::new(alloc, nodes);
     for &(src, dst, cap) in arcs {
         assert!(rt; net.len() < 1000);
@@ -60,7 +61,7 @@ fn solution(rt: &impl Abort, alloc: Global, case: &Case) -> Result<Solution, Fai
 {
     let nodes = case.nodes;
     let value = case.value;
-    assert!(rt; value <= 73786976294838206460000000);
+    assert!(rt; value <= GREATEST_VALUE);
     let mut lines = Vec::new(alloc);
     for &(src, dst, flow) in case.lines {
         assert!(rt; lines.len() < 1000);
@@ -189,10 +190,10 @@ fn two_sources(rt: HostRuntime) -> Result<(), Fail> {
 
 #[test]
 fn large_numbers(rt: HostRuntime) -> Result<(), Fail> {
-    let most = u64::MAX;
+    let most = GREATEST_CAPACITY;
     let back = Verdict::Value {
         given: 0,
-        found: -18446744073709551615,
+        found: -(most as i128),
     };
     expect(
         &rt,

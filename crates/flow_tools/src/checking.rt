@@ -1,16 +1,18 @@
 //! The checker of solutions.
 ghost use Rattle.std.specs.Prelude.{◌≡◌, ◌↔◌, ℕ, Bool, ◌<◌, ◌^◌, true, false, IfOk, IsTrue, MatchOption};
 ghost use Rattle.flow_net.specs.NodeSets.{one_of};
-ghost use Rattle.flow_net.specs.Flows.{Fits, IsFeasible, HasGreatestValue};
+ghost use Rattle.flow_net.specs.Flows.{Fits, IsFeasible};
+ghost use Rattle.flow_net.specs.GreatestFlows.{HasGreatestValue};
 ghost use Rattle.flow_text.specs.SolutionReading.{IsWithinLimits, written_in};
-ghost use Rattle.flow_tools.specs.SolutionFlows.{pair_flow, pair_cap, IsFeasibleSolution};
-ghost use Rattle.flow_tools.specs.Verdicts.{IsVerdict, IsRight, IsWithinCapacities, is_of_feasible};
+ghost use Rattle.flow_tools.specs.SolutionFlows.{pair_flow, pair_cap};
+ghost use Rattle.flow_tools.specs.FeasibleSolutions.{IsFeasibleSolution, is_of_feasible};
+ghost use Rattle.flow_tools.specs.Verdicts.{IsVerdict, IsRight, IsWithinCapacities};
 ghost use Rattle.flow_tools.specs.ArcShares.{Carries, HasLessValue};
 
 use crate::node_flows::{first_unbalanced, node_flows, outflow_of_sources};
 use crate::sharing::{Shared, share_out};
 use flow_net::{FlowTable, Network, OutOfMemory, Problem};
-use flow_solve::{reach, work_len};
+use flow_solve::{has_augmenting_path, work_len};
 use flow_text::{FlowLine, Solution, Verdict};
 use std::alloc::Global;
 
@@ -52,16 +54,12 @@ fn is_greatest(alloc: Global, problem: &Problem, flow: &mut FlowTable) -> Result
     let Ok(mut work) = Vec::from_elem(alloc, 0u32, work_len(net.nodes(), net.len())) else {
         return Err(OutOfMemory);
     };
-    let Ok(mut side) = Vec::from_elem(alloc, false, net.nodes() as usize) else {
-        return Err(OutOfMemory);
-    };
-    let grows = reach(
+    let grows = has_augmenting_path(
         net,
         problem.sources(),
         problem.sinks(),
         flow,
         work.as_mut_slice(),
-        side.as_mut_slice(),
     );
     Ok(!grows)
 }

@@ -1,16 +1,18 @@
 //! The answer of a `connect` job: the connectivity of the problem's network.
 ghost use Rattle.std.specs.Prelude.{◌≡◌, [], ◌≤◌, true, false, length, if◌then◌else◌, IfOk};
 ghost use Rattle.std.specs.List.{All};
-ghost use Rattle.flow_net.specs.Nets.{AreTerminals, unit, both_ways};
+ghost use Rattle.flow_net.specs.declared.limits.TheConstants.{MOST_ARCS};
+ghost use Rattle.flow_net.specs.Limits.{AreTerminals};
+ghost use Rattle.flow_net.specs.DerivedNets.{unit, both_ways};
 ghost use Rattle.flow_net.specs.NodeSets.{one_of};
 ghost use Rattle.flow_net.specs.Connectivity.{IsConnectivity, IsPairConnectivity};
-ghost use Rattle.flow_tools.specs.Exits.{Puts};
+ghost use Rattle.flow_tools.specs.AnswerExits.{Puts};
 ghost use Rattle.flow_tools.specs.Streams.{over};
 
-use super::connecting::connectivity;
-use super::jobs::{Job, Stop};
-use super::sending::put_all;
-use super::streams::Output;
+use crate::connecting::connectivity;
+use crate::jobs::{ConnectForm, Job, Stop};
+use crate::sending::put_all;
+use crate::streams::Output;
 use flow_net::{FlowTable, Network, OutOfMemory, Problem};
 use flow_solve::{Method, work_len};
 use flow_text::connect_line;
@@ -18,7 +20,7 @@ use std::alloc::Global;
 
 /// The network in which a flow counts arcs: every capacity is 1, and where `undirected` is true each arc is there both ways.
 fn counting_network(mut net: Network, undirected: bool) -> Result<Network, OutOfMemory>
-    requires room { length net.arcs ≤ 4000000 }
+    requires room { length net.arcs ≤ MOST_ARCS }
     ensures { IfOk result (λ made. made ≡ unit (if undirected then both_ways net else net)) }
 {
     if undirected {
@@ -49,21 +51,20 @@ fn solve_connectivity<M: Method>(
 }
 
 /// Puts the connectivity that is asked for.
-pub fn answer_connect<M: Method, O: Output>(
+pub(crate) fn answer_connect<M: Method, O: Output>(
     alloc: Global,
     problem: Problem,
-    undirected: bool,
-    pair: bool,
+    form: ConnectForm,
     out: &mut O,
 ) -> Result<u8, Stop>
-    ensures { Puts (Job.Connect undirected pair) problem [] (over (O.state out.old) (O.state out.new)) result }
+    ensures { Puts (Job.Connect form.undirected form.pair) problem [] (over (O.state out.old) (O.state out.new)) result }
 {
     let (net, sources, sinks) = problem.into_parts();
-    let net = match counting_network(net, undirected) {
+    let net = match counting_network(net, form.undirected) {
         Ok(net) => net,
         Err(_) => return Err(Stop::OutOfMemory),
     };
-    let value = match solve_connectivity::<M>(alloc, &net, pair, &sources, &sinks) {
+    let value = match solve_connectivity::<M>(alloc, &net, form.pair, &sources, &sinks) {
         Ok(value) => value,
         Err(_) => return Err(Stop::OutOfMemory),
     };

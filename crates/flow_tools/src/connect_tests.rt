@@ -3,8 +3,8 @@
 ghost use Rattle.std.specs.Prelude.{◌≡◌, ◌≤◌};
 ghost use Rattle.std.specs.List.{All};
 
-use super::connecting::connectivity;
-use flow_net::{Arc, FlowTable, Network};
+use crate::connecting::connectivity;
+use flow_net::{Arc, FlowTable, MOST_ARCS, Network};
 use flow_solve::{Levels, Paths, work_len};
 use std::alloc::Global;
 
@@ -54,11 +54,14 @@ fn answer(alloc: Global, net: &Network) -> Option<(u64, u64)>
     Some((levels, paths))
 }
 
-/// Adds an arc, if the network can have it and there is memory.
-fn add(net: &mut Network, src: u32, dst: u32) {
+/// Adds an arc, and answers whether the network can have it and there is memory.
+#[must_use]
+fn add(net: &mut Network, src: u32, dst: u32) -> bool {
     let nodes = net.nodes();
-    if net.len() < 4_000_000 && 1 <= src && src <= nodes && 1 <= dst && dst <= nodes {
-        let _ = net.push(Arc { src, dst, cap: 1 });
+    if net.len() < MOST_ARCS && 1 <= src && src <= nodes && 1 <= dst && dst <= nodes {
+        net.push(Arc { src, dst, cap: 1 }).is_ok()
+    } else {
+        false
     }
 }
 
@@ -68,8 +71,9 @@ fn shuffle(seed: u64) -> u64 {
         .wrapping_add(1442695040888963407)
 }
 
-/// A network of some nodes and arcs that a number determines, perhaps both ways.
-fn random_network(alloc: Global, seed: u64) -> Network {
+/// A network of some nodes and arcs that a number determines, and for even numbers both ways; nothing if memory is
+/// refused.
+fn random_network(alloc: Global, seed: u64) -> Option<Network> {
     let mut state = shuffle(seed);
     let nodes = 2 + ((state >> 33) % 7) as u32;
     let mut net = Network::new(alloc, nodes);
@@ -77,42 +81,46 @@ fn random_network(alloc: Global, seed: u64) -> Network {
     let arcs = (state >> 33) % 40;
     for _ in 0..arcs {
         state = shuffle(state);
-        let src = 1 + ((state >> 33) % 8) as u32;
+        let src = 1 + ((state >> 33) as u32) % nodes;
         state = shuffle(state);
-        let dst = 1 + ((state >> 33) % 8) as u32;
-        add(&mut net, src, dst);
+        let dst = 1 + ((state >> 33) as u32) % nodes;
+        if !add(&mut net, src, dst) {
+            return None;
+        }
     }
-    if seed % 2 == 0 && net.len() < 4_000_000 {
-        let _ = net.both_ways();
+    if seed % 2 == 0 && (net.len() > MOST_ARCS || net.both_ways().is_err()) {
+        return None;
     }
-    net
+    Some(net)
 }
 
 /// Whether the connectivity of a network is a number, by either method; with `both` that of the network both ways.
 #[tactic(auto, using(crate::proofs::ConnectAnswers::unit_capacities))]
 fn has(alloc: Global, mut net: Network, both: bool, connectivity: u64) -> bool {
-    if both && (net.len() > 4_000_000 || net.both_ways().is_err()) {
+    if both && (net.len() > MOST_ARCS || net.both_ways().is_err()) {
         return false;
     }
     let net = net.unit();
     answer(alloc, &net) == Some((connectivity, connectivity))
 }
 
-/// Adds an arc from each node to each other of some consecutive ones.
-fn join_all(net: &mut Network, first: u32, last: u32) {
+/// Adds an arc from each node to each other of some consecutive ones, and answers whether all were added.
+#[must_use]
+fn join_all(net: &mut Network, first: u32, last: u32) -> bool {
     for src in first..last {
         for dst in first..last {
-            if src != dst {
-                add(net, src, dst);
+            if src != dst && !add(net, src, dst) {
+                return false;
             }
         }
     }
+    true
 }
 
 #[test]
 fn agrees_with_all_sets(rt: HostRuntime) {
     for seed in 0..3000u64 {
-        let net = random_network(rt.alloc(), seed);
+        let net = random_network(rt.alloc(), seed).expect(&rt, "memory");
         let least = least_of_sets(&net);
         assert_eq!(&rt; (seed, has(rt.alloc(), net, false, least)), (seed, true));
     }
@@ -122,9 +130,9 @@ fn agrees_with_all_sets(rt: HostRuntime) {
 fn parallel_arcs(rt: HostRuntime) {
     let mut net = Network::new(rt.alloc(), 3);
     for _ in 0..1000u32 {
-        add(&mut net, 1, 2);
-        add(&mut net, 2, 3);
-        add(&mut net, 3, 1);
+        assert!(&rt; add(&mut net, 1, 2));
+        assert!(&rt; add(&mut net, 2, 3));
+        assert!(&rt; add(&mut net, 3, 1));
     }
     assert!(&rt; has(rt.alloc(), net, false, 1000));
 }
@@ -133,7 +141,7 @@ fn parallel_arcs(rt: HostRuntime) {
 fn a_star_both_ways(rt: HostRuntime) {
     let mut net = Network::new(rt.alloc(), 5000);
     for i in 2u32..5001 {
-        add(&mut net, 1, i);
+        assert!(&rt; add(&mut net, 1, i));
     }
     assert!(&rt; has(rt.alloc(), net, true, 1));
 }
@@ -141,38 +149,38 @@ fn a_star_both_ways(rt: HostRuntime) {
 #[test]
 fn disconnected(rt: HostRuntime) {
     let mut net = Network::new(rt.alloc(), 20);
-    join_all(&mut net, 1, 11);
-    join_all(&mut net, 11, 21);
+    assert!(&rt; join_all(&mut net, 1, 11));
+    assert!(&rt; join_all(&mut net, 11, 21));
     assert!(&rt; has(rt.alloc(), net, false, 0));
 }
 
 #[test]
 fn complete(rt: HostRuntime) {
     let mut net = Network::new(rt.alloc(), 20);
-    join_all(&mut net, 1, 21);
+    assert!(&rt; join_all(&mut net, 1, 21));
     assert!(&rt; has(rt.alloc(), net, false, 19));
 }
 
 #[test]
 fn two_halves_with_few_arcs_between(rt: HostRuntime) {
     let mut net = Network::new(rt.alloc(), 60);
-    join_all(&mut net, 1, 31);
-    join_all(&mut net, 31, 61);
-    add(&mut net, 3, 40);
-    add(&mut net, 17, 41);
-    add(&mut net, 30, 59);
+    assert!(&rt; join_all(&mut net, 1, 31));
+    assert!(&rt; join_all(&mut net, 31, 61));
+    assert!(&rt; add(&mut net, 3, 40));
+    assert!(&rt; add(&mut net, 17, 41));
+    assert!(&rt; add(&mut net, 30, 59));
     assert!(&rt; has(rt.alloc(), net, true, 3));
 }
 
 #[test]
 fn thin_in_one_direction_alone(rt: HostRuntime) {
     let mut net = Network::new(rt.alloc(), 40);
-    join_all(&mut net, 1, 21);
-    join_all(&mut net, 21, 41);
+    assert!(&rt; join_all(&mut net, 1, 21));
+    assert!(&rt; join_all(&mut net, 21, 41));
     for i in 1u32..11 {
-        add(&mut net, i, i + 20);
+        assert!(&rt; add(&mut net, i, i + 20));
     }
-    add(&mut net, 40, 20);
-    add(&mut net, 39, 20);
+    assert!(&rt; add(&mut net, 40, 20));
+    assert!(&rt; add(&mut net, 39, 20));
     assert!(&rt; has(rt.alloc(), net, false, 2));
 }

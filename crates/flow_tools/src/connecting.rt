@@ -1,10 +1,13 @@
 //! Edge connectivity, by flows where every capacity is 1.
 ghost use Rattle.std.specs.Prelude.{◌≡◌, ◌≢◌, ℕ, ◌+◌, ◌-◌, ◌*◌, ◌≤◌, ◌<◌, Bool, true, false, List, length, drop, slice_index};
 ghost use Rattle.std.specs.List.{All};
-ghost use Rattle.flow_net.specs.Nets.{Net, IsNode, AreTerminals, unit};
+ghost use Rattle.flow_net.specs.Nets.{Net, IsNode};
+ghost use Rattle.flow_net.specs.Limits.{AreTerminals};
+ghost use Rattle.flow_net.specs.DerivedNets.{unit};
 ghost use Rattle.flow_net.specs.NodeSets.{one_of, just};
 ghost use Rattle.flow_net.specs.Flows.{Fits};
 ghost use Rattle.flow_net.specs.Connectivity.{leaving, IsProper, IsConnectivity, IsPairConnectivity};
+ghost use Rattle.flow_solve.specs.Bounds.{work_cells};
 ghost use Rattle.flow_tools.specs.Degrees.{AreDegrees, next_node};
 
 use flow_net::{FlowTable, Network};
@@ -69,12 +72,12 @@ fn pair_value<M: Method>(
     requires fits { Fits net.now flow.old.flows }
     requires unit { All (λ a. a.cap ≡ 1) net.now.arcs }
     requires terminals { AreTerminals net.now s.now t.now }
-    requires cells { 6 * net.now.nodes + 2 * length net.now.arcs + 2 ≤ length work.old }
+    requires cells { work_cells net.now ≤ length work.old }
     ensures pair { IsPairConnectivity net.now (one_of s.now) (one_of t.now) result }
     ensures never_lowered { flow.old.steps ≤ flow.new.steps }
     ensures steps { flow.new.steps ≤ flow.old.steps + M.steps_bound net.now }
     ensures still_fits { Fits net.now flow.new.flows }
-    ensures rest { drop (6 * net.now.nodes + 2 * length net.now.arcs + 2) work.new ≡ drop (6 * net.now.nodes + 2 * length net.now.arcs + 2) work.old }
+    ensures rest { drop (work_cells net.now) work.new ≡ drop (work_cells net.now) work.old }
 {
     let _ = net.nodes();
     M::greatest(net, s, t, flow, work) as u64
@@ -98,7 +101,7 @@ fn least_around<M: Method>(
 ) -> u64
     requires fits { Fits net.now flow.old.flows }
     requires unit { All (λ a. a.cap ≡ 1) net.now.arcs }
-    requires cells { length cells.old ≡ 6 * net.now.nodes + 2 * length net.now.arcs + 2 }
+    requires cells { length cells.old ≡ work_cells net.now }
     requires known { (X : ℕ → Bool) × IsProper net.now X × (leaving net.now X ≡ known) }
     ensures connectivity { IsConnectivity net.now result }
     ensures never_lowered { flow.old.steps ≤ flow.new.steps }
@@ -122,7 +125,7 @@ fn least_around<M: Method>(
 fn least_cut<M: Method>(net: &Network, flow: &mut FlowTable, cells: &mut [u32]) -> u64
     requires fits { Fits net.now flow.old.flows }
     requires unit { All (λ a. a.cap ≡ 1) net.now.arcs }
-    requires cells { length cells.old ≡ 6 * net.now.nodes + 2 * length net.now.arcs + 2 }
+    requires cells { length cells.old ≡ work_cells net.now }
     ensures connectivity { IsConnectivity net.now result }
     ensures never_lowered { flow.old.steps ≤ flow.new.steps }
     ensures steps { flow.new.steps ≤ flow.old.steps + 2 * (net.now.nodes - 1) * M.steps_bound net.now }
@@ -163,14 +166,14 @@ pub fn connectivity<M: Method>(
     requires fits { Fits net.now flow.old.flows }
     requires unit { All (λ a. a.cap ≡ 1) net.now.arcs }
     requires terminals { pair ≡ true → AreTerminals net.now s.now t.now }
-    requires cells { 6 * net.now.nodes + 2 * length net.now.arcs + 2 ≤ length work.old }
+    requires cells { work_cells net.now ≤ length work.old }
     ensures pair { pair ≡ true → IsPairConnectivity net.now (one_of s.now) (one_of t.now) result }
     ensures whole { pair ≡ false → IsConnectivity net.now result }
     ensures never_lowered { flow.old.steps ≤ flow.new.steps }
     ensures pair_steps { pair ≡ true → flow.new.steps ≤ flow.old.steps + M.steps_bound net.now }
     ensures steps { pair ≡ false → flow.new.steps ≤ flow.old.steps + 2 * (net.now.nodes - 1) * M.steps_bound net.now }
     ensures still_fits { Fits net.now flow.new.flows }
-    ensures rest { drop (6 * net.now.nodes + 2 * length net.now.arcs + 2) work.new ≡ drop (6 * net.now.nodes + 2 * length net.now.arcs + 2) work.old }
+    ensures rest { drop (work_cells net.now) work.new ≡ drop (work_cells net.now) work.old }
 {
     if pair {
         return pair_value::<M>(net, s, t, flow, work);

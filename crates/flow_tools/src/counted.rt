@@ -1,7 +1,7 @@
 //! Streams over std's readers and writers.
 ghost use Rattle.std.specs.Prelude.{◌≡◌, ◌^◌, ◌-◌, false};
 
-use super::streams::{Failed, Input, Output};
+use crate::streams::{Failed, Input, Output};
 use std::io::{Read, Write};
 
 /// A reader or a writer of std as an input or an output: one pull is one read, and one put is one write.

@@ -1,6 +1,6 @@
 //! Readers and writers that fail once and then work, with their calls counted: no contract counts the calls of a device.
-use super::test_nets::{NET_A, SOLVED_A};
-use super::{Counted, Failed, Input, Job, Output, put_all, run};
+use crate::test_nets::{NET_A, SOLVED_A};
+use crate::{Counted, Failed, Input, Job, Output, put_all, run};
 use std::alloc::Global;
 use std::io::{ErrorKind, Read, Write};
 use std::process::Abort;

@@ -2,14 +2,15 @@
 ghost use Rattle.std.specs.Prelude.{◌+◌, ◌≤◌, ◌++◌, OnOk};
 ghost use Rattle.arrayvec.specs.ArrayVec.{array_vec_len};
 ghost use Rattle.flow_text.specs.Output.{arc_line, flow_line, node_line};
-ghost use Rattle.flow_tools.specs.Streams.{IsGathered, over};
+ghost use Rattle.flow_tools.specs.Streams.{over};
+ghost use Rattle.flow_tools.specs.Sending.{IsGathered};
 
-use super::sending::{Gathered, put_all};
-use super::streams::{Failed, Output};
+use crate::sending::{Gathered, put_all};
+use crate::streams::{Failed, Output};
 use flow_net::Arc;
 use flow_text::{MOST_LINE_BYTES, push_arc_line, push_flow_line, push_node_line};
 
-// Puts what waits where there is no room for a line behind it.
+/// Puts what waits where there is no room for a line behind it.
 #[inline(always)]
 fn make_room<O: Output>(out: &mut O, waiting: &mut Gathered) -> Result<(), Failed>
     ensures room { OnOk result (array_vec_len waiting.new + MOST_LINE_BYTES ≤ 65536) }

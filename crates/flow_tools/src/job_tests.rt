@@ -1,9 +1,9 @@
 //! Runs of `connect` and `check` over memory, and large problems.
 
-use super::Job;
-use super::memory::Script;
-use super::test_nets::{NET_A, NET_B, NET_C, NET_D, NO_ARCS};
-use super::test_runs::{answer, answer_both};
+use crate::Job;
+use crate::memory::Script;
+use crate::test_nets::{NET_A, NET_B, NET_C, NET_D, NO_ARCS};
+use crate::test_runs::{answer, answer_both};
 use flow_net::Arc;
 use flow_text::{arc_line, flow_line};
 use std::alloc::Global;
@@ -17,32 +17,52 @@ const OPPOSITE: &[u8] = b"p max 2 3\nn 1 s\nn 2 t\na 1 2 1\na 1 2 1\na 2 1 1\n";
 
 const ONLY_A_LOOP: &[u8] = b"p max 2 1\nn 1 s\nn 2 t\na 1 1 5\n";
 
-/// Whether arcs count by their ends, whether the terminals are set apart, a problem, and its connectivity.
-type Connected = (bool, bool, &'static [u8], &'static [u8]);
+const DIRECTED: Job = Job::Connect {
+    undirected: false,
+    pair: false,
+};
+
+const UNDIRECTED: Job = Job::Connect {
+    undirected: true,
+    pair: false,
+};
+
+const DIRECTED_PAIR: Job = Job::Connect {
+    undirected: false,
+    pair: true,
+};
+
+const UNDIRECTED_PAIR: Job = Job::Connect {
+    undirected: true,
+    pair: true,
+};
+
+/// Which connectivity is asked for, a problem, and the line that tells it.
+type Connected = (Job, &'static [u8], &'static [u8]);
 
 const CONNECTIVITIES: [Connected; 21] = [
-    (false, false, NO_ARCS, b"k 0\n"),
-    (true, false, NO_ARCS, b"k 0\n"),
-    (false, true, NO_ARCS, b"k 0\n"),
-    (true, true, NO_ARCS, b"k 0\n"),
-    (false, false, RING, b"k 1\n"),
-    (true, false, RING, b"k 2\n"),
-    (false, true, RING, b"k 1\n"),
-    (true, true, RING, b"k 2\n"),
-    (false, false, NET_A, b"k 0\n"),
-    (true, false, NET_A, b"k 2\n"),
-    (false, true, NET_A, b"k 2\n"),
-    (true, true, NET_A, b"k 2\n"),
-    (false, false, OPPOSITE, b"k 1\n"),
-    (true, false, OPPOSITE, b"k 3\n"),
-    (false, true, OPPOSITE, b"k 2\n"),
-    (true, true, OPPOSITE, b"k 3\n"),
-    (false, false, ONLY_A_LOOP, b"k 0\n"),
-    (true, false, ONLY_A_LOOP, b"k 0\n"),
-    (false, true, ONLY_A_LOOP, b"k 0\n"),
-    (true, true, ONLY_A_LOOP, b"k 0\n"),
+    (DIRECTED, NO_ARCS, b"k 0\n"),
+    (UNDIRECTED, NO_ARCS, b"k 0\n"),
+    (DIRECTED_PAIR, NO_ARCS, b"k 0\n"),
+    (UNDIRECTED_PAIR, NO_ARCS, b"k 0\n"),
+    (DIRECTED, RING, b"k 1\n"),
+    (UNDIRECTED, RING, b"k 2\n"),
+    (DIRECTED_PAIR, RING, b"k 1\n"),
+    (UNDIRECTED_PAIR, RING, b"k 2\n"),
+    (DIRECTED, NET_A, b"k 0\n"),
+    (UNDIRECTED, NET_A, b"k 2\n"),
+    (DIRECTED_PAIR, NET_A, b"k 2\n"),
+    (UNDIRECTED_PAIR, NET_A, b"k 2\n"),
+    (DIRECTED, OPPOSITE, b"k 1\n"),
+    (UNDIRECTED, OPPOSITE, b"k 3\n"),
+    (DIRECTED_PAIR, OPPOSITE, b"k 2\n"),
+    (UNDIRECTED_PAIR, OPPOSITE, b"k 3\n"),
+    (DIRECTED, ONLY_A_LOOP, b"k 0\n"),
+    (UNDIRECTED, ONLY_A_LOOP, b"k 0\n"),
+    (DIRECTED_PAIR, ONLY_A_LOOP, b"k 0\n"),
+    (UNDIRECTED_PAIR, ONLY_A_LOOP, b"k 0\n"),
     // All that leaves the two sources passes one arc.
-    (false, true, NET_D, b"k 1\n"),
+    (DIRECTED_PAIR, NET_D, b"k 1\n"),
 ];
 
 /// Expects an answer to a problem alone, from pieces of 4,096 bytes.
@@ -56,8 +76,7 @@ fn expect(rt: &impl Abort, alloc: Global, job: Job, problem: &[u8], text: &[u8])
 
 #[test]
 fn connectivities(rt: HostRuntime) -> Result<(), Fail> {
-    for (undirected, pair, problem, text) in CONNECTIVITIES {
-        let job = Job::Connect { undirected, pair };
+    for (job, problem, text) in CONNECTIVITIES {
         expect(&rt, rt.alloc(), job, problem, text);
     }
     Ok(())
@@ -170,11 +189,7 @@ fn a_ring_of_2000_nodes(rt: HostRuntime) -> Result<(), Fail> {
         add_arc(&mut text, v, v + 1, 1)?;
     }
     add_arc(&mut text, 2000, 1, 1)?;
-    for (undirected, wanted) in [(false, b"k 1\n"), (true, b"k 2\n")] {
-        let job = Job::Connect {
-            undirected,
-            pair: false,
-        };
+    for (job, wanted) in [(DIRECTED, b"k 1\n"), (UNDIRECTED, b"k 2\n")] {
         expect(&rt, rt.alloc(), job, text.as_slice(), wanted.as_slice());
     }
     Ok(())

@@ -40,6 +40,15 @@ pub(crate) struct CutForm {
     pub sink: bool,
 }
 
+/// Which connectivity a [`Job::Connect`] asks for.
+#[derive(Clone, Copy)]
+pub(crate) struct ConnectForm {
+    /// Arcs count by their ends, not by their direction.
+    pub undirected: bool,
+    /// The sets that count have every source inside and every sink outside.
+    pub pair: bool,
+}
+
 /// Why a run ends without an answer.
 #[derive(Clone, Copy, Debug, PartialEq, Eq)]
 pub enum Stop {

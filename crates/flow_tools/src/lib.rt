@@ -46,6 +46,8 @@ mod connect_tests;
 #[cfg(test)]
 mod counted_tests;
 #[cfg(test)]
+mod growth_tests;
+#[cfg(test)]
 mod job_tests;
 #[cfg(test)]
 mod stream_tests;

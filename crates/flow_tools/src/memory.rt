@@ -2,9 +2,9 @@
 ghost use Rattle.std.specs.Prelude.{◌≡◌, ◌≢◌, ◌≤◌, ◌<◌, ◌+◌, ◌-◌, ◌^◌, ℕ, [], Some, length, slice_index, true, false, IfOk, OnOk, OnErr};
 ghost use Rattle.std.specs.Io.KnownBytes.{ReadConsumes, WriteAppends};
 ghost use Rattle.arrayvec.specs.ArrayVec.{array_vec_len};
-ghost use Rattle.flow_tools.specs.Streams.{Flags, Lowers, TakesSome};
+ghost use Rattle.flow_tools.specs.Streams.{Flags};
 
-use super::streams::{Failed, Input, Output};
+use crate::streams::{Failed, Input, Output};
 use arrayvec::ArrayVec;
 
 /// An input that delivers given bytes in pieces, and fails at the pull with a given number.
@@ -48,7 +48,7 @@ impl<'a> Script<'a> {
         }
     }
 
-    // How many bytes the next pull delivers.
+    /// How many bytes the next pull delivers.
     fn next_len(&self) -> usize
         ensures fits { result ≤ 4096 }
         ensures most { result ≤ self.now.most }
@@ -76,7 +76,7 @@ impl Input for Script<'_> {
     fn pull(&mut self, buf: &mut [u8; 4096]) -> Result<usize, Failed>
         ensures fits { IfOk result (λ n. n ≤ 4096) }
         ensures bytes { ReadConsumes (Some self.old.rest.now) (Some self.new.rest.now) result buf.new }
-        ensures falls { Lowers (length self.old.rest.now) (length self.new.rest.now) result }
+        ensures falls { IfOk result (λ n. 0 < n → length self.new.rest.now < length self.old.rest.now) }
         ensures flag { Flags self.old.failed self.new.failed result }
         ensures most { IfOk result (λ n. n ≤ self.old.most) }
         ensures lines { IfOk result (λ n. self.old.lines ≡ true → (k : ℕ) → k + 1 < n → slice_index self.old.rest.now k ≢ 10) }
@@ -150,7 +150,7 @@ impl<const N: usize> Output for Collector<N> {
 
     fn put(&mut self, bytes: &[u8]) -> Result<usize, Failed>
         ensures fits { IfOk result (λ n. n ≤ length bytes.now) }
-        ensures some { TakesSome bytes.now result }
+        ensures some { IfOk result (λ n. 0 < length bytes.now → 0 < n) }
         ensures bytes { WriteAppends (Some self.old.bytes.items) (Some self.new.bytes.items) result bytes.now }
         ensures flag { Flags self.old.failed self.new.failed result }
         ensures most { IfOk result (λ n. n ≤ self.old.most) }

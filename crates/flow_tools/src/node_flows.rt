@@ -1,8 +1,11 @@
 //! What the flow lines of a solution add up to at each node.
 ghost use Rattle.std.specs.Prelude.{◌≡◌, ℕ, ◌+◌, ◌-◌, ◌<◌, ◌≤◌, ◌^◌, ◌||◌, List, length, slice_index, slice_set, sum_by, replicate, IfOk, MatchOption};
 ghost use Rattle.std.specs.List.{All};
-ghost use Rattle.flow_net.specs.NodeSets.{one_of, marked};
+ghost use Rattle.flow_net.specs.declared.limits.TheConstants.{MOST_NODES};
+ghost use Rattle.flow_net.specs.NodeSets.{one_of};
+ghost use Rattle.flow_net.specs.MarkedNodes.{marked};
 ghost use Rattle.flow_text.specs.SolutionReading.{IsLineWithin};
+ghost use Rattle.flow_text.specs.declared.limits.TheConstants.{MOST_FLOW_LINES};
 ghost use Rattle.flow_text.specs.declared.solutions.FlowLine.{FlowLine};
 ghost use Rattle.flow_tools.specs.SolutionFlows.{net_outflow};
 ghost use Rattle.flow_tools.specs.Verdicts.{IsBalanced, IsFirstUnbalanced};
@@ -33,7 +36,7 @@ fn add(cells: &mut [u128], node: u32, flow: u64)
 fn tally(lines: &[FlowLine], into: &mut [u128], out: &mut [u128])
     requires zero_into { into.old ≡ replicate (length into.old) 0 }
     requires zero_out { out.old ≡ replicate (length into.old) 0 }
-    requires few { length lines.now ≤ 4000000 }
+    requires few { length lines.now ≤ MOST_FLOW_LINES }
     requires within { All (IsLineWithin (length into.old)) lines.now }
     ensures { HaveTallied (length into.old) lines.now into.new out.new }
 {
@@ -49,7 +52,7 @@ pub(crate) fn node_flows(
     nodes: u32,
     lines: &[FlowLine],
 ) -> Result<NodeFlows, OutOfMemory>
-    requires few { length lines.now ≤ 4000000 }
+    requires few { length lines.now ≤ MOST_FLOW_LINES }
     requires within { All (IsLineWithin nodes) lines.now }
     ensures { IfOk result (λ flows. AreNodeFlows nodes lines.now flows.into.items flows.out.items) }
 {
@@ -76,7 +79,7 @@ fn mark(cells: &mut [bool], nodes: &[u32])
 /// Marks the sources and the sinks, cell `v - 1` for node `v`.
 fn terminals(alloc: Global, problem: &Problem) -> Result<Vec<bool>, OutOfMemory>
     ensures len { IfOk result (λ cells. length cells.items ≡ problem.now.net.nodes) }
-    ensures few { IfOk result (λ cells. length cells.items ≤ 1000000) }
+    ensures few { IfOk result (λ cells. length cells.items ≤ MOST_NODES) }
     ensures marked { IfOk result (λ cells. (v : ℕ) → marked cells.items v ≡ (one_of problem.now.sources v || one_of problem.now.sinks v)) }
 {
     let Ok(mut cells) = Vec::from_elem(alloc, false, problem.net().nodes() as usize) else {
@@ -91,7 +94,7 @@ fn terminals(alloc: Global, problem: &Problem) -> Result<Vec<bool>, OutOfMemory>
 fn first_unequal(marks: &[bool], into: &[u128], out: &[u128]) -> Option<u32>
     requires into { length into.now ≡ length marks.now }
     requires out { length out.now ≡ length marks.now }
-    requires few { length marks.now ≤ 1000000 }
+    requires few { length marks.now ≤ MOST_NODES }
     ensures { MatchOption result (AreEqualUnless marks.now into.now out.now (length marks.now)) (IsFirstUnequal marks.now into.now out.now) }
 {
     for i in 0..marks.len() {

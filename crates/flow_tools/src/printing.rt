@@ -2,15 +2,15 @@
 ghost use Rattle.std.specs.Prelude.{◌≡◌, ◌≤◌, ◌++◌, [], length, filter};
 ghost use Rattle.std.specs.List.{flat_map, zip};
 ghost use Rattle.flow_net.specs.Cuts.{leaves};
-ghost use Rattle.flow_text.specs.Output.{arc_flow_line, arc_line, node_line, nodes_inside, solution_line};
-ghost use Rattle.flow_tools.specs.Answers.{solution_text, source_side_text};
+ghost use Rattle.flow_text.specs.Output.{arc_flow_line, arc_line, node_line, nodes_inside, solution_line, solve_text, cut_text};
 ghost use Rattle.flow_tools.specs.Sides.{side_of};
-ghost use Rattle.flow_tools.specs.Streams.{IsGathered, IsPut, over};
+ghost use Rattle.flow_tools.specs.Streams.{over};
+ghost use Rattle.flow_tools.specs.Sending.{IsGathered, IsPut};
 
-use super::gathering::{gather_arc_line, gather_flow_line, gather_node_line};
-use super::jobs::CutForm;
-use super::sending::{Gathered, put_all};
-use super::streams::{Failed, Output};
+use crate::gathering::{gather_arc_line, gather_flow_line, gather_node_line};
+use crate::jobs::CutForm;
+use crate::sending::{Gathered, put_all};
+use crate::streams::{Failed, Output};
 use flow_net::{Arc, Network};
 use flow_text::solution_line;
 
@@ -19,7 +19,7 @@ use flow_text::solution_line;
 /// # Errors
 ///
 /// `Failed` where a put failed. A beginning of the text was then taken.
-pub fn put_solution<O: Output>(
+pub(crate) fn put_solution<O: Output>(
     out: &mut O,
     net: &Network,
     value: u128,
@@ -27,7 +27,7 @@ pub fn put_solution<O: Output>(
     value_only: bool,
 ) -> Result<(), Failed>
     requires count { length flows.now ≡ length net.now.arcs }
-    ensures { let text = solution_text value_only net.now value flows.now in
+    ensures { let text = solve_text value_only net.now value flows.now in
         IsPut text (over (O.state out.old) (O.state out.new)) result }
 {
     if value_only {
@@ -47,7 +47,7 @@ pub fn put_solution<O: Output>(
 /// # Errors
 ///
 /// `Failed` where a put failed. A beginning of the text was then taken.
-pub fn put_cut<O: Output>(
+pub(crate) fn put_cut<O: Output>(
     out: &mut O,
     net: &Network,
     value: u128,
@@ -55,7 +55,7 @@ pub fn put_cut<O: Output>(
     form: CutForm,
 ) -> Result<(), Failed>
     requires count { length side.now ≡ net.now.nodes }
-    ensures { let text = source_side_text form.arcs net.now value (side_of form.sink side.now) in
+    ensures { let text = cut_text form.arcs net.now value (side_of form.sink side.now) in
         IsPut text (over (O.state out.old) (O.state out.new)) result }
 {
     let mut waiting = Gathered::new();
@@ -68,7 +68,7 @@ pub fn put_cut<O: Output>(
     put_all(out, waiting.as_slice())
 }
 
-// Gathers the line of the value, the first of a text.
+/// Gathers the line of the value, the first of a text.
 fn gather_value(waiting: &mut Gathered, value: u128)
     requires empty { waiting.old.items ≡ [] }
     ensures { waiting.new.items ≡ solution_line value }
@@ -76,7 +76,7 @@ fn gather_value(waiting: &mut Gathered, value: u128)
     let _ = waiting.try_extend_from_slice(solution_line(value).as_slice());
 }
 
-// Gathers the flow line of each arc.
+/// Gathers the flow line of each arc.
 fn gather_flows<O: Output>(
     out: &mut O,
     waiting: &mut Gathered,
@@ -94,7 +94,7 @@ fn gather_flows<O: Output>(
     Ok(())
 }
 
-// Whether a node lies in the source side.
+/// Whether a node lies in the source side.
 fn is_inside(side: &[bool], sink: bool, node: u32) -> bool
     requires least { 1 ≤ node }
     requires most { node ≤ length side.now }
@@ -103,7 +103,7 @@ fn is_inside(side: &[bool], sink: bool, node: u32) -> bool
     side[node as usize - 1] != sink
 }
 
-// Gathers the line of each node of the source side.
+/// Gathers the line of each node of the source side.
 fn gather_nodes<O: Output>(
     out: &mut O,
     waiting: &mut Gathered,
@@ -125,7 +125,7 @@ fn gather_nodes<O: Output>(
     Ok(())
 }
 
-// Whether an arc leaves the source side.
+/// Whether an arc leaves the source side.
 fn does_leave(side: &[bool], sink: bool, arc: Arc) -> bool
     requires src_least { 1 ≤ arc.src }
     requires src_most { arc.src ≤ length side.now }
@@ -136,7 +136,7 @@ fn does_leave(side: &[bool], sink: bool, arc: Arc) -> bool
     is_inside(side, sink, arc.src) && !is_inside(side, sink, arc.dst)
 }
 
-// Gathers the line of each arc that leaves the source side.
+/// Gathers the line of each arc that leaves the source side.
 fn gather_arcs<O: Output>(
     out: &mut O,
     waiting: &mut Gathered,

@@ -5,7 +5,7 @@ ghost use Rattle.flow_text.specs.ProblemReading.{Reads};
 ghost use Rattle.flow_text.specs.Solution.{early_solution, solution};
 ghost use Rattle.flow_text.specs.SolutionReading.{ReadsSolution, IsWithinLimits, written_in};
 
-use super::reading::Reader;
+use crate::reading::Reader;
 use flow_net::Problem;
 use flow_text::{ProblemReader, ReadFault, Solution, SolutionReader};
 

@@ -5,8 +5,8 @@ ghost use Rattle.flow_text.specs.declared.faults.FaultCode.{FaultCode};
 ghost use Rattle.flow_tools.specs.Streams.{over};
 ghost use Rattle.flow_tools.specs.Reading.{FeedsOn, FinishesAs, IsRead, is_solution, stop_for};
 
-use super::jobs::Stop;
-use super::streams::Input;
+use crate::jobs::Stop;
+use crate::streams::Input;
 use flow_text::ReadFault;
 
 /// Which input of a run a text is.
@@ -19,7 +19,7 @@ pub(crate) enum Role {
 }
 
 /// A reader that is fed a text in pieces: of a problem, or of a solution of a problem with so many nodes.
-pub trait Reader {
+pub(crate) trait Reader {
     /// What an accepted text stands for.
     type Parsed;
 
@@ -52,7 +52,7 @@ pub trait Reader {
 /// # Errors
 ///
 /// Why the run stops: a fault of the text, `ReadFailed` where a pull failed, or `OutOfMemory` where the reader found none.
-pub fn read_all<I: Input, R: Reader + Drop>(
+pub(crate) fn read_all<I: Input, R: Reader + Drop>(
     input: &mut I,
     reader: R,
     role: Role,
@@ -78,7 +78,7 @@ pub fn read_all<I: Input, R: Reader + Drop>(
     }
 }
 
-// What a run stops with where a reader refuses.
+/// What a run stops with where a reader refuses.
 fn stop_of(fault: ReadFault, role: Role) -> Stop
     ensures { result ≡ stop_for (is_solution role) fault }
 {

@@ -1,15 +1,15 @@
 //! The run of a job over its streams.
-ghost use Rattle.std.specs.Prelude.{◌≡◌};
-ghost use Rattle.flow_tools.specs.Exits.{Runs, EndsWith, IsTold, stop_message, stop_status};
+ghost use Rattle.std.specs.Prelude.{◌≡◌, Err};
+ghost use Rattle.flow_tools.specs.Exits.{Runs, EndsWith, IsTold, end_message, end_status};
 ghost use Rattle.flow_tools.specs.Streams.{over};
 
-use super::answers::{answer_cut, answer_solve};
-use super::check_answers::answer_check;
-use super::connect_answers::answer_connect;
-use super::jobs::{CutForm, Job, Stop};
-use super::reading::{Role, read_all};
-use super::sending::put_all;
-use super::streams::{Input, Output};
+use crate::answers::{answer_cut, answer_solve};
+use crate::check_answers::answer_check;
+use crate::connect_answers::answer_connect;
+use crate::jobs::{ConnectForm, CutForm, Job, Stop};
+use crate::reading::{Role, read_all};
+use crate::sending::put_all;
+use crate::streams::{Input, Output};
 use flow_solve::Levels;
 use flow_text::{ProblemReader, fault_line};
 use std::alloc::Global;
@@ -53,7 +53,7 @@ pub fn run<I: Input, J: Input, O: Output, E: Output>(
     }
 }
 
-// Reads the problem, and puts the answer to it.
+/// Reads the problem, and puts the answer to it.
 fn answer<I: Input, J: Input, O: Output>(
     alloc: Global,
     job: Job,
@@ -76,7 +76,7 @@ fn answer<I: Input, J: Input, O: Output>(
             answer_cut::<Levels, O>(alloc, &problem, CutForm { arcs, sink }, out)
         }
         Job::Connect { undirected, pair } => {
-            answer_connect::<Levels, O>(alloc, problem, undirected, pair, out)
+            answer_connect::<Levels, O>(alloc, problem, ConnectForm { undirected, pair }, out)
         }
         Job::Check { feasible_only } => {
             answer_check(alloc, &problem, feasible_only, solution, out)
@@ -84,9 +84,9 @@ fn answer<I: Input, J: Input, O: Output>(
     }
 }
 
-// Puts the message of a run that ends without an answer. A failure ends the message and changes nothing else.
+/// Puts the message of a run that ends without an answer. A failure ends the message and changes nothing else.
 fn tell<E: Output>(err: &mut E, stop: Stop)
-    ensures { IsTold (over (E.state err.old) (E.state err.new)) (stop_message stop) }
+    ensures { IsTold (over (E.state err.old) (E.state err.new)) (end_message (Err stop)) }
 {
     let _ = match stop {
         Stop::Fault {
@@ -100,9 +100,9 @@ fn tell<E: Output>(err: &mut E, stop: Stop)
     };
 }
 
-// The status of a run that ends without an answer.
+/// The status of a run that ends without an answer.
 fn status_of_stop(stop: Stop) -> u8
-    ensures { result ≡ stop_status stop }
+    ensures { result ≡ end_status (Err stop) }
 {
     match stop {
         Stop::Fault { .. } => 3,

@@ -1,7 +1,8 @@
 //! Whole texts are put in as few calls as serve: lines are gathered, and a slice that was taken in part is continued.
-ghost use Rattle.flow_tools.specs.Streams.{IsPut, over};
+ghost use Rattle.flow_tools.specs.Streams.{over};
+ghost use Rattle.flow_tools.specs.Sending.{IsPut};
 
-use super::streams::{Failed, Output};
+use crate::streams::{Failed, Output};
 use arrayvec::ArrayVec;
 
 /// Lines that wait to be put, 64 KiB at most, so that one put takes thousands of them.

@@ -6,7 +6,8 @@
 ghost use Rattle.std.specs.Prelude.{◌≡◌, ℕ, [], ◌+◌, ◌-◌, ◌*◌, ◌<◌, ◌≤◌, ◌^◌, length, slice_index, slice_set, IfOk, MatchOption};
 ghost use Rattle.std.specs.List.{All};
 ghost use Rattle.std.specs.List.Sorted.{IsNonDecreasingBy, IsPermutation};
-ghost use Rattle.flow_net.specs.Nets.{Net, IsNet};
+ghost use Rattle.flow_net.specs.Nets.{Net};
+ghost use Rattle.flow_net.specs.Limits.{IsNet};
 ghost use Rattle.flow_net.specs.Flows.{Fits};
 ghost use Rattle.flow_text.specs.SolutionReading.{IsLineWithin};
 ghost use Rattle.flow_text.specs.declared.solutions.FlowLine.{FlowLine};

@@ -1,8 +1,9 @@
 //! Runs over streams that fail at each place, or take little.
-use super::memory::{Collector, Script};
-use super::test_nets::{NET_A, SOLVED_A};
-use super::test_runs::{answer, run_alone, run_over};
-use super::{Counted, Input, Job, Output, run};
+use crate::memory::{Collector, Script};
+use crate::test_nets::{NET_A, SOLVED_A};
+use crate::test_runs::{answer, run_alone, run_over};
+use crate::{Counted, Input, Job, Output, run};
+use flow_text::LONGEST_LINE;
 use std::alloc::Global;
 use std::io::Write;
 use std::process::Abort;
@@ -66,13 +67,14 @@ fn a_pull_fails_before_a_fault_or_after_it(rt: HostRuntime) -> Result<(), Fail> 
 /// What came before a failed pull has no fault yet where it may be the beginning of a right line or a comment.
 #[test]
 fn a_pull_fails_within_a_line(rt: HostRuntime) -> Result<(), Fail> {
-    let mut comment = [b'x'; 301];
+    let longer = [b'x'; LONGEST_LINE + 1];
+    let mut comment = longer;
     comment[0] = b'c';
     let too_few = b"flow: line 1: number of nodes out of range\n".as_slice();
     let too_long = b"flow: line 1: line too long\n".as_slice();
     expect_stop(&rt, rt.alloc(), b"p max 1 0", 2, READ_FAILED, 2);
     expect_stop(&rt, rt.alloc(), b"p max 1 0\n", 2, too_few, 1);
-    expect_stop(&rt, rt.alloc(), &[b'x'; 201], 2, too_long, 1);
+    expect_stop(&rt, rt.alloc(), &longer, 2, too_long, 1);
     expect_stop(&rt, rt.alloc(), &comment, 2, READ_FAILED, 2);
     Ok(())
 }

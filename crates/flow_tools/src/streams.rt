@@ -1,7 +1,7 @@
 //! Where the bytes of a run come from, and where they go.
-ghost use Rattle.std.specs.Prelude.{◌≡◌, ◌≤◌, ℕ, length, IfOk};
+ghost use Rattle.std.specs.Prelude.{◌≡◌, ◌≤◌, ◌<◌, ℕ, length, IfOk};
 ghost use Rattle.std.specs.Io.KnownBytes.{ReadConsumes, WriteAppends};
-ghost use Rattle.flow_tools.specs.Streams.{Flags, Lowers, State, TakesSome};
+ghost use Rattle.flow_tools.specs.Streams.{Flags, State};
 
 use thiserror::Error;
 
@@ -28,7 +28,7 @@ pub trait Input {
     fn pull(&mut self, buf: &mut [u8; 4096]) -> Result<usize, Failed>
         ensures fits { IfOk result (λ n. n ≤ 4096) }
         ensures bytes { ReadConsumes (state self.old).bytes (state self.new).bytes result buf.new }
-        ensures falls { Lowers (bound self.old) (bound self.new) result }
+        ensures falls { IfOk result (λ n. 0 < n → bound self.new < bound self.old) }
         ensures flag { Flags (state self.old).failed (state self.new).failed result };
 
     /// Whether a pull has failed.
@@ -49,7 +49,7 @@ pub trait Output {
     /// true.
     fn put(&mut self, bytes: &[u8]) -> Result<usize, Failed>
         ensures fits { IfOk result (λ n. n ≤ length bytes.now) }
-        ensures some { TakesSome bytes.now result }
+        ensures some { IfOk result (λ n. 0 < length bytes.now → 0 < n) }
         ensures bytes { WriteAppends (state self.old).bytes (state self.new).bytes result bytes.now }
         ensures flag { Flags (state self.old).failed (state self.new).failed result };
 

@@ -1,7 +1,7 @@
 //! Runs over memory, for tests, and what they leave behind.
 
-use super::memory::{Collector, Script};
-use super::{Input, Job, run};
+use crate::memory::{Collector, Script};
+use crate::{Input, Job, run};
 use std::alloc::Global;
 
 /// What a run left behind.

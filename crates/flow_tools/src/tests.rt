@@ -1,8 +1,9 @@
 //! Runs of `solve` and `cut` over memory: worked problems with their answers, and faults.
-use super::Job;
-use super::memory::Script;
-use super::test_nets::{NET_A, NET_B, NET_C, NET_D, NO_ARCS, SOLVED_A};
-use super::test_runs::answer;
+use crate::Job;
+use crate::memory::Script;
+use crate::test_nets::{NET_A, NET_B, NET_C, NET_D, NO_ARCS, SOLVED_A};
+use crate::test_runs::answer;
+use flow_text::LONGEST_LINE;
 use std::alloc::Global;
 use std::process::Abort;
 use std::test::Fail;
@@ -74,7 +75,7 @@ const SOLUTIONS: [Answer; 10] = [
     ),
 ];
 
-const CUTS: [Answer; 15] = [
+const CUTS: [Answer; 13] = [
     (CUT_ARCS, NET_A, b"s 5\nn 1\na 1 2 3\na 1 3 2\n"),
     (
         CUT_SINK_ARCS,
@@ -104,31 +105,10 @@ const CUTS: [Answer; 15] = [
         b"p max 4 3\nn 1 s\nn 3 t\na 1 2 1\na 2 3 1\na 4 3 1\n",
         b"s 1\nn 1\n",
     ),
-    (CUT, LINE_OF_200, b"s 0\nn 1\n"),
-    (CUT, ZEROS_BEFORE_2, b"s 0\nn 1\n"),
     (CUT, b"p max 0002 00\nn 1 s\nn 2 t\n", b"s 0\nn 1\n"),
 ];
 
-/// A first line of 200 bytes, the most that one may have: 191 blanks behind 9 bytes.
-const LINE_OF_200: &[u8] =
-    b"p max 2 0                                                                                                                                                                                               \nn 1 s\nn 2 t\n";
-
-const LINE_OF_201: &[u8] =
-    b"p max 2 0                                                                                                                                                                                                \nn 1 s\nn 2 t\n";
-
-/// 150 zeros before a 2.
-const ZEROS_BEFORE_2: &[u8] =
-    b"p max 0000000000000000000000000000000000000000000000000000000000000000000000000000000000000000000000000000000000000000000000000000000000000000000000000000002 0\nn 1 s\nn 2 t\n";
-
-/// 150 digits 9.
-const NINES: &[u8] =
-    b"p max 999999999999999999999999999999999999999999999999999999999999999999999999999999999999999999999999999999999999999999999999999999999999999999999999999999 0\n";
-
-/// 201 blanks before net A.
-const BLANKS_BEFORE_A: &[u8] =
-    b"                                                                                                                                                                                                         \np max 4 5\nn 1 s\nn 4 t\na 1 2 3\na 1 3 2\na 2 3 1\na 2 4 2\na 3 4 3\n";
-
-const FAULTS: [Told; 14] = [
+const FAULTS: [Told; 11] = [
     (SOLVE, b"", b"flow: line 1: problem line missing\n"),
     (
         SOLVE,
@@ -145,7 +125,6 @@ const FAULTS: [Told; 14] = [
         b"p max 2 1\nn 1 s\na 1 2 1\n",
         b"flow: line 3: terminals missing\n",
     ),
-    (CUT, LINE_OF_201, b"flow: line 1: line too long\n"),
     (
         SOLVE,
         b" c note\np max 4 5\nn 1 s\nn 4 t\na 1 2 3\na 1 3 2\na 2 3 1\na 2 4 2\na 3 4 3\n",
@@ -156,11 +135,6 @@ const FAULTS: [Told; 14] = [
         SOLVE,
         b"p max 1000000 4000000\n",
         b"flow: line 2: terminals missing\n",
-    ),
-    (
-        SOLVE,
-        NINES,
-        b"flow: line 1: number of nodes out of range\n",
     ),
     (SOLVE, b"\xFF\n", b"flow: line 1: unknown line\n"),
     // Byte 11 is no blank.
@@ -177,7 +151,6 @@ const FAULTS: [Told; 14] = [
         b"\xEF\xBB\xBFp max 4 5\nn 1 s\nn 4 t\na 1 2 3\na 1 3 2\na 2 3 1\na 2 4 2\na 3 4 3\n",
         b"flow: line 1: unknown line\n",
     ),
-    (SOLVE, BLANKS_BEFORE_A, b"flow: line 1: line too long\n"),
     (
         SOLVE,
         b"p max 1 0\n",
@@ -222,6 +195,45 @@ fn faults_are_told(rt: HostRuntime) -> Result<(), Fail> {
     for (job, text, message) in FAULTS {
         expect(&rt, rt.alloc(), job, text, b"", message);
     }
+    Ok(())
+}
+
+/// A text whose first line begins with `front`, goes on with one byte again and again up to a length, and then with `back`.
+fn padded(alloc: Global, front: &[u8], byte: u8, len: usize, back: &[u8]) -> Result<Vec<u8>, Fail> {
+    let mut text = front.to_vec(alloc)?;
+    for _ in front.len()..len {
+        text.push(byte)?;
+    }
+    text.extend_from_slice(back)?;
+    Ok(text)
+}
+
+/// A line's bytes are counted up to its byte 10: a line that has the most may have blanks behind, and a byte more is a
+/// fault, whichever bytes it has.
+#[test]
+fn lines_of_the_most_bytes(rt: HostRuntime) -> Result<(), Fail> {
+    let too_long = b"flow: line 1: line too long\n".as_slice();
+    let front = b"p max 2 0".as_slice();
+    let back = b"\nn 1 s\nn 2 t\n".as_slice();
+    let longest = padded(rt.alloc(), front, b' ', LONGEST_LINE, back)?;
+    expect(&rt, rt.alloc(), CUT, &longest, b"s 0\nn 1\n", b"");
+    let longer = padded(rt.alloc(), front, b' ', LONGEST_LINE + 1, back)?;
+    expect(&rt, rt.alloc(), CUT, &longer, b"", too_long);
+    let mut blanks = padded(rt.alloc(), b"", b' ', LONGEST_LINE + 1, b"\n")?;
+    blanks.extend_from_slice(NET_A)?;
+    expect(&rt, rt.alloc(), SOLVE, &blanks, b"", too_long);
+    Ok(())
+}
+
+/// Zeros before a number don't count, and digits do.
+#[test]
+fn numbers_of_the_most_digits(rt: HostRuntime) -> Result<(), Fail> {
+    let (front, len) = (b"p max ".as_slice(), LONGEST_LINE - 3);
+    let zeros = padded(rt.alloc(), front, b'0', len, b"2 0\nn 1 s\nn 2 t\n")?;
+    expect(&rt, rt.alloc(), CUT, &zeros, b"s 0\nn 1\n", b"");
+    let nines = padded(rt.alloc(), front, b'9', len, b"9 0\n")?;
+    let out_of_range = b"flow: line 1: number of nodes out of range\n";
+    expect(&rt, rt.alloc(), SOLVE, &nines, b"", out_of_range);
     Ok(())
 }
 
@@ -291,7 +303,7 @@ fn carriage_returns_behind_a_long_comment(rt: HostRuntime) -> Result<(), Fail> {
         }
         text.push(*byte)?;
     }
-    text.pop();
+    assert_eq!(rt; text.pop(), Some(b'\n'));
     let ended = answer(rt.alloc(), SOLVE, Script::new(text.as_slice(), 1, false, 0));
     assert_eq!(rt; ended.out.bytes(), SOLVED_A);
     assert_eq!(rt; ended.err.bytes(), b"".as_slice());

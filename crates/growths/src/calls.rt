@@ -4,7 +4,7 @@ ghost use Rattle.flow_text.specs.declared.faults.ReadFault.TheVariants.{OutOfMem
 ghost use Rattle.flow_text.specs.SolutionReading.{IsWithinLimits, written_in};
 
 use crate::nets::{FOUR_NODES, GREATEST_NUMBERS, OPTIMAL};
-use flow_net::{Arc, Network, Problem};
+use flow_net::{Arc, MOST_ARCS, Network, Problem};
 use flow_text::{ProblemReader, ReadFault, Solution, SolutionReader, Verdict};
 use flow_tools::check;
 use std::alloc::Global;
@@ -22,7 +22,7 @@ const PUSHED: u32 = 20;
 fn push_arcs(net: &mut Network, count: u32) -> bool {
     for i in 0..count {
         let last = net.nodes();
-        if net.len() >= 4_000_000 {
+        if net.len() >= MOST_ARCS {
             return false;
         }
         let arc = Arc {
@@ -80,7 +80,7 @@ pub fn both_ways(alloc: Global) -> &'static [u8] {
     if !push_arcs(&mut net, PUSHED) {
         return b"out of memory before";
     }
-    if net.len() > 4_000_000 {
+    if net.len() > MOST_ARCS {
         return BROKEN;
     }
     let appended = net.both_ways().is_ok();

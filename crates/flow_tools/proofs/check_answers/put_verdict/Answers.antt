@@ -1,3 +1,4 @@
+-- Where the put of a verdict fails: a beginning of its line was put.
 use Rattle.std.proofs.Common.{refl}
 use Rattle.flow_text.specs.Output.{verdict_line}
 use Rattle.flow_tools.specs.Answers.{verdict_status}
@@ -12,6 +13,18 @@ returns-in-Err-put_all g c q accepted =
       put_o = stops.taken;
       exit = (
         c.in-Err-put_all.ensures.flag,
-        (verdict_line v, verdict_status v, record { written = _; accepted = accepted; verdict = v; verdict_is = c.in-Ok.ensures.verdict; text_is = refl; status_is = refl }, stops.part),
+        (
+          verdict_line v,
+          verdict_status v,
+          record {
+            written = _;
+            accepted = accepted;
+            verdict = v;
+            verdict_is = c.in-Ok.ensures.verdict;
+            text_is = refl;
+            status_is = refl;
+          },
+          stops.part,
+        ),
       );
     }

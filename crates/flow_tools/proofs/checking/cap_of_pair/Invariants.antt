@@ -1,3 +1,4 @@
+-- The sum of the pair's capacities over the arcs so far.
 use Rattle.std.proofs.Common.{◌≡◌, take}
 use Rattle.flow_net.specs.Cuts.{cap_over}
 use Rattle.flow_tools.specs.SolutionFlows.{is_pair}

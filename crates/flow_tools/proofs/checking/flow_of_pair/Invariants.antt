@@ -1,3 +1,4 @@
+-- The sum of the pair's flows over the lines so far.
 use Rattle.std.proofs.Common.{◌≡◌, take}
 use Rattle.flow_tools.specs.SolutionFlows.{pair_flow}
 use Rattle.flow_tools.proofs.checking.flow_of_pair.Given as goal

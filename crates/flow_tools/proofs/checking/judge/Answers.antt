@@ -1,3 +1,5 @@
+-- The verdicts of `judge`: a wrong sum as `wrong_sum` tells it; else the flow on the arcs has the value of the
+-- solution, and is greatest or less as `is_greatest` says.
 use Rattle.std.proofs.Common.{Bool, subst, refl, MatchOption}
 use Rattle.flow_net.specs.NodeSets.{one_of}
 use Rattle.flow_text.specs.SolutionReading.{written_in}
@@ -6,27 +8,39 @@ use Rattle.flow_tools.proofs.Judging.{carried_within, carried_value, greatest_va
 use Rattle.flow_tools.proofs.checking.judge.Goals as goal
 
 pub wrong_sum-requires-clause-within : goal.wrong_sum-requires-clause-within
-wrong_sum-requires-clause-within c = carried_within c.args.problem.now.net c.args.solution.now.lines.items c.args.flow.now.flows c.requires.fits c.requires.carries
+wrong_sum-requires-clause-within c =
+    carried_within c.args.problem.now.net c.args.solution.now.lines.items c.args.flow.now.flows c.requires.fits
+    c.requires.carries
 
 pub returns-in-Some : goal.returns-in-Some
 returns-in-Some c =
     let p = c.args.problem.now in
     let w = written_in c.args.solution.now in
-    (subst (λ o. MatchOption o (IsRight p w) (λ verdict. (feasible_only : Bool) → IsVerdict p w feasible_only verdict)) c.in-Some.is c.in_ok-verdict.ensures) c.args.feasible_only
+    (subst (λ o. MatchOption o (IsRight p w) (λ verdict. (feasible_only : Bool) → IsVerdict p w feasible_only verdict))
+    c.in-Some.is c.in_ok-verdict.ensures) c.args.feasible_only
 
 pub returns-then-branch : goal.returns-then-branch
 returns-then-branch c =
     let p = c.args.problem.now in
     let w = written_in c.args.solution.now in
-    let right = subst (λ o. MatchOption o (IsRight p w) (λ verdict. (feasible_only : Bool) → IsVerdict p w feasible_only verdict)) c.in_default.is c.in_ok-verdict.ensures in
-    let value = carried_value p w.lines c.args.flow.now.flows w.value c.requires.carries right.valued in
-    (right, c.if-feasible_only.false, refl, greatest_value p.net (one_of p.sources) (one_of p.sinks) c.args.flow.now.flows w.value value (c.in_ok-is_greatest.ensures.greatest c.if-branch.true))
+    let right = subst
+    (λ o. MatchOption o (IsRight p w) (λ verdict. (feasible_only : Bool) → IsVerdict p w feasible_only verdict))
+    c.in_default.is c.in_ok-verdict.ensures in
+    let value = carried_value p w.lines c.args.flow.now.flows w.value c.requires.carries right.valued in (
+      right,
+      c.if-feasible_only.false,
+      refl,
+      greatest_value p.net (one_of p.sources) (one_of p.sinks) c.args.flow.now.flows w.value value
+          (c.in_ok-is_greatest.ensures.greatest c.if-branch.true),
+    )
 
 pub returns-else-branch : goal.returns-else-branch
 returns-else-branch c =
     let p = c.args.problem.now in
     let w = written_in c.args.solution.now in
-    let right = subst (λ o. MatchOption o (IsRight p w) (λ verdict. (feasible_only : Bool) → IsVerdict p w feasible_only verdict)) c.in_default.is c.in_ok-verdict.ensures in
+    let right = subst
+    (λ o. MatchOption o (IsRight p w) (λ verdict. (feasible_only : Bool) → IsVerdict p w feasible_only verdict))
+    c.in_default.is c.in_ok-verdict.ensures in
     let value = carried_value p w.lines c.args.flow.now.flows w.value c.requires.carries right.valued in
     let less = c.in_ok-is_greatest.ensures.less c.if-branch.false in
     (right, c.if-feasible_only.false, refl, (less.0, less.1, less.2 w.value value))

@@ -1,3 +1,5 @@
+-- The verdicts of `wrong_sum`: the cells of a node hold what the lines say of it, and the sums over the sources fit
+-- since the sum over all lines does.
 use Rattle.std.proofs.Common.{◌≡◌, ◌-◌, ◌∙◌, ℕ, List, ap, subst, MatchOption, arith}
 use Rattle.std.proofs.lemmas.Grind.{get_or_default_zero}
 use Rattle.flow_net.specs.Nets.{Net}
@@ -9,7 +11,8 @@ use Rattle.flow_tools.proofs.LineSums.{line_flow-most}
 use Rattle.flow_tools.proofs.NodeSumLemmas.{cell_into, cell_out, sources_into, sources_out}
 use Rattle.flow_tools.proofs.checking.wrong_sum.Goals as goal
 
-read : (n m : ℕ) (xs ys : List FlowLine) (into out : List ℕ) → n ≡ m → xs ≡ ys → AreNodeFlows n xs into out → AreNodeFlows m ys into out
+read : (n m : ℕ) (xs ys : List FlowLine) (into out : List ℕ) → n ≡ m → xs ≡ ys → AreNodeFlows n xs into out
+    → AreNodeFlows m ys into out
 read n m xs ys into out e f h = subst (λ k. AreNodeFlows k ys into out) e (subst (λ zs. AreNodeFlows n zs into out) f h)
 
 pub returns-in-Some : goal.returns-in-Some
@@ -18,13 +21,19 @@ returns-in-Some c = λ feasible_only.
     let lines = c.args.solution.now.lines.items in
     let into = c.in_ok-flows.flows.into.items in
     let out = c.in_ok-flows.flows.out.items in
-    let flows = read c.nodes.result p.net.nodes c.as_slice.result.now lines into out (c.nodes.ensures.nodes ∙ ap (λ (n : Net). n.nodes) c.net.ensures.net) c.as_slice.ensures.value c.in_ok-flows.ensures in
-    let found = subst (λ o. MatchOption o (IsBalanced p lines) (IsFirstUnbalanced p lines)) c.in-Some.is (c.in_ok-node.ensures lines flows) in
+    let flows = read c.nodes.result p.net.nodes c.as_slice.result.now lines into out
+    (c.nodes.ensures.nodes ∙ ap (λ (n : Net). n.nodes) c.net.ensures.net) c.as_slice.ensures.value
+    c.in_ok-flows.ensures in
+    let found = subst (λ o. MatchOption o (IsBalanced p lines) (IsFirstUnbalanced p lines)) c.in-Some.is
+    (c.in_ok-node.ensures lines flows) in
     let at : IsCellOf p.net.nodes c.in-Some.node = found.inner.0 in (
       c.requires.within,
       found,
-      c.index.ensures ∙ get_or_default_zero into (c.in-Some.node - 1) _ (omega (arith, flows.into_len, at.0, at.1)) ∙ cell_into p.net.nodes lines into out c.in-Some.node flows at,
-      c.index-in-Some.ensures ∙ get_or_default_zero out (c.in-Some.node - 1) _ (omega (arith, flows.out_len, at.0, at.1)) ∙ cell_out p.net.nodes lines into out c.in-Some.node flows at,
+      c.index.ensures ∙ get_or_default_zero into (c.in-Some.node - 1) _ (omega (arith, flows.into_len, at.0, at.1))
+          ∙ cell_into p.net.nodes lines into out c.in-Some.node flows at,
+      c.index-in-Some.ensures
+          ∙ get_or_default_zero out (c.in-Some.node - 1) _ (omega (arith, flows.out_len, at.0, at.1))
+          ∙ cell_out p.net.nodes lines into out c.in-Some.node flows at,
     )
 
 pub outflow_of_sources-found-requires-clause-into_fits : goal.outflow_of_sources-found-requires-clause-into_fits
@@ -33,8 +42,15 @@ outflow_of_sources-found-requires-clause-into_fits c =
     let lines = c.args.solution.now.lines.items in
     let into = c.in_ok-flows.flows.into.items in
     let out = c.in_ok-flows.flows.out.items in
-    let flows = read c.nodes.result p.net.nodes c.as_slice.result.now lines into out (c.nodes.ensures.nodes ∙ ap (λ (n : Net). n.nodes) c.net.ensures.net) c.as_slice.ensures.value c.in_ok-flows.ensures in
-    omega (arith, sources_into p lines into out c.net.ensures.is_problem flows, line_flow-most (λ u v. one_of p.sources v) p.net.nodes lines c.requires.limits.lines_within, c.requires.limits.lines_most)
+    let flows = read c.nodes.result p.net.nodes c.as_slice.result.now lines into out
+    (c.nodes.ensures.nodes ∙ ap (λ (n : Net). n.nodes) c.net.ensures.net) c.as_slice.ensures.value
+    c.in_ok-flows.ensures in
+    omega (
+      arith,
+      sources_into p lines into out c.net.ensures.is_problem flows,
+      line_flow-most (λ u v. one_of p.sources v) p.net.nodes lines c.requires.limits.lines_within,
+      c.requires.limits.lines_most,
+    )
 
 pub outflow_of_sources-found-requires-clause-out_fits : goal.outflow_of_sources-found-requires-clause-out_fits
 outflow_of_sources-found-requires-clause-out_fits c =
@@ -42,5 +58,12 @@ outflow_of_sources-found-requires-clause-out_fits c =
     let lines = c.args.solution.now.lines.items in
     let into = c.in_ok-flows.flows.into.items in
     let out = c.in_ok-flows.flows.out.items in
-    let flows = read c.nodes.result p.net.nodes c.as_slice.result.now lines into out (c.nodes.ensures.nodes ∙ ap (λ (n : Net). n.nodes) c.net.ensures.net) c.as_slice.ensures.value c.in_ok-flows.ensures in
-    omega (arith, sources_out p lines into out c.net.ensures.is_problem flows, line_flow-most (λ u v. one_of p.sources u) p.net.nodes lines c.requires.limits.lines_within, c.requires.limits.lines_most)
+    let flows = read c.nodes.result p.net.nodes c.as_slice.result.now lines into out
+    (c.nodes.ensures.nodes ∙ ap (λ (n : Net). n.nodes) c.net.ensures.net) c.as_slice.ensures.value
+    c.in_ok-flows.ensures in
+    omega (
+      arith,
+      sources_out p lines into out c.net.ensures.is_problem flows,
+      line_flow-most (λ u v. one_of p.sources u) p.net.nodes lines c.requires.limits.lines_within,
+      c.requires.limits.lines_most,
+    )

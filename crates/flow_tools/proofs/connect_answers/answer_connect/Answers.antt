@@ -1,6 +1,7 @@
+-- What `answer_connect` puts: the line of the connectivity of the network with capacities of 1, which by the laws of
+-- connectivity is that of the problem's network.
 use Rattle.std.proofs.Common.{refl, ◌∙◌}
 use Rattle.flow_text.specs.Output.{connect_line}
-use Rattle.flow_tools.specs.Answers.{IsConnectText}
 use Rattle.flow_tools.specs.declared.jobs.Job.TheVariants.{Connect}
 use Rattle.flow_tools.proofs.ConnectAnswers.{unit_capacities, connectivity_of}
 use Rattle.flow_tools.proofs.EndLemmas.{puts_all, puts_some}
@@ -16,9 +17,11 @@ returns-in-Ok-put_all g c =
     let parts = c.into_parts-net.ensures in
     let made = rw parts.net at c.in-Ok.ensures in
     let e = c.in-Ok-solve_connectivity.ensures in
-    let is = connectivity_of p c.in-Ok.net c.deref.result.now c.deref-2.result.now c.args.undirected c.args.pair value (c.deref.ensures.value ∙ parts.sources) (c.deref-2.ensures.value ∙ parts.sinks) made e.pair e.whole in
-    let answer : IsConnectText p c.args.undirected c.args.pair (connect_line value) = record { value = value; value_is = is; text_is = refl } in
-    puts_all (Connect c.args.undirected c.args.pair) p _ _ _ _ (connect_line value) (answer, refl) (rw (c.as_slice.ensures.value, c.connect_line.ensures) at c.in-Ok-put_all.ensures.ok) c.in-Ok-put_all.ensures.flag
+    let is = connectivity_of p c.in-Ok.net c.deref.result.now c.deref-2.result.now c.args.form.undirected
+    c.args.form.pair value (c.deref.ensures.value ∙ parts.sources) (c.deref-2.ensures.value ∙ parts.sinks) made e.pair
+    e.whole in
+    puts_all (Connect c.args.form.undirected c.args.form.pair) p _ _ _ _ (connect_line value) (value, is, refl, refl)
+    (rw (c.as_slice.ensures.value, c.connect_line.ensures) at c.in-Ok-put_all.ensures.ok) c.in-Ok-put_all.ensures.flag
 
 pub returns : goal.returns
 returns g c =
@@ -27,6 +30,9 @@ returns g c =
     let parts = c.into_parts-net.ensures in
     let made = rw parts.net at c.in-Ok.ensures in
     let e = c.in-Ok-solve_connectivity.ensures in
-    let is = connectivity_of p c.in-Ok.net c.deref.result.now c.deref-2.result.now c.args.undirected c.args.pair value (c.deref.ensures.value ∙ parts.sources) (c.deref-2.ensures.value ∙ parts.sinks) made e.pair e.whole in
-    let answer : IsConnectText p c.args.undirected c.args.pair (connect_line value) = record { value = value; value_is = is; text_is = refl } in
-    puts_some (Connect c.args.undirected c.args.pair) p _ _ _ _ (connect_line value) (answer, refl) (rw (c.as_slice.ensures.value, c.connect_line.ensures) at c.in-Err-put_all.ensures.err) c.in-Err-put_all.ensures.flag
+    let is = connectivity_of p c.in-Ok.net c.deref.result.now c.deref-2.result.now c.args.form.undirected
+    c.args.form.pair value (c.deref.ensures.value ∙ parts.sources) (c.deref-2.ensures.value ∙ parts.sinks) made e.pair
+    e.whole in
+    puts_some (Connect c.args.form.undirected c.args.form.pair) p _ _ _ _ (connect_line value) (value, is, refl, refl)
+    (rw (c.as_slice.ensures.value, c.connect_line.ensures) at c.in-Err-put_all.ensures.err)
+    c.in-Err-put_all.ensures.flag

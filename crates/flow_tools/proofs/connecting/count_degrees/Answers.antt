@@ -1,3 +1,4 @@
+-- Each arc that is no self-loop counts once at either end, in both counts.
 use Rattle.std.proofs.Common.{arith}
 use Rattle.flow_net.proofs.Zips.{arc_within}
 use Rattle.flow_tools.proofs.ConnectingLemmas.{degrees_loop, degrees_more}
@@ -13,12 +14,20 @@ loop-i-preserved c =
         end = j.end;
         out_size = omega arith;
         into_size = omega arith;
-        degrees = rw (w.out-is, w.into-is) (degrees_more c.args.net.now.nodes c.args.net.now.arcs c.loop-i.i c.arc-arc.result c.loop-i.out c.loop-i.into (omega arith) c.arc-arc.ensures.arc j.out_size j.into_size (rw c.arc-arc.ensures.arc (arc_within c.args.net.now c.loop-i.i c.nodes.ensures.is_net (omega arith))) w.if-arc.true j.degrees);
+        degrees =
+            rw (w.out-is, w.into-is)
+            (degrees_more c.args.net.now.nodes c.args.net.now.arcs c.loop-i.i c.arc-arc.result c.loop-i.out
+            c.loop-i.into (omega arith) c.arc-arc.ensures.arc j.out_size j.into_size
+            (rw c.arc-arc.ensures.arc (arc_within c.args.net.now c.loop-i.i c.nodes.ensures.is_net (omega arith)))
+            w.if-arc.true j.degrees);
       }
       | else-arc w ↦ record {
         end = j.end;
         out_size = omega arith;
         into_size = omega arith;
-        degrees = rw (w.out-is, w.into-is) (degrees_loop c.args.net.now.nodes c.args.net.now.arcs c.loop-i.i c.arc-arc.result c.loop-i.out c.loop-i.into (omega arith) c.arc-arc.ensures.arc w.if-arc.false j.degrees);
+        degrees =
+            rw (w.out-is, w.into-is)
+            (degrees_loop c.args.net.now.nodes c.args.net.now.arcs c.loop-i.i c.arc-arc.result c.loop-i.out
+            c.loop-i.into (omega arith) c.arc-arc.ensures.arc w.if-arc.false j.degrees);
       }
     ]

@@ -1,12 +1,17 @@
+-- Two nodes have no sets but those of one node; and where the growth isn't done, its steps and those round the circle
+-- are within the bound of both.
 use Rattle.std.proofs.Common.{arith}
 use Rattle.flow_tools.proofs.CircleLemmas.{two_nodes, both_steps}
 use Rattle.flow_tools.proofs.connecting.least_cut.Goals as goal
 
 pub returns-then-n-eq2-clause-connectivity : goal.returns-then-n-eq2-clause-connectivity
-returns-then-n-eq2-clause-connectivity g c = two_nodes c.args.net.now c.least_degree-least.result c.nodes-n.ensures.is_net (omega arith) c.least_degree-least.ensures.reached c.least_degree-least.ensures.least
+returns-then-n-eq2-clause-connectivity g c =
+    two_nodes c.args.net.now c.least_degree-least.result c.nodes-n.ensures.is_net (omega arith)
+    c.least_degree-least.ensures.reached c.least_degree-least.ensures.least
 
 pub returns-in-None-clause-steps : goal.returns-in-None-clause-steps
 returns-in-None-clause-steps g c =
     let two = c.nodes-n.ensures.is_net.nodes_least in
     let both = both_steps c.args.net.now.nodes (g.M.Method.steps_bound c.args.net.now) (omega arith) in
-    omega (arith, both, c.spare_steps-spare.ensures, c.connectivity_by_growth.ensures.steps, c.least_around.ensures.steps)
+    omega
+    (arith, both, c.spare_steps-spare.ensures, c.connectivity_by_growth.ensures.steps, c.least_around.ensures.steps)

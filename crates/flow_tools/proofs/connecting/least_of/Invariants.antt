@@ -1,3 +1,4 @@
+-- The least so far is one of the numbers, and at most each so far.
 use Rattle.std.proofs.Common.{◌≡◌, ◌<◌, ◌≤◌, ℕ, length, slice_index}
 use Rattle.flow_tools.proofs.connecting.least_of.Given as goal
 

@@ -1,3 +1,4 @@
+-- The cells so far are equal unless they are marked.
 use Rattle.flow_tools.specs.NodeSums.{AreEqualUnless}
 use Rattle.flow_tools.proofs.node_flows.first_unequal.Given as goal
 

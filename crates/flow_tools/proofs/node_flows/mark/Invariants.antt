@@ -1,5 +1,7 @@
+-- The nodes so far are marked, beside those marked before.
 use Rattle.std.proofs.Common.{◌≡◌, ℕ, ◌||◌, take}
-use Rattle.flow_net.specs.NodeSets.{one_of, marked}
+use Rattle.flow_net.specs.NodeSets.{one_of}
+use Rattle.flow_net.specs.MarkedNodes.{marked}
 use Rattle.flow_tools.proofs.node_flows.mark.Given as goal
 
 abbrev pub invariant-loop-node : goal.invariant-loop-node

@@ -1,3 +1,4 @@
+-- The sum over the nodes so far.
 use Rattle.std.proofs.Common.{◌≡◌, take, sum_by}
 use Rattle.flow_tools.specs.NodeSums.{at_node}
 use Rattle.flow_tools.proofs.node_flows.sum_at.Given as goal

@@ -1,3 +1,4 @@
+-- The sums at each node over the lines so far.
 use Rattle.std.proofs.Common.{length, take}
 use Rattle.flow_tools.specs.NodeSums.{HaveTallied}
 use Rattle.flow_tools.proofs.node_flows.tally.Given as goal

@@ -1,3 +1,4 @@
+-- The lines so far have been put or wait, and no put has failed.
 use Rattle.std.proofs.Common.{◌≡◌}
 use Rattle.std.specs.List.{zip}
 use Rattle.flow_text.specs.Output.{arc_flow_line}
@@ -6,5 +7,6 @@ use Rattle.flow_tools.proofs.printing.gather_flows.Given as goal
 
 abbrev pub invariant-loop-i : goal.invariant-loop-i
 invariant-loop-i g l =
-    HasSent arc_flow_line (zip l.net.arcs l.flows) l.i (g.O.Output.state l.fn.out).bytes (g.O.Output.state l.out).bytes l.fn.waiting.items l.waiting.items
+    HasSent arc_flow_line (zip l.net.arcs l.flows) l.i (g.O.Output.state l.fn.out).bytes (g.O.Output.state l.out).bytes
+    l.fn.waiting.items l.waiting.items
     × ((g.O.Output.state l.out).failed ≡ (g.O.Output.state l.fn.out).failed)

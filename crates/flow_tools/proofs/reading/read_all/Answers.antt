@@ -1,11 +1,16 @@
+-- A piece that was pulled and fed is one more piece that was read; where the reader refuses it, the run stops with the
+-- fault that it names.
 use Rattle.flow_tools.proofs.PullLemmas.{goes_on, refused, piece_fits}
 use Rattle.flow_tools.proofs.reading.read_all.Goals as goal
 
 pub loop-reader-preserved : goal.loop-reader-preserved
 loop-reader-preserved g c n h =
-    goes_on (g.R.Reader.early n) (g.R.Reader.reads c.loop-reader.reader n) (g.met.R.Reader.quiet _ n) _ _ _ _ _ _ (c.loop-reader.invariant n h) _ _ c.in-Ok.ensures.bytes.0 c.in-Ok.ensures.flag (c.in-Ok-feed.ensures n)
+    goes_on (g.R.Reader.early n) (g.R.Reader.reads c.loop-reader.reader n) (g.met.R.Reader.quiet _ n) _ _ _ _ _ _
+    (c.loop-reader.invariant n h) _ _ c.in-Ok.ensures.bytes.0 c.in-Ok.ensures.flag (c.in-Ok-feed.ensures n)
 
 pub returns-in-Err-feed : goal.returns-in-Err-feed
 returns-in-Err-feed g c n h =
-    refused (g.R.Reader.early n) (g.R.Reader.reads c.loop-reader.reader n) (g.met.R.Reader.quiet _ n) _ _ _ _ _ _ (c.loop-reader.invariant n h) _ _ _ c.in-Err-feed.fault _ (g.R.Reader.reads c.feed.new.self n) _
-    (piece_fits _ _ c.in-Ok.ensures.fits) c.in-Ok.ensures.bytes.0 c.in-Ok.ensures.flag (c.in-Err-feed.ensures n) c.stop_of.ensures
+    refused (g.R.Reader.early n) (g.R.Reader.reads c.loop-reader.reader n) (g.met.R.Reader.quiet _ n) _ _ _ _ _ _
+    (c.loop-reader.invariant n h) _ _ _ c.in-Err-feed.fault _ (g.R.Reader.reads c.feed.new.self n) _
+    (piece_fits _ _ c.in-Ok.ensures.fits) c.in-Ok.ensures.bytes.0 c.in-Ok.ensures.flag (c.in-Err-feed.ensures n)
+    c.stop_of.ensures

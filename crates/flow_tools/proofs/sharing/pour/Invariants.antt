@@ -1,7 +1,10 @@
+-- What is left of the line's flow, and the places that are passed.
 use Rattle.std.proofs.Common.{◌≡◌}
 use Rattle.flow_tools.specs.ArcShares.{line_rank}
 use Rattle.flow_tools.proofs.Shares.{IsPouring}
 use Rattle.flow_tools.proofs.sharing.pour.Given as goal
 
 abbrev pub invariant-loop-at : goal.invariant-loop-at
-invariant-loop-at l = IsPouring l.net l.places l.at l.initial.flow.flows l.fn.line.src l.fn.line.dst l.fn.line.flow l.left l.flow.flows × (l.rank_of_line ≡ line_rank l.fn.line)
+invariant-loop-at l =
+    IsPouring l.net l.places l.at l.initial.flow.flows l.fn.line.src l.fn.line.dst l.fn.line.flow l.left l.flow.flows
+    × (l.rank_of_line ≡ line_rank l.fn.line)

@@ -1,3 +1,4 @@
+-- The lines so far are on the arcs, and the places passed are full or of a pair that comes before all lines to come.
 use Rattle.std.proofs.Common.{ℕ, ◌≤◌, ◌<◌, length, get_or, take}
 use Rattle.flow_net.specs.Flows.{Fits}
 use Rattle.flow_text.specs.declared.solutions.FlowLine.{FlowLine}
@@ -9,5 +10,6 @@ invariant-loop-line l = record {
   at_most : l.at ≤ length l.places;
   fits : Fits l.net l.flow.flows;
   carries : Carries l.net (take l.line-index l.lines) l.flow.flows;
-  passed : (j : ℕ) (d : FlowLine) → l.line-index ≤ j → j < length l.lines → ArePassed l.net l.places l.at (line_rank (get_or l.lines j d)) l.flow.flows;
+  passed : (j : ℕ) (d : FlowLine) → l.line-index ≤ j → j < length l.lines
+      → ArePassed l.net l.places l.at (line_rank (get_or l.lines j d)) l.flow.flows;
 }

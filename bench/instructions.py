@@ -86,6 +86,11 @@ def rows(flow, folder):
     leaving = len(''.join(f'a {tail} {head} {capacity}\n' for tail, head, capacity in narrow))
     yield 'writing arc lines', (instructions(folder, flow, 'cut', '--arcs', problem) - instructions(folder, flow, 'cut', problem)) / leaving
 
+    # One arc, whose capacity is the value, of 1 and of 19 digits. All else, the files' names too, has as many bytes.
+    short, long = (written(folder / f'value-of-{len(str(value)):02d}', f'p max 2 1\nn 1 s\nn 2 t\na 1 2 {value:019d}\n') for value in (1, 10 ** 18))
+    more = instructions(folder, flow, 'solve', '--value', long) - instructions(folder, flow, 'solve', '--value', short)
+    yield 'writing the digits of a value', more / 18
+
 
 def main():
     if len(sys.argv) != 2:

@@ -125,7 +125,7 @@ def instructions(flow):
         return
     told = subprocess.run([sys.executable, HERE / 'instructions.py', flow], capture_output=True, text=True)
     figures = [float(figure) for figure in re.findall(r'^\| .* \| (\d+\.\d) \|$', told.stdout, re.M)]
-    holds('nine kinds of lines have a count of instructions', len(figures) == 9 and min(figures) >= 1)
+    holds('ten kinds of lines have a count of instructions', len(figures) == 10 and min(figures) >= 1)
 
 
 def documents(folder):

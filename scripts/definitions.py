@@ -3,8 +3,9 @@
 
 It starts from the names that these contracts cite and follows the definitions in crates/*/specs from one to the next.
 Comments, blank lines and imports don't count. docs/DEFINITIONS.md has to tell each file that is reached with its number
-of lines, and their sum. The last line is 'definitions: N passed, M failed'. With --print the rows of the page's table
-are printed, and what else stands in these files.
+of lines, and their sum. A file that is reached has to hold nothing else, so that its reader never wonders what a
+definition is there for. The last line is 'definitions: N passed, M failed'. With --print the rows of the page's table
+are printed.
 
     python3 scripts/definitions.py [--print]
 """
@@ -129,25 +130,24 @@ def main():
         defined, _ = specs.of(path)
         name = str(path.relative_to(ROOT))
         counts[name] = sum(len(defined[item]) for other, item in reached if other == path)
-        rest = [item for item in defined if (path, item) not in reached]
-        if rest:
-            others[name] = rest
+        others[name] = [item for item in defined if (path, item) not in reached]
     if "--print" in sys.argv:
         for name, lines in counts.items():
             print(f"| `{name}` | {lines} |")
-        for name, rest in others.items():
-            print(f"{name} also has {', '.join(rest)}")
-    failed = 0
     told = page_counts()
-    for name in sorted(set(counts) | set(told)):
-        if counts.get(name) != told.get(name):
-            failed += 1
-            print(f"{name}: {counts.get(name)} lines are reached, and the page tells {told.get(name)}")
     sentence = f"{sum(counts.values())} lines in {len(counts)} files"
-    if sentence not in PAGE.read_text():
-        failed += 1
-        print(f"the page doesn't say '{sentence}'")
-    print(f"definitions: {len(counts) + 1 - failed} passed, {failed} failed")
+    tests = {f"the page says '{sentence}'": sentence in PAGE.read_text()}
+    for name in sorted(set(counts) | set(told)):
+        tests[f"{name}: {counts.get(name)} lines are reached, and the page tells {told.get(name)}"] = (
+            counts.get(name) == told.get(name)
+        )
+    for name, rest in others.items():
+        tests[f"{name} holds what the contracts reach and nothing else, but also has {', '.join(rest)}"] = not rest
+    for test, holds in tests.items():
+        if not holds:
+            print(f"not so: {test}")
+    failed = list(tests.values()).count(False)
+    print(f"definitions: {len(tests) - failed} passed, {failed} failed")
     return 1 if failed else 0
 
 

@@ -3,13 +3,13 @@
 
 Usage: documents.py FLOW [DOCUMENT ...]
 
-FLOW is the built `flow`; without a DOCUMENT, README.md and all of docs/ are read. In a block fenced as ```console, a
-line `$ COMMAND` is run by bash, with the lines of its here document, and the lines after it are what it prints, on
-standard output and standard error together. The commands of a document run one after the other in a scratch folder of
-its own, with a copy of examples/ and with FLOW on the PATH as `flow`; `$?` is the status of the command before. In a
-block fenced as ```console checkout, they run in the repository itself, where standard output alone is compared, with
-the repository's path shown as /path/to/flow, and they must leave no file behind that git would take. Links to files of
-the repository must lead somewhere. Each check that fails is told; the last line counts them.
+FLOW is the built `flow`; without a DOCUMENT, README.md, CONTRIBUTING.md and all of docs/ are read. In a block fenced
+as ```console, a line `$ COMMAND` is run by bash, with the lines of its here document, and the lines after it are what
+it prints, on standard output and standard error together. The commands of a document run one after the other in a
+scratch folder of its own, with a copy of examples/ and with FLOW on the PATH as `flow`; `$?` is the status of the
+command before. In a block fenced as ```console checkout, they run in the repository itself, where standard output
+alone is compared, with the repository's path shown as /path/to/flow, and they must leave no file behind that git would
+take. Links to files of the repository must lead somewhere. Each check that fails is told; the last line counts them.
 """
 
 import difflib
@@ -138,7 +138,9 @@ def check_links(document):
 def main():
     flow = pathlib.Path(sys.argv[1]).resolve()
     named = [pathlib.Path(name).resolve() for name in sys.argv[2:]]
-    documents = named or [REPOSITORY / "README.md", *sorted((REPOSITORY / "docs").glob("*.md"))]
+    documents = named or [REPOSITORY / "README.md", REPOSITORY / "CONTRIBUTING.md"]
+    if not named:
+        documents += sorted((REPOSITORY / "docs").glob("*.md"))
     passed = failed = 0
     for document in documents:
         with tempfile.TemporaryDirectory() as scratch:

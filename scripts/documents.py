@@ -24,6 +24,7 @@ import tempfile
 REPOSITORY = pathlib.Path(__file__).resolve().parent.parent
 SHOWN_PATH = "/path/to/flow"
 SECONDS = 3600  # An install proves what it doesn't find proved.
+LAST_LINES = 40  # Of the errors of a command of the checkout that didn't print what is shown.
 
 
 def blocks(text):
@@ -66,16 +67,17 @@ def commands(lines, first):
 
 
 def run(command, status, folder, environment, in_checkout):
-    """Runs a command after one that ended with this status; answers its status and what it printed."""
-    errors = subprocess.DEVNULL if in_checkout else subprocess.STDOUT
+    """Runs a command after one that ended with this status; answers its status, what it printed, and its errors."""
+    errors = subprocess.PIPE if in_checkout else subprocess.STDOUT
     script = f"(exit {status})\n{command}\n"
     try:
         done = subprocess.run(
             ["bash", "-c", script], cwd=folder, env=environment, stdin=subprocess.DEVNULL, stdout=subprocess.PIPE,
             stderr=errors, timeout=SECONDS, errors="replace")
     except subprocess.TimeoutExpired:
-        return 1, f"no end after {SECONDS} seconds\n"
-    return done.returncode, done.stdout.replace(str(REPOSITORY), SHOWN_PATH) if in_checkout else done.stdout
+        return 1, f"no end after {SECONDS} seconds\n", ""
+    printed = done.stdout.replace(str(REPOSITORY), SHOWN_PATH) if in_checkout else done.stdout
+    return done.returncode, printed, done.stderr or ""
 
 
 def changes():
@@ -101,7 +103,7 @@ def check_commands(document, scratch, flow):
         for number, command, shown in commands(lines, first):
             place = REPOSITORY if in_checkout else folder
             before = changes() if in_checkout else ""
-            status, printed = run(command, status, place, environment, in_checkout)
+            status, printed, errors = run(command, status, place, environment, in_checkout)
             if in_checkout and changes() != before:
                 printed += "and the repository isn't as it was\n"
             if printed == shown:
@@ -111,6 +113,7 @@ def check_commands(document, scratch, flow):
             print(f"failed: {document.relative_to(REPOSITORY)} line {number}: {command}")
             print("".join(difflib.unified_diff(
                 shown.splitlines(True), printed.splitlines(True), "shown", f"printed, status {status}")))
+            print("".join(errors.splitlines(True)[-LAST_LINES:]), end="")
     return passed, failed
 
 

@@ -118,7 +118,7 @@ pub fn commands<'a>(alloc: Global) -> Result<Command<'a>, Error> {
     )
 }
 
-// `flow solve [--value] [FILE]`
+/// `flow solve [--value] [FILE]`
 fn solve<'a>(alloc: Global) -> Result<Command<'a>, Error> {
     let solve = Command::new(alloc, "solve")
         .about("Print a maximum flow")
@@ -131,7 +131,7 @@ fn solve<'a>(alloc: Global) -> Result<Command<'a>, Error> {
     )
 }
 
-// `flow cut [--arcs] [--sink] [FILE]`
+/// `flow cut [--arcs] [--sink] [FILE]`
 fn cut<'a>(alloc: Global) -> Result<Command<'a>, Error> {
     let cut = Command::new(alloc, "cut")
         .about("Print a minimum cut")
@@ -152,7 +152,7 @@ fn cut<'a>(alloc: Global) -> Result<Command<'a>, Error> {
     )
 }
 
-// `flow connect [--undirected] [--pair] [FILE]`
+/// `flow connect [--undirected] [--pair] [FILE]`
 fn connect<'a>(alloc: Global) -> Result<Command<'a>, Error> {
     let connect = Command::new(alloc, "connect")
         .about("Print the edge connectivity")
@@ -174,7 +174,7 @@ fn connect<'a>(alloc: Global) -> Result<Command<'a>, Error> {
     )
 }
 
-// `flow check [--feasible] PROBLEM [SOLUTION]`
+/// `flow check [--feasible] PROBLEM [SOLUTION]`
 fn check<'a>(alloc: Global) -> Result<Command<'a>, Error> {
     let check = Command::new(alloc, "check")
         .about("Check a solution of a problem")
@@ -197,7 +197,7 @@ fn check<'a>(alloc: Global) -> Result<Command<'a>, Error> {
     )
 }
 
-// A flag that is given by its name.
+/// A flag that is given by its name.
 fn flag<'a>(alloc: Global, name: &'a str, help: &'a str) -> Arg<'a>
     ensures id { result.id ≡ name.entry }
     ensures long { result.long ≡ Some name.entry }
@@ -209,7 +209,7 @@ fn flag<'a>(alloc: Global, name: &'a str, help: &'a str) -> Arg<'a>
         .help(help)
 }
 
-// The file of a problem.
+/// The file of a problem.
 fn problem<'a>(alloc: Global) -> Arg<'a>
     ensures id { result.id.now ≡ codes "problem" }
     ensures action { result.action ≡ Some ArgAction.Set }
@@ -221,7 +221,7 @@ fn problem<'a>(alloc: Global) -> Arg<'a>
         .long_help(PROBLEM)
 }
 
-// The file of a solution.
+/// The file of a solution.
 fn solution<'a>(alloc: Global) -> Arg<'a>
     ensures id { result.id.now ≡ codes "solution" }
     ensures action { result.action ≡ Some ArgAction.Set }

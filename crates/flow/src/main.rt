@@ -46,7 +46,7 @@ fn main(rt: HostRuntime) -> ExitCode {
     ExitCode::from(status)
 }
 
-// Tells that memory was refused, and answers the status for it.
+/// Tells that memory was refused, and answers the status for it.
 fn without_memory<E: Output>(err: &mut E) -> ExitCode {
     let _ = put_all(err, b"flow: out of memory\n");
     ExitCode::from(4)

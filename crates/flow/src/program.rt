@@ -45,7 +45,7 @@ pub fn program<S: Source, O: Output, E: Output>(
     }
 }
 
-// Opens the problem, and then the solution where the job checks one, and runs the job.
+/// Opens the problem, and then the solution where the job checks one, and runs the job.
 fn run_files<S: Source, O: Output, E: Output>(
     alloc: Global,
     job: Job,
@@ -70,7 +70,7 @@ fn run_files<S: Source, O: Output, E: Output>(
     }
 }
 
-// Tells that a file can't be opened, its name as it was given.
+/// Tells that a file can't be opened, its name as it was given.
 fn refuse_file<E: Output>(name: Option<&str>, err: &mut E) -> u8
     ensures status { result ≡ 4 }
     ensures told { IsTold (over (E.state err.old) (E.state err.new)) (cannot_open (given_name name.entry)) }
@@ -80,7 +80,7 @@ fn refuse_file<E: Output>(name: Option<&str>, err: &mut E) -> u8
     4
 }
 
-// Puts the line of a file that can't be opened, or a beginning of it.
+/// Puts the line of a file that can't be opened, or a beginning of it.
 fn put_cannot_open<E: Output>(err: &mut E, name: &[u8]) -> Result<(), Failed>
     ensures { IsPut (cannot_open name.now) (over (E.state err.old) (E.state err.new)) result }
 {
@@ -89,7 +89,7 @@ fn put_cannot_open<E: Output>(err: &mut E, name: &[u8]) -> Result<(), Failed>
     put_all(err, b"\n")
 }
 
-// Prints what the parse of the words ended with in place of a job: help, or why they are refused.
+/// Prints what the parse of the words ended with in place of a job: help, or why they are refused.
 fn refuse<O: Output, E: Output>(alloc: Global, error: clap::Error, out: &mut O, err: &mut E) -> u8 {
     let text = match error.to_string(alloc) {
         Ok(text) if error.kind() != ErrorKind::OutOfMemory => text,
@@ -105,7 +105,7 @@ fn refuse<O: Output, E: Output>(alloc: Global, error: clap::Error, out: &mut O, 
     }
 }
 
-// Puts why words are refused, without clap's tip to pass an unknown flag as a value: as a value it would name a file.
+/// Puts why words are refused, without clap's tip to pass an unknown flag as a value: as a value it would name a file.
 fn put_refusal<E: Output>(err: &mut E, text: &str) -> Result<(), Failed> {
     let (before, tail) = match text.split_once("\n  tip: to pass '") {
         Some(parts) => parts,
@@ -121,7 +121,7 @@ fn put_refusal<E: Output>(err: &mut E, text: &str) -> Result<(), Failed> {
     }
 }
 
-// Puts a message, as far as it is taken, and answers the status of a device or memory that failed.
+/// Puts a message, as far as it is taken, and answers the status of a device or memory that failed.
 fn tell<E: Output>(err: &mut E, message: &[u8]) -> u8
     ensures status { result ≡ 4 }
     ensures told { IsTold (over (E.state err.old) (E.state err.new)) message.now }

@@ -32,7 +32,7 @@ pub fn job_of<'a>(m: &ArgMatches<'a>) -> Option<(Job, Files<'a>)>
     }
 }
 
-// The job of the command with this name and these flags.
+/// The job of the command with this name and these flags.
 fn job_named(name: &str, m: &ArgMatches<'_>) -> Option<Job>
     ensures { result ≡ job_for name.now (rows_of (found_of m.now)) }
 {
@@ -55,7 +55,7 @@ fn job_named(name: &str, m: &ArgMatches<'_>) -> Option<Job>
     }
 }
 
-// Whether a flag was given.
+/// Whether a flag was given.
 fn is_set(m: &ArgMatches<'_>, id: &str) -> bool
     ensures { result ≡ is_given id.now (rows_of (found_of m.now)) }
 {

@@ -19,6 +19,9 @@ rt ci 2>&1 | tee "$folder/gate"
 gate=$(grep -E '^[0-9]+ passed, 0 failed$' "$folder/gate" | tail -n 1)
 [ -n "$gate" ] || exit 1
 passed=${gate%% *}
+if [ -x crates/flow/out/flow ]; then
+  bash scripts/sum.sh > crates/flow/out/flow.proved || exit 1
+fi
 
 # add NAME COMMAND..: runs a command whose last line has to be 'NAME: N passed, 0 failed', and adds its count.
 add() {

@@ -142,7 +142,7 @@ impl Raise for Levels {
             raised
         };
         let lifting = rest - share;
-        run_phases(packed, s, t, flow, cells, raised, lifting)
+        run_phases(task, flow, cells, raised, lifting)
     }
 }
 

@@ -11,6 +11,7 @@ ghost use Rattle.flow_solve.specs.Bounds.{phase_bound, phases_bound};
 ghost use Rattle.flow_solve.specs.Packs.{IsPacked};
 ghost use Rattle.flow_solve.specs.Raising.{IsFlow};
 ghost use Rattle.flow_solve.specs.Searches.{AreCells, HasMissed};
+ghost use Rattle.flow_solve.specs.Stages.{HasFlow, IsTask};
 ghost use Rattle.flow_solve.specs.Steps.{OnlyLooks, TakesSteps};
 ghost use Rattle.flow_solve.specs.Levels.{AreDead, AreLevelsBy, AreLevelsOf, AreRankedIn, HasRank, IsAt, IsFarIn, IsPhase, KeepsGentle, Pays};
 
@@ -127,24 +128,22 @@ fn run_phase(
 /// which is the greatest. `value` is the flow's value before. It takes at most `3·n²·m` steps, whatever flow it starts
 /// from.
 pub(crate) fn run_phases(
-    packed: Packed<'_>,
-    s: &[u32],
-    t: &[u32],
+    task: Task<'_>,
     flow: &mut FlowTable,
     cells: &mut [u32],
     value: u128,
     allowance: u64,
 ) -> u128
-    requires packed { IsPacked packed.net.now packed.first.now packed.halves.now }
-    requires terminals { AreTerminals packed.net.now s.now t.now }
-    requires cells { length cells.old ≡ 5 * packed.net.now.nodes }
-    requires flow { IsFlow packed.net.now s.now t.now flow.old.flows value }
-    ensures flow { IsFlow packed.entry.net.now s.now t.now flow.new.flows result }
-    ensures greatest { IsGreatest packed.entry.net.now (one_of s.now) (one_of t.now) result }
-    ensures least { IsLeastCapacity packed.entry.net.now (one_of s.now) (one_of t.now) result }
+    requires task { IsTask task }
+    requires cells { length cells.old ≡ 5 * task.packed.net.now.nodes }
+    requires flow { HasFlow task flow.old.flows value }
+    ensures flow { HasFlow task.entry flow.new.flows result }
+    ensures greatest { IsGreatest task.entry.packed.net.now (one_of task.entry.s.now) (one_of task.entry.t.now) result }
+    ensures least { IsLeastCapacity task.entry.packed.net.now (one_of task.entry.s.now) (one_of task.entry.t.now) result }
     ensures never_lowered { flow.old.steps ≤ flow.new.steps }
-    ensures steps { flow.new.steps ≤ flow.old.steps + allowance + phases_bound packed.entry.net.now }
+    ensures steps { flow.new.steps ≤ flow.old.steps + allowance + phases_bound task.entry.packed.net.now }
 {
+    let Task { packed, s, t } = task;
     let n = packed.net.nodes() as usize;
     let (dist, rest) = cells.split_at_mut(n);
     let (rank, rest) = rest.split_at_mut(n);
@@ -157,7 +156,6 @@ pub(crate) fn run_phases(
         enough: count(s),
     };
     let mut value = value;
-    let task = Task { packed, s, t };
     let search = 2 * u64::from(packed.net.len());
     let mut supply = Supply {
         left: allowance,

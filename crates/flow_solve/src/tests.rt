@@ -590,8 +590,9 @@ fn stages<'a>(
     let (halves, _rest) = rest.split_at_mut(2 * m);
     pack(net, first, halves);
     let packed = Packed { net, first, halves };
-    let reached = grow_trees(Task { packed, s, t }, &mut flow, cells, 0, allowance);
-    let greatest = run_phases(packed, s, t, &mut flow, cells, reached, lifting);
+    let task = Task { packed, s, t };
+    let reached = grow_trees(task, &mut flow, cells, 0, allowance);
+    let greatest = run_phases(task, &mut flow, cells, reached, lifting);
     let mut other = empty_flow(alloc, net)?;
     let mut work = [7u32; 120];
     Some((

@@ -4,10 +4,10 @@ use crate::waves::send_waves;
 
 /// The values that waves reach with an allowance, and the phases after them, and that of the other method, for a network of
 /// at most 6 nodes and 40 arcs, if the terminals are good.
-fn waved(
+fn waved<'a>(
     alloc: Global,
-    net: &Network,
-    terminals: &[u32],
+    net: &'a Network,
+    terminals: &'a [u32],
     k: usize,
     allowance: u64,
 ) -> Option<(u128, u128, u128)> {
@@ -25,7 +25,7 @@ fn waved(
     pack(net, first, halves);
     let packed = Packed { net, first, halves };
     let reached = send_waves(packed, s, t, &mut flow, cells, 0, allowance);
-    let greatest = run_phases(packed, s, t, &mut flow, cells, reached, 0);
+    let greatest = run_phases(Task { packed, s, t }, &mut flow, cells, reached, 0);
     let mut other = empty_flow(alloc, net)?;
     let mut work = [7u32; 120];
     Some((

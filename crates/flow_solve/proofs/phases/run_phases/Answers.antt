@@ -12,8 +12,8 @@ pub phases-init : goal.phases-init
 phases-init c = record {
   flow = c.requires.flow;
   far =
-      far_start c.args.packed.net.now c.args.s.now c.args.t.now c.args.flow.now.flows
-      (terminals_apart c.args.packed.net.now c.args.s.now c.args.t.now c.requires.terminals);
+      far_start c.args.task.packed.net.now c.args.task.s.now c.args.task.t.now c.args.flow.now.flows
+      (terminals_apart c.args.task.packed.net.now c.args.task.s.now c.args.task.t.now c.requires.task.terminals);
   first = λ l. omega (arith, l);
   few = omega (arith, c.nodes-n.ensures.is_net.nodes_least);
   never_lowered = omega arith;
@@ -25,9 +25,9 @@ phases-preserved c =
     let old = c.phases.invariant in
     let found = c.find_levels.ensures in
     let now = c.run_phase-value.ensures in
-    let net = c.args.packed.net.now in
-    let far : IsFar net c.args.s.now c.args.t.now c.find_levels.new.flow.flows c.phases.phases =
-    subst (λ (ys : List ℕ). IsFar net c.args.s.now c.args.t.now ys c.phases.phases) (sym found.looks.flows)
+    let net = c.args.task.packed.net.now in
+    let far : IsFar net c.args.task.s.now c.args.task.t.now c.find_levels.new.flow.flows c.phases.phases =
+    subst (λ (ys : List ℕ). IsFar net c.args.task.s.now c.args.task.t.now ys c.phases.phases) (sym found.looks.flows)
     old.far in
     record {
       flow = now.flow;
@@ -44,16 +44,16 @@ phases-preserved-then-supply-search c =
     let old = c.phases.invariant in
     let found = c.find_levels.ensures in
     let lifted = c.run_lifted-value.ensures in
-    let net = c.args.packed.net.now in
+    let net = c.args.task.packed.net.now in
     let none : c.phases.phases ≡ 0 = elim (cases_lt 0 c.phases.phases) [
       | inl l ↦ omega (arith, old.first (omega (arith, l)), c.if-supply-search.true)
       | inr l ↦ omega (arith, l)
     ] in
-    let far = far_start net c.args.s.now c.args.t.now c.run_lifted-value.new.flow.flows
-    (terminals_apart net c.args.s.now c.args.t.now c.requires.terminals) in
+    let far = far_start net c.args.task.s.now c.args.task.t.now c.run_lifted-value.new.flow.flows
+    (terminals_apart net c.args.task.s.now c.args.task.t.now c.requires.task.terminals) in
     record {
       flow = lifted.flow;
-      far = subst (λ (j : ℕ). IsFar net c.args.s.now c.args.t.now c.run_lifted-value.new.flow.flows j) (sym none) far;
+      far = subst (λ (j : ℕ). IsFar net c.args.task.s.now c.args.task.t.now c.run_lifted-value.new.flow.flows j) (sym none) far;
       first = λ l. omega (arith, l, none);
       few = old.few;
       never_lowered = omega (arith, old.never_lowered, found.looks.never_lowered, lifted.paid.never_lowered);
@@ -63,28 +63,28 @@ phases-preserved-then-supply-search c =
 pub returns-clause-greatest : goal.returns-clause-greatest
 returns-clause-greatest c =
     let old = c.phases.invariant in let found = c.find_levels.ensures in
-    (settled c.args.packed.net.now c.args.s.now c.args.t.now c.phases.flow.flows (seen c.find_levels.new.dist)
+    (settled c.args.task.packed.net.now c.args.task.s.now c.args.task.t.now c.phases.flow.flows (seen c.find_levels.new.dist)
     c.phases.value c.nodes-n.ensures.is_net old.flow (found.missed c.phases-test.false).whole
     (found.missed c.phases-test.false).outside).0
 
 pub returns-clause-least : goal.returns-clause-least
 returns-clause-least c =
     let old = c.phases.invariant in let found = c.find_levels.ensures in
-    (settled c.args.packed.net.now c.args.s.now c.args.t.now c.phases.flow.flows (seen c.find_levels.new.dist)
+    (settled c.args.task.packed.net.now c.args.task.s.now c.args.task.t.now c.phases.flow.flows (seen c.find_levels.new.dist)
     c.phases.value c.nodes-n.ensures.is_net old.flow (found.missed c.phases-test.false).whole
     (found.missed c.phases-test.false).outside).1
 
 pub returns-clause-steps : goal.returns-clause-steps
 returns-clause-steps c =
-    let old = c.phases.invariant in let found = c.find_levels.ensures in let net = c.args.packed.net.now in
+    let old = c.phases.invariant in let found = c.find_levels.ensures in let net = c.args.task.packed.net.now in
     run_paid net.nodes (length net.arcs) (net.nodes - 1) c.phases.phases (c.args.flow.now.steps + c.args.allowance)
     c.find_levels.new.flow.steps (omega (arith, old.few)) (omega (arith, c.nodes-n.ensures.is_net.nodes_least))
     (omega (arith, old.few)) (omega (arith, old.steps, found.looks.steps))
 
 pub run_phase-value-requires-clause-run : goal.run_phase-value-requires-clause-run
 run_phase-value-requires-clause-run c = record {
-  terminals = c.requires.terminals;
-  packed = c.requires.packed;
+  terminals = c.requires.task.terminals;
+  packed = c.requires.task.packed;
   dist_size = omega arith;
   rank_size = omega arith;
   sinks = (c.find_levels.ensures.levels c.phases-test.true).sinks;

@@ -12,7 +12,7 @@ use Rattle.flow_text.specs.Tests.{Test, first_failed, number_tests, ends_tests}
 use Rattle.flow_text.specs.Rules.{Rules, is_comment, fault_of, first_fault, whole_fault, at_line}
 use Rattle.flow_text.specs.Reading.{accepted, with_line, Adds}
 use Rattle.flow_text.specs.declared.faults.FaultCode.{FaultCode}
-use Rattle.flow_text.specs.declared.faults.FaultCode.TheVariants.{LineTooLong, WrongFields, BadNumber, NodeOutOfRange}
+use Rattle.flow_text.specs.declared.faults.FaultCode.TheVariants.{LineTooLong, WrongFields, NodeOutOfRange}
 use Rattle.flow_text.proofs.FaultLemmas.{or_parts}
 use Rattle.flow_text.proofs.RuleLemmas.{of_comment, of_long, of_empty, of_fields}
 use Rattle.flow_text.specs.declared.limits.TheConstants.{LONGEST_LINE}
@@ -86,7 +86,7 @@ or_false true b h = cc
 pub number-passed : (field : List ℕ) (least greatest : ℕ) (code : FaultCode) (tests : List Test)
     → first_failed (number_tests field least greatest code ++ tests) ≡ None → InRange field least greatest tests
 number-passed field least greatest code tests h =
-    let digits = passed (not (is_number field)) BadNumber
+    let digits = passed (not (is_number field)) _
     (first_failed ((nat_lt (value_of field) least || nat_lt greatest (value_of field), code) ∷ tests)) h in
     let range = passed (nat_lt (value_of field) least || nat_lt greatest (value_of field)) code (first_failed tests)
     digits.1 in

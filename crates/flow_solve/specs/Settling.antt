@@ -1,10 +1,12 @@
 -- The test at the end of a stage of which nothing is claimed: sums over the first arcs, in cells.
-use Rattle.std.specs.Prelude.{◌≡◌, ℕ, ◌+◌, ◌-◌, ◌*◌, ◌<◌, ◌≤◌, Bool, List, length, slice_index, take, if◌then◌else◌}
+use Rattle.std.specs.Prelude.{◌≡◌, ℕ, ◌+◌, ◌-◌, ◌*◌, ◌<◌, ◌≤◌, Bool, List, length, slice_index, take}
+use Rattle.std.specs.Prelude.{if◌then◌else◌}
 use Rattle.flow_net.specs.declared.limits.TheConstants.{GREATEST_CAPACITY}
 use Rattle.flow_net.specs.Nets.{Net, arc_at}
 use Rattle.flow_net.specs.NodeSets.{one_of, just}
 use Rattle.flow_net.specs.Flows.{out_of, into}
 use Rattle.flow_solve.specs.declared.settling.TheConstants.{EVEN, INNER, SOURCE, SINK}
+use Rattle.flow_solve.specs.declared.stages.Task.{Task}
 
 -- the number of 64 bits in two cells, the lower half first
 abbrev pub pair_at : List ℕ → ℕ → ℕ
@@ -18,6 +20,9 @@ role_of s t v = if one_of t v then SINK else if one_of s v then SOURCE else INNE
 pub record AreRoles (net : Net) (s t roles : List ℕ) : Type 0 where
   pub size : length roles ≡ net.nodes
   pub stand : (v : ℕ) → 1 ≤ v → v ≤ net.nodes → slice_index roles (v - 1) ≡ role_of s t v
+
+abbrev pub HasRoles : Task → List ℕ → Type 0
+HasRoles task roles = AreRoles task.packed.net.now task.s.now task.t.now roles
 
 -- what leaves the nodes of a set, and what enters them, over the first i arcs
 abbrev pub out_so_far : (ℕ → Bool) → Net → List ℕ → ℕ → ℕ
@@ -36,3 +41,6 @@ pub record AreSums (net : Net) (s t xs balances : List ℕ) (i out inward : ℕ)
   pub leaves_most : out ≤ i * GREATEST_CAPACITY
   pub enters_most : inward ≤ i * GREATEST_CAPACITY
   pub loops : (j : ℕ) → j < i → (arc_at net j).src ≡ (arc_at net j).dst → slice_index xs j ≡ 0
+
+abbrev pub HasSums : Task → List ℕ → List ℕ → ℕ → ℕ → ℕ → Type 0
+HasSums task xs balances i out inward = AreSums task.packed.net.now task.s.now task.t.now xs balances i out inward

@@ -1,46 +1,48 @@
-//! The method by levels (Dinitz 1970), in four stages that work on one flow: search trees first, then waves where arcs lie in
-//! layers, then phases that lift stuck nodes, then phases that don't.
+//! The method by levels (Dinitz 1970), in four stages that work on one flow: search trees first, then waves where arcs
+//! lie in layers, then phases that lift stuck nodes, then phases that don't.
 //!
-//! 1. **Two trees** (`trees`, `chains`, `orphans`, `frontiers`). Search trees grow from the sources and from the sinks, a
-//!    level of the smaller *frontier* at a time (Boykov and Kolmogorov 2004), and are kept breadth-first (incremental
-//!    breadth-first search: Goldberg, Hed, Kaplan, Tarjan and Werneck 2011). Each node in a tree has a *label*, which tells
-//!    its level, and a *parent*, the half-arc that leads a level nearer to its root. Where the trees touch, an augmenting path
-//!    is pushed through. A node whose half-arc to its parent was filled is an *orphan*: it is *adopted* by another node a
-//!    level nearer to the root, or else raised to a farther level, with its children as orphans in turn, or set free. So no
-//!    search begins anew. That serves where the first paths are short and most of a tree outlives a push: images,
-//!    assignments, closures.
-//! 2. **Waves** (`waves`, `settling`). Where the trees have found that ways are long, a thousand units can leave the sources and
-//!    reach the sinks, and three quarters of the arcs lead to a lower rank in a search backwards from the sinks, flow is sent
-//!    in waves (Karzanov 1974, Tarjan 1984): a sweep from the
-//!    highest rank to the lowest sends on all that each node has received, and the next search ranks the nodes anew for what
-//!    was stuck. So thousands of paths that share most of their half-arcs cost one search and one sweep. In the end what no
-//!    sink takes goes home by waves from the sources, and the table is settled: it stays if a feasible flow stands there, and
-//!    is cleared otherwise. Where arcs have opposite arcs, as in roads and frames, lifting was measured to be better.
-//! 3. **Phases that lift** (`phases`, `lifting`). A search backwards from the sinks gives the nodes distances and ranks, and
-//!    walks go from the sources along half-arcs that fall in distance, or in rank at the same distance. A node where a walk is
-//!    stuck is *lifted*: its distance becomes one more than the least of a node that something remains towards, which is the
-//!    relabelling of Goldberg and Tarjan (1988) in a walk that carries no excess. Nodes beyond the farthest source take part at
-//!    its distance. Lifting passes at most half as many half-arcs as leave the nodes that the search has seen, the phase's
-//!    *fuel*; after that a stuck node is given up until the next search. So one search serves many more augmentations where
-//!    few paths are short.
+//! 1. **Two trees** (`trees`, `chains`, `orphans`, `frontiers`). Search trees grow from the sources and from the sinks,
+//!    a level of the smaller *frontier* at a time (Boykov and Kolmogorov 2004), and are kept breadth-first (incremental
+//!    breadth-first search: Goldberg, Hed, Kaplan, Tarjan and Werneck 2011). Each node in a tree has a *label*, which
+//!    tells its level, and a *parent*, the half-arc that leads a level nearer to its root. Where the trees touch, an
+//!    augmenting path is pushed through. A node whose half-arc to its parent was filled is an *orphan*: it is *adopted*
+//!    by another node a level nearer to the root, or else raised to a farther level, with its children as orphans in
+//!    turn, or set free. So no search begins anew. That serves where the first paths are short and most of a tree
+//!    outlives a push: images, assignments, closures.
+//! 2. **Waves** (`waves`, `settling`). Where the trees have found that ways are long, a thousand units can leave the
+//!    sources and reach the sinks, and three quarters of the arcs lead to a lower rank in a search backwards from the
+//!    sinks, flow is sent in waves (Karzanov 1974, Tarjan 1984): a sweep from the highest rank to the lowest sends on
+//!    all that each node has received, and the next search ranks the nodes anew for what was stuck. So thousands of
+//!    paths that share most of their half-arcs cost one search and one sweep. In the end what no sink takes goes home
+//!    by waves from the sources, and the table is settled: it stays if a feasible flow stands there, and is cleared
+//!    otherwise. Where arcs have opposite arcs, as in roads and frames, lifting was measured to be better.
+//! 3. **Phases that lift** (`phases`, `lifting`). A search backwards from the sinks gives the nodes distances and
+//!    ranks, and walks go from the sources along half-arcs that fall in distance, or in rank at the same distance. A
+//!    node where a walk is stuck is *lifted*: its distance becomes one more than the least of a node that something
+//!    remains towards, which is the relabelling of Goldberg and Tarjan (1988) in a walk that carries no excess. Nodes
+//!    beyond the farthest source take part at its distance. Lifting passes at most half as many half-arcs as leave the
+//!    nodes that the search has seen, the phase's *fuel*; after that a stuck node is given up until the next search. So
+//!    one search serves many more augmentations where few paths are short.
 //! 4. **Phases** (`phases`, `walking`). A search backwards from the sinks ranks the nodes, walks from the sources along
-//!    falling ranks block all shortest paths, and the distance from the sources to the sinks grows by each phase. They go
-//!    on from whatever feasible flow they find, and their last search, which sees no source, shows that the flow is greatest.
+//!    falling ranks block all shortest paths, and the distance from the sources to the sinks grows by each phase. They
+//!    go on from whatever feasible flow they find, and their last search, which sees no source, shows that the flow is
+//!    greatest.
 //!
-//! Nothing is claimed of the trees, nor of lifted distances: a path is written down and looked at, half-arc by half-arc,
-//! before anything is pushed along it, and a stage may leave wherever it is. Of waves no more is claimed than what their end
-//! tests. What the trees take is counted off an allowance of 16 steps for each arc, and what waves and lifting phases take
-//! off the rest of `n²·m`; a half-arc that is passed by without a look counts as a step too.
-//! The other phases take at most `3·n²·m` from any feasible flow, so that all stay within `4·n²·m` for each network. They
-//! seldom begin: the last search, which shows that the flow is greatest, is mostly that of a phase that would have lifted.
+//! Nothing is claimed of the trees, nor of lifted distances: a path is written down and looked at, half-arc by
+//! half-arc, before anything is pushed along it, and a stage may leave wherever it is. Of waves no more is claimed than
+//! what their end tests. What the trees take is counted off an allowance of 16 steps for each arc, and what waves and
+//! lifting phases take off the rest of `n²·m`; a half-arc that is passed by without a look counts as a step too. The
+//! other phases take at most `3·n²·m` from any feasible flow, so that all stay within `4·n²·m` for each network. They
+//! seldom begin: the last search, which shows that the flow is greatest, is mostly that of a phase that would have
+//! lifted.
 //!
-//! The trees aren't grown where they were measured to bring nothing: where there are more than 32 arcs for each node, since a
-//! repair passes all half-arcs of a node; and no farther than until the nearest source and sink are found to be more than
-//! some 16 half-arcs apart, since then much flow goes far, and paths one by one bring little. There waves, or the phases,
-//! begin at once.
+//! The trees aren't grown where they were measured to bring nothing: where there are more than 32 arcs for each node,
+//! since a repair passes all half-arcs of a node; and no farther than until the nearest source and sink are found to be
+//! more than some 16 half-arcs apart, since then much flow goes far, and paths one by one bring little. There waves, or
+//! the phases, begin at once.
 //!
-//! Seconds of user time of `flow solve --value`, reading and all, on problems of `bench/generate.py` with 1,000,000 arcs
-//! (least of four runs in turn on a busy machine):
+//! Seconds of user time of `flow solve --value`, reading and all, on problems of `bench/generate.py` with 1,000,000
+//! arcs (least of four runs in turn on a busy machine):
 //!
 //! | Family | Phases alone | Trees first |
 //! |---|--:|--:|
@@ -49,8 +51,17 @@
 //! | `project-selection` | 0.28 | 0.12 |
 //! | `matching` | 0.41 | 0.39 |
 //!
-//! In `acyclic-dense`, `roads` and the families of frames the trees only look for the first levels, and the phases begin at
-//! once. What lifting brings there, in seconds of user time on problems with some 500,000 arcs (least of two
+//! In random level graphs, whose nodes lie in layers, the trees only look for the first levels, and waves begin at
+//! once. What they bring there, against the same program without them, in seconds of user time on problems with some
+//! 400,000 arcs (least of three runs in turn on a busy machine):
+//!
+//! | Family | No waves | Waves |
+//! |---|--:|--:|
+//! | `rlg-long`, 64 nodes a level | 18.1 | 1.26 |
+//! | `rlg-wide`, 64 levels | 5.20 | 1.92 |
+//!
+//! In `acyclic-dense`, `roads` and the families of frames the trees only look for the first levels, and the phases
+//! begin at once. What lifting brings there, in seconds of user time on problems with some 500,000 arcs (least of two
 //! runs on a busy machine):
 //!
 //! | Family | Phases that don't lift | Phases that lift |
@@ -77,7 +88,8 @@ use flow_net::{FlowTable, Network};
 /// How many times the number of arcs the trees may take, in steps and in half-arcs that they pass by.
 const TREES_SHARE: u64 = 16;
 
-/// The most arcs for each node with which the trees are grown: each repair of theirs passes all half-arcs of some nodes.
+/// The most arcs for each node with which the trees are grown: each repair of theirs passes all half-arcs of some
+/// nodes.
 const TREES_DEGREE: u32 = 32;
 
 /// How much the trees may take before the phases go on; nothing in a dense network.
@@ -115,8 +127,9 @@ fn rest_of_allowance(net: &Network, given: u64) -> u64
         .saturating_sub(given)
 }
 
-/// Augments along shortest paths, level by level, in phases: a search backwards from the sinks ranks the nodes, the nearest
-/// first, and walks from the sources along falling ranks block all shortest paths. It takes at most `4·n²·m` steps.
+/// Augments along shortest paths, level by level, in phases: a search backwards from the sinks ranks the nodes, the
+/// nearest first, and walks from the sources along falling ranks block all shortest paths. It takes at most `4·n²·m`
+/// steps.
 pub struct Levels;
 
 impl Raise for Levels {
@@ -137,7 +150,7 @@ impl Raise for Levels {
         let share = share_of_waves(packed.net, given, rest);
         // Where the trees have found a path, paths are short.
         let raised = if raised == value {
-            try_waves(packed, s, t, flow, cells, value, share)
+            try_waves(task, flow, cells, value, share)
         } else {
             raised
         };

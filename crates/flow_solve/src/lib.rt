@@ -30,7 +30,7 @@
 //! |---|---|
 //! | `1` | spare, since nodes and levels count from 1 |
 //! | `n` | each node's label: twice its level in its tree, and 1 more in that of the sinks; 0 for a free node |
-//! | `n` | the half-arc to its parent; for an orphan the next orphan of its level, for a root its place among the terminals |
+//! | `n` | the half-arc to its parent; for an orphan the next of its level, for a root its place among the terminals |
 //! | `n` | the node before it in its frontier |
 //! | `n` | the node after it in its frontier |
 //! | `n - 1` | for each level its first orphan; while flow is pushed, the half-arcs of the path |
@@ -39,10 +39,10 @@
 //!
 //! | Cells | What they hold |
 //! |---|---|
-//! | `n` | each node's rank in the last search |
+//! | `2·n` | each node's excess, in two cells |
+//! | `n` | its rank in the last search |
 //! | `n` | the bound of what it can pass on |
 //! | `n` | the places of the nodes by rank, which is the search's queue |
-//! | `2·n` | each node's excess, in two cells |
 //!
 //! and, where their table is settled, for each node's balance (`2·n` cells) and its role (`n` cells).
 //!
@@ -52,8 +52,8 @@
 //! |---|---|
 //! | `n` | the nodes in their order |
 //! | `n` | each node's place in that order; while a search has seen it, `n` and twice its level |
-//! | `n` | while the order is made, how many half-arcs join each node with those before; each seen node's current place: that of its half-arc which the walk tries next |
-//! | `n` | while the order is made, for each number of these the place of the first node with so many; the search's queue |
+//! | `n` | while the order is made, how many half-arcs join each node with those before; then its current place |
+//! | `n` | while the order is made, for each number of these the first node's place; then the search's queue |
 //! | `n` | the half-arcs of the walk's path |
 #![tactic(auto)]
 

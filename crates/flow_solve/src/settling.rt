@@ -1,20 +1,21 @@
-//! The test at the end of a stage of which nothing is claimed on the way: whether a table carries a feasible flow, and of
-//! which value.
+//! The test at the end of a stage of which nothing is claimed on the way: whether a table carries a feasible flow, and
+//! of which value.
 //!
-//! It goes over the arcs once, in their order. Each node that is no terminal has a *balance* in two cells, what enters it
-//! less what leaves it, counted from [`EVEN`]; a balance that 64 bits can't hold fails the test, and so does a self-loop with
-//! flow.
-ghost use Rattle.std.specs.Prelude.{◌≡◌, ◌≢◌, ℕ, ◌+◌, ◌-◌, ◌*◌, ◌<◌, ◌≤◌, ◌==◌, if◌then◌else◌, true, IfSome, length, slice_index};
+//! It goes over the arcs once, in their order. Each node that is no terminal has a *balance* in two cells, what enters
+//! it less what leaves it, counted from [`EVEN`]; a balance that is too great for 64 bits fails the test, and so does a
+//! self-loop with flow.
+ghost use Rattle.std.specs.Prelude.{◌≡◌, ◌≢◌, ℕ, ◌+◌, ◌-◌, ◌*◌, ◌<◌, ◌≤◌, ◌==◌, if◌then◌else◌};
+ghost use Rattle.std.specs.Prelude.{true, IfSome, length, slice_index};
 ghost use Rattle.std.specs.List.{All};
-ghost use Rattle.flow_net.specs.Nets.{IsNode};
-ghost use Rattle.flow_net.specs.Limits.{AreTerminals};
 ghost use Rattle.flow_net.specs.NodeSets.{one_of};
 ghost use Rattle.flow_net.specs.Flows.{Fits};
-ghost use Rattle.flow_solve.specs.Raising.{IsFlow};
-ghost use Rattle.flow_solve.specs.Settling.{pair_at, AreRoles, AreSums};
+ghost use Rattle.flow_solve.specs.Settling.{pair_at, HasRoles, HasSums};
+ghost use Rattle.flow_solve.specs.Stages.{HasFlow, IsTask};
+ghost use Rattle.flow_solve.specs.Steps.{OnlyLooks};
 
 use crate::frontiers::get;
-use flow_net::{FlowTable, Network};
+use crate::stages::Task;
+use flow_net::FlowTable;
 
 /// Each of the two cells of a balance of [`EVEN`].
 const HALF: u32 = 2_147_483_648;
@@ -56,7 +57,8 @@ pub(crate) fn put_pair(cells: &mut [u32], place: u32, number: u64)
 fn cast(roles: &mut [u32], terminals: &[u32], role: u32)
     requires { All (λ v. (1 ≤ v) × (v ≤ length roles.old)) terminals.now }
     ensures size { length roles.new ≡ length roles.old }
-    ensures roles { (p : ℕ) → p < length roles.old → slice_index roles.new p ≡ (if one_of terminals.now (p + 1) then role else slice_index roles.old p) }
+    ensures roles { (p : ℕ) → p < length roles.old
+        → slice_index roles.new p ≡ (if one_of terminals.now (p + 1) then role else slice_index roles.old p) }
 {
     for node in terminals {
         roles[*node as usize - 1] = role;
@@ -115,26 +117,24 @@ fn at_source(roles: &[u32], node: u32, amount: u64) -> u128
     }
 }
 
-/// Books what each arc carries. Answers what leaves the sources and what enters them, unless a self-loop carries something
-/// or a balance has no room.
+/// Books what each arc carries. Answers what leaves the sources and what enters them, unless a self-loop carries
+/// something or a balance has no room.
 fn tally(
-    net: &Network,
-    s: &[u32],
-    t: &[u32],
+    task: Task<'_>,
     flow: &mut FlowTable,
     roles: &[u32],
     balances: &mut [u32],
 ) -> Option<(u128, u128)>
-    requires fits { Fits net.now flow.old.flows }
-    requires terminals { AreTerminals net.now s.now t.now }
-    requires roles { AreRoles net.now s.now t.now roles.now }
-    requires sums { AreSums net.now s.now t.now flow.old.flows balances.old 0 0 0 }
-    ensures sums { IfSome result (λ r. AreSums net.now s.now t.now flow.old.flows balances.new (length net.now.arcs) r.0 r.1) }
+    requires task { IsTask task }
+    requires fits { Fits task.packed.net.now flow.old.flows }
+    requires roles { HasRoles task roles.now }
+    requires sums { HasSums task flow.old.flows balances.old 0 0 0 }
+    ensures sums { IfSome result (λ r. HasSums task.entry flow.old.flows balances.new
+        (length task.entry.packed.net.now.arcs) r.0 r.1) }
     ensures size { length balances.new ≡ length balances.old }
-    ensures flows { flow.new.flows ≡ flow.old.flows }
-    ensures never_lowered { flow.old.steps ≤ flow.new.steps }
-    ensures steps { flow.new.steps ≤ flow.old.steps + length net.now.arcs }
+    ensures looks { OnlyLooks flow.old flow.new (length task.entry.packed.net.now.arcs) }
 {
+    let net = task.packed.net;
     let (mut out, mut inward) = (0, 0);
     for i in 0..net.len() {
         let arc = net.arc(i);
@@ -157,7 +157,8 @@ fn tally(
 /// Whether as much enters as leaves each node that is no terminal.
 fn are_even(roles: &[u32], balances: &[u32]) -> bool
     requires few { length roles.now ≤ 1000000 }
-    ensures { result ≡ true → (p : ℕ) → p < length roles.now → slice_index roles.now p ≡ INNER → pair_at balances.now p ≡ EVEN }
+    ensures { result ≡ true → (p : ℕ) → p < length roles.now → slice_index roles.now p ≡ INNER
+        → pair_at balances.now p ≡ EVEN }
 {
     for place in 0..roles.len() {
         if roles[place] == INNER && get_pair(balances, place as u32) != EVEN {
@@ -167,30 +168,23 @@ fn are_even(roles: &[u32], balances: &[u32]) -> bool
     true
 }
 
-/// The value of the flow in a table, if it is feasible and nothing is on self-loops. One look at each arc, and `3·n` cells.
-pub(crate) fn settle(
-    net: &Network,
-    s: &[u32],
-    t: &[u32],
-    flow: &mut FlowTable,
-    cells: &mut [u32],
-) -> Option<u128>
-    requires fits { Fits net.now flow.old.flows }
-    requires terminals { AreTerminals net.now s.now t.now }
-    requires cells { 3 * net.now.nodes ≤ length cells.old }
-    ensures flow { IfSome result (IsFlow net.now s.now t.now flow.new.flows) }
-    ensures flows { flow.new.flows ≡ flow.old.flows }
-    ensures never_lowered { flow.old.steps ≤ flow.new.steps }
-    ensures steps { flow.new.steps ≤ flow.old.steps + length net.now.arcs }
+/// The value of the flow in a table, if it is feasible and nothing is on self-loops. One look at each arc, and `3·n`
+/// cells.
+pub(crate) fn settle(task: Task<'_>, flow: &mut FlowTable, cells: &mut [u32]) -> Option<u128>
+    requires task { IsTask task }
+    requires fits { Fits task.packed.net.now flow.old.flows }
+    requires cells { 3 * task.packed.net.now.nodes ≤ length cells.old }
+    ensures flow { IfSome result (HasFlow task.entry flow.new.flows) }
+    ensures looks { OnlyLooks flow.old flow.new (length task.entry.packed.net.now.arcs) }
 {
-    let n = net.nodes() as usize;
+    let n = task.packed.net.nodes() as usize;
     let (balances, rest) = cells.split_at_mut(2 * n);
     let (roles, _) = rest.split_at_mut(n);
     balances.fill(HALF);
     roles.fill(INNER);
-    cast(roles, s, SOURCE);
-    cast(roles, t, SINK);
-    let Some((out, inward)) = tally(net, s, t, flow, roles, balances) else {
+    cast(roles, task.s, SOURCE);
+    cast(roles, task.t, SINK);
+    let Some((out, inward)) = tally(task, flow, roles, balances) else {
         return None;
     };
     if are_even(roles, balances) {

@@ -86,8 +86,8 @@ fn add(net: &mut Network, src: u32, dst: u32, cap: u64) -> bool {
     }
 }
 
-/// What the solver says of a network: whether the empty flow can be raised, the greatest value, the least source side and
-/// the least sink side.
+/// What the solver says of a network: whether the empty flow can be raised, the greatest value, the least source side
+/// and the least sink side.
 #[derive(Drop)]
 struct Answer {
     rises: bool,
@@ -107,8 +107,8 @@ fn empty_flow(alloc: Global, net: &Network) -> Option<FlowTable>
     }
 }
 
-/// The solvers' answer for a network of at most 6 nodes and 40 arcs, if the terminals are good and they and their searches
-/// agree.
+/// The solvers' answer for a network of at most 6 nodes and 40 arcs, if the terminals are good and they and their
+/// searches agree.
 fn solve(alloc: Global, net: &Network, terminals: &[u32], k: usize) -> Option<Answer> {
     let mut work = [7u32; 120];
     let n = net.nodes() as usize;
@@ -312,8 +312,8 @@ fn all_sets_agree(rt: HostRuntime) {
     assert!(&rt; tried > 100);
 }
 
-/// A network, and what the solvers are to say of it. The first `k` terminals are the sources. The least source side and the
-/// least sink side have a 1 for each node inside, and so as many numbers as there are nodes.
+/// A network, and what the solvers are to say of it. The first `k` terminals are the sources. The least source side and
+/// the least sink side have a 1 for each node inside, and so as many numbers as there are nodes.
 struct Known {
     name: &'static str,
     arcs: &'static [(u32, u32, u64)],
@@ -567,8 +567,8 @@ fn known_answers(rt: HostRuntime) {
     }
 }
 
-/// The values that the trees reach with an allowance, and the phases after them, which lift as long as theirs lasts, and that
-/// of the other method, for a network of at most 6 nodes and 40 arcs, if the terminals are good.
+/// The values that the trees reach with an allowance, and the phases after them, which lift as long as theirs lasts,
+/// and that of the other method, for a network of at most 6 nodes and 40 arcs, if the terminals are good.
 fn stages<'a>(
     alloc: Global,
     net: &'a Network,
@@ -602,7 +602,8 @@ fn stages<'a>(
     ))
 }
 
-/// Arcs on which the trees come to an end of themselves, and the greatest value. Node 1 is the source and node 6 the sink.
+/// Arcs on which the trees come to an end of themselves, and the greatest value. Node 1 is the source and node 6 the
+/// sink.
 const GROWN: &[(&[(u32, u32, u64)], u128)] = &[
     (&[(1, 2, 3), (2, 6, 2), (1, 3, 4), (3, 6, 5), (1, 6, 7)], 13),
     // The half-arc from node 1 to node 2 is filled first: node 2 is an orphan that has to be raised.

@@ -2,8 +2,8 @@
 use super::*;
 use crate::waves::send_waves;
 
-/// The values that waves reach with an allowance, and the phases after them, and that of the other method, for a network of
-/// at most 6 nodes and 40 arcs, if the terminals are good.
+/// The values that waves reach with an allowance, and the phases after them, and that of the other method, for a
+/// network of at most 6 nodes and 40 arcs, if the terminals are good.
 fn waved<'a>(
     alloc: Global,
     net: &'a Network,
@@ -24,8 +24,9 @@ fn waved<'a>(
     let (halves, _rest) = rest.split_at_mut(2 * m);
     pack(net, first, halves);
     let packed = Packed { net, first, halves };
-    let reached = send_waves(packed, s, t, &mut flow, cells, 0, allowance);
-    let greatest = run_phases(Task { packed, s, t }, &mut flow, cells, reached, 0);
+    let task = Task { packed, s, t };
+    let reached = send_waves(task, &mut flow, cells, 0, allowance);
+    let greatest = run_phases(task, &mut flow, cells, reached, 0);
     let mut other = empty_flow(alloc, net)?;
     let mut work = [7u32; 120];
     Some((
@@ -35,7 +36,8 @@ fn waved<'a>(
     ))
 }
 
-/// A network in layers: its arcs, its terminals, the first `k` of them sources, what waves reach, and the greatest value.
+/// A network in layers: its arcs, its terminals, the first `k` of them sources, what waves reach, and the greatest
+/// value.
 struct Layers {
     name: &'static str,
     arcs: &'static [(u32, u32, u64)],

@@ -1,3 +1,4 @@
+-- `tally`: one arc more is booked.
 use Rattle.std.proofs.Common.{◌≡◌, ℕ, List, get_or, refl, ◌∙◌, ap, arith}
 use Rattle.flow_net.proofs.Zips.{against}
 use Rattle.flow_solve.proofs.Settled.{sums_more}
@@ -6,11 +7,11 @@ use Rattle.flow_solve.proofs.settling.tally.Goals as goal
 
 pub loop-i-preserved : goal.loop-i-preserved
 loop-i-preserved c =
-    let old = c.loop-i.invariant in let net = c.args.net.now in let xs = c.args.flow.now.flows in let i = c.loop-i.i in
+    let old = c.loop-i.invariant in let task = c.args.task in let net = task.packed.net.now in let xs = c.args.flow.now.flows in let i = c.loop-i.i in
     let a = c.arc-arc.result in let x = c.look-amount.result.1 in
     let carried : x ≡ get_or xs i 0 =
     c.look-amount.ensures.residual ∙ (against net c.loop-i.flow.flows i).2
-    ∙ ap (λ (ys : List ℕ). get_or ys i 0) old.flows in
+    ∙ ap (λ (ys : List ℕ). get_or ys i 0) old.looks.flows in
     let loop : a.src ≡ a.dst → x ≡ 0 = λ e. elim c.else-arc.branch [
       | else-arc-via-then-arc+else-amount-gt0 w ↦ omega (arith, w.if-amount-gt0.false)
       | else-arc-via-else-arc w ↦ absurd (w.if-arc.false e)
@@ -18,14 +19,16 @@ loop-i-preserved c =
     record {
       range = old.range;
       fits = c.look-amount.ensures.still_fits;
-      flows = c.look-amount.ensures.flows ∙ old.flows;
       sums =
-          sums_more net c.args.s.now c.args.t.now xs c.loop-i.balances c.lose.new.balances c.gain.new.balances
+          sums_more net task.s.now task.t.now xs c.loop-i.balances c.lose.new.balances c.gain.new.balances
           c.args.roles.now a x i c.loop-i.out c.loop-i.inward c.at_source-out.result c.at_source-inward.result
-          c.len-i-end.ensures.is_net c.requires.terminals c.requires.fits c.requires.roles (omega arith)
+          c.len-i-end.ensures.is_net c.requires.task.terminals c.requires.fits c.requires.roles (omega arith)
           c.arc-arc.ensures.arc carried loop (c.gain.ensures.size ∙ c.lose.ensures.size)
           (c.if-not-lose.ensures.booked refl) (c.if-not-gain.ensures.booked refl) c.at_source-out.ensures
           c.at_source-inward.ensures old.sums;
-      never_lowered = omega (arith, old.never_lowered, c.look-amount.ensures.steps);
-      steps = omega (arith, old.steps, c.look-amount.ensures.steps);
+      looks = record {
+        flows = c.look-amount.ensures.flows ∙ old.looks.flows;
+        never_lowered = omega (arith, old.looks.never_lowered, c.look-amount.ensures.steps);
+        steps = omega (arith, old.looks.steps, c.look-amount.ensures.steps);
+      };
     }

@@ -1,14 +1,14 @@
-use Rattle.std.proofs.Common.{◌≡◌, ◌+◌, ◌-◌, ◌≤◌}
+-- `scan`: at most one look at each half-arc that was passed, and all of them are paid.
+use Rattle.std.proofs.Common.{◌≡◌, ◌+◌, ◌-◌}
 use Rattle.std.specs.Prelude.{slice_index}
 use Rattle.flow_net.specs.Flows.{Fits}
+use Rattle.flow_solve.specs.Steps.{OnlyLooks}
 use Rattle.flow_solve.proofs.waves.scan.Given as goal
 
 abbrev pub invariant-loop-spot : goal.invariant-loop-spot
 invariant-loop-spot l = record {
   fits : Fits l.packed.net.now l.flow.flows;
-  flows : l.flow.flows ≡ l.fn.flow.flows;
-  never_lowered : l.fn.flow.steps ≤ l.flow.steps;
   left : l.wave.left + (slice_index l.packed.first.now (l.place + 1) - slice_index l.packed.first.now l.place)
       ≡ l.fn.wave.left;
-  steps : l.flow.steps ≤ l.fn.flow.steps + (l.spot - slice_index l.packed.first.now l.place);
+  looks : OnlyLooks l.fn.flow l.flow (l.spot - slice_index l.packed.first.now l.place);
 }

@@ -1,10 +1,10 @@
-use Rattle.std.proofs.Common.{◌+◌, ◌≤◌}
+-- `send`: what the waves before have taken is paid.
 use Rattle.flow_net.specs.Flows.{Fits}
+use Rattle.flow_solve.specs.Steps.{PaysSteps}
 use Rattle.flow_solve.proofs.waves.send.Given as goal
 
 abbrev pub invariant-loop-turn : goal.invariant-loop-turn
 invariant-loop-turn l = record {
   fits : Fits l.packed.net.now l.flow.flows;
-  never_lowered : l.fn.flow.steps ≤ l.flow.steps;
-  steps : l.flow.steps + l.wave.left ≤ l.fn.flow.steps + l.allowance;
+  paid : PaysSteps l.fn.flow l.allowance l.flow l.wave.left;
 }

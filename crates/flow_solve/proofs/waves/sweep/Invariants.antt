@@ -1,6 +1,8 @@
+-- `sweep`: a look and a push at each half-arc that was passed, and all of them are paid.
 use Rattle.std.proofs.Common.{◌≡◌, ◌+◌, ◌*◌, ◌-◌, ◌≤◌}
 use Rattle.std.specs.Prelude.{slice_index}
 use Rattle.flow_net.specs.Flows.{Fits}
+use Rattle.flow_solve.specs.Steps.{TakesSteps}
 use Rattle.flow_solve.proofs.waves.sweep.Given as goal
 
 abbrev pub invariant-loop-spot : goal.invariant-loop-spot
@@ -8,10 +10,9 @@ invariant-loop-spot l = record {
   fits : Fits l.packed.net.now l.flow.flows;
   begun : slice_index l.packed.first.now l.place ≤ l.spot;
   within : l.spot ≤ slice_index l.packed.first.now (l.place + 1);
-  never_lowered : l.fn.flow.steps ≤ l.flow.steps;
   left : l.wave.left + 2 * (slice_index l.packed.first.now (l.place + 1) - slice_index l.packed.first.now l.place)
       ≡ l.fn.wave.left;
-  steps : l.flow.steps ≤ l.fn.flow.steps + 2 * (l.spot - slice_index l.packed.first.now l.place);
+  steps : TakesSteps l.fn.flow l.flow (2 * (l.spot - slice_index l.packed.first.now l.place));
 }
 
 abbrev pub decreases-loop-spot : goal.decreases-loop-spot

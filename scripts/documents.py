@@ -9,7 +9,8 @@ it prints, on standard output and standard error together. The commands of a doc
 scratch folder of its own, with a copy of examples/ and with FLOW on the PATH as `flow`; `$?` is the status of the
 command before. In a block fenced as ```console checkout, they run in the repository itself, where standard output
 alone is compared, with the repository's path shown as /path/to/flow, and they must leave no file behind that git would
-take. Links to files of the repository must lead somewhere. Each check that fails is told; the last line counts them.
+take. Links to files of the repository must lead somewhere, and each file of the crates must stand on the page that
+tells what stands where. Each check that fails is told; the last line counts them.
 """
 
 import difflib
@@ -138,6 +139,30 @@ def check_links(document):
     return passed, failed
 
 
+def check_names():
+    """Looks for the crates' files on the pages that tell what stands where; answers how many are there, and how many not.
+
+    A lemma file has a row in docs/PROOFS.md, a source file a place in docs/ARCHITECTURE.md, and a file of definitions is
+    named on one of these pages or in docs/DEFINITIONS.md. Tests are named where they are declared.
+    """
+    pages = {name: (REPOSITORY / f"docs/{name}.md").read_text() for name in ("PROOFS", "ARCHITECTURE", "DEFINITIONS")}
+    wanted = [(file, ["PROOFS"]) for file in REPOSITORY.glob("crates/*/proofs/*.antt")]
+    wanted += [(file, ["ARCHITECTURE"]) for file in REPOSITORY.glob("crates/*/src/**/*.rt")]
+    wanted += [(file, list(pages)) for file in REPOSITORY.glob("crates/*/specs/*.antt")]
+    passed = failed = 0
+    for file, names in sorted(wanted):
+        parts = (*file.parent.name.split("_"), *file.stem.split("_"))
+        if file.stem in ("Lib", "lib") or "tests" in parts or "test" in parts:
+            continue
+        if any(re.search(rf"\b{file.stem}\b", pages[name]) for name in names):
+            passed += 1
+        else:
+            failed += 1
+            wanted_in = " or ".join(f"docs/{name}.md" for name in names)
+            print(f"failed: {file.relative_to(REPOSITORY)} is not named in {wanted_in}")
+    return passed, failed
+
+
 def main():
     flow = pathlib.Path(sys.argv[1]).resolve()
     named = [pathlib.Path(name).resolve() for name in sys.argv[2:]]
@@ -150,6 +175,8 @@ def main():
             counts = [check_commands(document, pathlib.Path(scratch), flow), check_links(document)]
         passed += sum(count[0] for count in counts)
         failed += sum(count[1] for count in counts)
+    if not named:
+        passed, failed = map(sum, zip((passed, failed), check_names()))
     print(f"documents: {passed} passed, {failed} failed")
     return 1 if failed else 0
 

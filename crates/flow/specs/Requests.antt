@@ -17,7 +17,8 @@ abbrev pub job_for : Text → List Row → Option Job
 job_for name rows =
     if bytes_eq name (codes "solve") then Some (Solve (is_given (codes "value") rows))
     else if bytes_eq name (codes "cut") then Some (Cut (is_given (codes "arcs") rows) (is_given (codes "sink") rows))
-    else if bytes_eq name (codes "connect") then Some (Connect (is_given (codes "undirected") rows) (is_given (codes "pair") rows))
+    else if bytes_eq name (codes "connect")
+    then Some (Connect (is_given (codes "undirected") rows) (is_given (codes "pair") rows))
     else if bytes_eq name (codes "check") then Some (Check (is_given (codes "feasible") rows))
     else None
 

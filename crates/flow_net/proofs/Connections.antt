@@ -11,9 +11,12 @@ use Rattle.flow_net.specs.Limits.{IsNet}
 use Rattle.flow_net.specs.DerivedNets.{unit, unit_arc, reversed, both_ways}
 use Rattle.flow_net.specs.NodeSets.{just}
 use Rattle.flow_net.specs.Flows.{IsGreatest}
-use Rattle.flow_net.specs.Cuts.{cap_over, leaves, enters, IsCut, capacity, IsMinimumCut, IsLeastCapacity}
-use Rattle.flow_net.specs.Connectivity.{leaving, crossing, IsProper, IsConnectivity, IsUndirectedConnectivity}
-use Rattle.flow_net.specs.Connectivity.{IsPairConnectivity, IsUndirectedPairConnectivity}
+use Rattle.flow_net.specs.Cuts.{cap_over, leaves, IsCut, capacity}
+use Rattle.flow_net.specs.LeastCuts.{IsLeastCapacity}
+use Rattle.flow_net.specs.Arcs.{enters}
+use Rattle.flow_net.specs.Connectivity.{leaving, crossing, IsProper}
+use Rattle.flow_net.specs.LeastCuts.{IsConnectivity, IsUndirectedConnectivity}
+use Rattle.flow_net.specs.LeastCuts.{IsPairConnectivity, IsUndirectedPairConnectivity}
 use Rattle.flow_net.specs.Laws.{AreApart, IsLeastOfPairs}
 use Rattle.flow_net.proofs.KeptLimits.{IsNet-unit}
 use Rattle.flow_net.proofs.MaxFlows.{max_flow_min_cut, greatest_is_least, least_is_greatest}
@@ -122,17 +125,12 @@ cut_of_two X u v i o = record {
   sinks = λ w e. ap X (eqb-true w v e) ∙ o;
 }
 
--- what one solve says of a pair
-pub minimum_leaving : (net : Net) (s t X Y : ℕ → Bool) → IsMinimumCut (unit net) s t X → IsCut s t Y
-    → leaving net X ≤ leaving net Y
-minimum_leaving net s t X Y m c = omega (arith, m.least Y c, capacity-unit net X, capacity-unit net Y)
-
--- one solve of the unit network
+-- what one solve of the unit network says of a pair
 pub pair_by_solve : (net : Net) (s t : ℕ → Bool) (k : ℕ) → IsLeastCapacity (unit net) s t k
     → IsPairConnectivity net s t k
 pair_by_solve net s t k l = record {
-  reached = (l.0, l.1.cut, sym (capacity-unit net l.0) ∙ l.2);
-  least = λ Y c. omega (arith, minimum_leaving net s t l.0 Y l.1 c, capacity-unit net l.0, l.2);
+  reached = (l.reached.0, l.reached.1, sym (capacity-unit net l.reached.0) ∙ l.reached.2);
+  least = λ Y c. omega (arith, l.least Y c, capacity-unit net Y);
 }
 
 pub just_self : (v : ℕ) → just v v ≡ true
@@ -151,14 +149,10 @@ pub pair_by_flow : (net : Net) (s t : ℕ → Bool) (k : ℕ) → IsNet net → 
     → IsGreatest (unit net) s t k ↔ IsPairConnectivity net s t k
 pair_by_flow net s t k n a = (
   (λ g. pair_by_solve net s t k (greatest_is_least (unit net) s t k (IsNet-unit net n) a g)),
-  λ p. least_is_greatest (unit net) s t k (IsNet-unit net n) a (
-    p.reached.0,
-    record {
-      cut = p.reached.1;
-      least = λ Y c. omega (arith, p.least Y c, p.reached.2, capacity-unit net p.reached.0, capacity-unit net Y);
-    },
-    capacity-unit net p.reached.0 ∙ p.reached.2,
-  ),
+  λ p. least_is_greatest (unit net) s t k (IsNet-unit net n) a (record {
+    reached = (p.reached.0, p.reached.1, capacity-unit net p.reached.0 ∙ p.reached.2);
+    least = λ Y c. omega (arith, p.least Y c, capacity-unit net Y);
+  }),
 )
 
 -- each pair of two nodes has a connectivity

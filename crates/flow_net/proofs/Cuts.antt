@@ -7,7 +7,8 @@ use Rattle.flow_net.specs.Nets.{Net}
 use Rattle.flow_net.specs.Limits.{IsNet, IsArcWithin}
 use Rattle.flow_net.specs.NodeSets.{just}
 use Rattle.flow_net.specs.Flows.{flow_over, out_of, into, IsFeasible, HasValue, IsGreatest}
-use Rattle.flow_net.specs.Cuts.{cap_over, leaves, enters, IsCut, capacity, IsMinimumCut}
+use Rattle.flow_net.specs.Cuts.{cap_over, leaves, IsCut, capacity, IsMinimumCut}
+use Rattle.flow_net.specs.Arcs.{enters}
 use Rattle.flow_net.specs.Residual.{IsClosed}
 use Rattle.flow_net.proofs.Zips.{zip_from_fits, closed_by_arcs, closed_by_halves, IsClosedByArcs}
 use Rattle.std.proofs.lemmas.List.Elements.{recursion_from_All, All-weaker}

@@ -10,8 +10,10 @@ use Rattle.flow_net.specs.Nets.{Net}
 use Rattle.flow_net.specs.Limits.{IsNet}
 use Rattle.flow_net.specs.DerivedNets.{unit, both_ways}
 use Rattle.flow_net.specs.NodeSets.{just}
-use Rattle.flow_net.specs.Cuts.{leaves, enters, IsCut}
-use Rattle.flow_net.specs.Connectivity.{leaving, IsProper, IsConnectivity, IsPairConnectivity}
+use Rattle.flow_net.specs.Cuts.{leaves, IsCut}
+use Rattle.flow_net.specs.Arcs.{enters}
+use Rattle.flow_net.specs.Connectivity.{leaving, IsProper}
+use Rattle.flow_net.specs.LeastCuts.{IsConnectivity, IsPairConnectivity}
 use Rattle.flow_net.specs.Laws.{AreApart}
 use Rattle.flow_net.specs.Orders.{IsOrder, before, IsGrowthPair, IsLeastOfGrowth}
 use Rattle.flow_net.proofs.KeptLimits.{IsNet-unit}

@@ -11,7 +11,8 @@ use Rattle.std.proofs.lemmas.Bool.{cases_eq, cases_Bool, ne_eqb, eqb-true}
 use Rattle.flow_net.specs.Nets.{Net, arc_at}
 use Rattle.flow_net.specs.Limits.{IsNet}
 use Rattle.flow_net.specs.Flows.{IsFeasible, IsGreatest, out_of, into}
-use Rattle.flow_net.specs.Cuts.{IsCut, capacity, IsLeastCapacity}
+use Rattle.flow_net.specs.Cuts.{IsCut, capacity}
+use Rattle.flow_net.specs.LeastCuts.{IsLeastCapacity}
 use Rattle.flow_net.specs.Residual.{tail_of, head_of, residual, pushed, half_pushed, IsClosed}
 use Rattle.flow_net.specs.Paths.{IsMoreBy}
 use Rattle.flow_net.specs.Laws.{AreApart}
@@ -263,7 +264,8 @@ Meets net s t = (k : ℕ) × IsGreatest net s t k × IsLeastCapacity net s t k
 closed_meets : (net : Net) (s t X : ℕ → Bool) (xs : List ℕ) → IsNet net → IsFeasible net s t xs → IsCut s t X
     → IsClosed net xs X → Meets net s t
 closed_meets net s t X xs is_net f c l =
-    (capacity net X, closed_greatest net s t X xs is_net f c l, (X, closed_minimum net s t X xs is_net f c l, refl))
+    let m = closed_minimum net s t X xs is_net f c l in
+    (capacity net X, closed_greatest net s t X xs is_net f c l, record { reached = (X, m.cut, refl); least = m.least })
 
 -- no flow's value passes what may leave the sources
 source_cut : (s t : ℕ → Bool) → AreApart s t → IsCut s t s
@@ -302,5 +304,7 @@ pub least_is_greatest : (net : Net) (s t : ℕ → Bool) (k : ℕ) → IsNet net
     → IsGreatest net s t k
 least_is_greatest net s t k is_net apart l =
     let m = max_flow_min_cut net s t is_net apart in
-    let same : m.0 ≡ k = omega (arith, m.2.1.least l.0 l.1.cut, m.2.2, l.1.least m.2.0 m.2.1.cut, l.2) in
+    let there = m.2.reached in
+    let here = l.reached in
+    let same : m.0 ≡ k = omega (arith, m.2.least here.0 here.1, here.2, l.least there.0 there.1, there.2) in
     subst (λ j. IsGreatest net s t j) same m.1

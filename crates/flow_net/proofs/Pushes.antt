@@ -5,7 +5,8 @@ use Rattle.std.proofs.Common.{get_or-set_other, arith}
 use Rattle.std.specs.Prelude.{slice_index}
 use Rattle.std.proofs.lemmas.Bool.{ne_eqb, cases_eq}
 use Rattle.flow_net.specs.declared.networks.Arc.{Arc}
-use Rattle.flow_net.specs.Nets.{Net, no_arc, arc_at}
+use Rattle.flow_net.specs.Nets.{Net, arc_at}
+use Rattle.flow_net.specs.Arcs.{no_arc}
 use Rattle.flow_net.specs.NodeSets.{just}
 use Rattle.flow_net.specs.Flows.{flow_over, out_of, into, Fits, IsFeasible}
 use Rattle.flow_net.specs.Residual.{half_pushed, tail_of, head_of, residual, pushed}

@@ -6,7 +6,8 @@ use Rattle.std.proofs.lemmas.Bool.{ne_eqb, cases_eq}
 use Rattle.flow_net.specs.declared.networks.Arc.{Arc}
 use Rattle.flow_net.specs.NodeSets.{just}
 use Rattle.flow_net.specs.Flows.{flow_over, out_of, into}
-use Rattle.flow_net.specs.Cuts.{leaves, enters}
+use Rattle.flow_net.specs.Cuts.{leaves}
+use Rattle.flow_net.specs.Arcs.{enters}
 
 exchange_step : (p q : Bool) (x o i l e : ℕ) → o + e ≡ i + l
     → (cond p x 0 + o) + (cond (q && not p) x 0 + e) ≡ (cond q x 0 + i) + (cond (p && not q) x 0 + l)

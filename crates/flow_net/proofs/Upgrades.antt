@@ -2,10 +2,12 @@
 use Rattle.std.proofs.Common.{◌≡◌, ℕ, zero, suc, ◌+◌, ◌≤◌, ◌<◌, ◌↔◌, Bool, true, false, cond, not, ◌&&◌, List, [], ◌∷◌}
 use Rattle.std.proofs.Common.{length, get_or, set, refl, arith}
 use Rattle.flow_net.specs.declared.networks.Arc.{Arc}
-use Rattle.flow_net.specs.Nets.{Net, no_arc, arc_at}
+use Rattle.flow_net.specs.Nets.{Net, arc_at}
+use Rattle.flow_net.specs.Arcs.{no_arc}
 use Rattle.flow_net.specs.Limits.{IsNet}
 use Rattle.flow_net.specs.Flows.{IsGreatest}
-use Rattle.flow_net.specs.Cuts.{cap_over, leaves, capacity, IsMinimumCut, IsLeastCapacity, IsInLeastSourceSide}
+use Rattle.flow_net.specs.Cuts.{cap_over, leaves, capacity, IsMinimumCut, IsInLeastSourceSide}
+use Rattle.flow_net.specs.LeastCuts.{IsLeastCapacity}
 use Rattle.flow_net.specs.Cuts.{IsInLeastSinkSide}
 use Rattle.flow_net.specs.Laws.{AreApart, widened, upgraded}
 use Rattle.flow_net.proofs.MaxFlows.{greatest_is_least}
@@ -45,7 +47,7 @@ leaves_each : (net : Net) (s t X : ℕ → Bool) (i d k j : ℕ) → i < length 
 leaves_each net s t X i d k j l here there rises m =
     let grown = capacity_upgraded net X i d l in
     gains (leaves X (arc_at net i)) k d j
-    (omega (arith, grown, m.least here.0 here.1.cut, here.2, there.1.least X m.cut, there.2)) rises
+    (omega (arith, grown, m.least here.reached.0 here.reached.1, here.reached.2, there.least X m.cut)) rises
 
 -- a cut that is minimum with the upgrade: it had a greater capacity than the least, or it was minimum and the arc
 -- leaves it
@@ -65,13 +67,12 @@ single_upgrade net s t i d k j is_net is_upgraded apart l more g g' =
         (λ X m. ends_outside (X a.src) (X a.dst) (leaves_each net s t X i d k j l here there rises m)),
       )),
       (λ ends.
-          let X = there.0 in
-          let cut = there.1.cut in
+          let X = there.reached.0 in
+          let cut = there.reached.1 in
           let grown = capacity_upgraded net X i d l in
-          let most = here.1.least X cut in
           let minimum : capacity net X ≡ k → IsMinimumCut net s t X =
-          λ e. record { cut = cut; least = λ Y c. omega (arith, e, here.1.least Y c, here.2) } in
-          rises_there (leaves X a) (capacity net X) d k j more (omega (arith, grown, there.2))
-          (omega (arith, most, here.2))
+          λ e. record { cut = cut; least = λ Y c. omega (arith, e, here.least Y c) } in
+          rises_there (leaves X a) (capacity net X) d k j more (omega (arith, grown, there.reached.2))
+          (here.least X cut)
           (λ e. both (X a.src) (X a.dst) (ends.0 X (minimum e)) (ends.1 X (minimum e)))),
     )

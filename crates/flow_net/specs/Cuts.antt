@@ -1,15 +1,11 @@
 -- Cuts and their capacities (Ford and Fulkerson 1956). A cut is named by its source side, a set of nodes.
-use Rattle.std.specs.Prelude.{◌≡◌, ℕ, ◌+◌, ◌≤◌, Bool, not, ◌&&◌, List, [], ◌∷◌, IsTrue, IsFalse, if◌then◌else◌}
+use Rattle.std.specs.Prelude.{ℕ, ◌+◌, ◌≤◌, Bool, not, ◌&&◌, List, [], ◌∷◌, IsTrue, IsFalse, if◌then◌else◌}
 use Rattle.flow_net.specs.declared.networks.Arc.{Arc}
 use Rattle.flow_net.specs.Nets.{Net}
 
 -- the arc leads out of the set
 abbrev pub leaves : (ℕ → Bool) → Arc → Bool
 leaves X a = X a.src && not (X a.dst)
-
--- the arc leads into the set
-abbrev pub enters : (ℕ → Bool) → Arc → Bool
-enters X a = X a.dst && not (X a.src)
 
 -- the sum of the capacities of the arcs that pass a test
 abbrev pub cap_over : (Arc → Bool) → List Arc → ℕ
@@ -29,10 +25,6 @@ capacity net X = cap_over (leaves X) net.arcs
 pub record IsMinimumCut (net : Net) (s t X : ℕ → Bool) : Type 0 where
   pub cut : IsCut s t X
   pub least : (Y : ℕ → Bool) → IsCut s t Y → capacity net X ≤ capacity net Y
-
--- k is the least capacity of a cut
-abbrev pub IsLeastCapacity : Net → (ℕ → Bool) → (ℕ → Bool) → ℕ → Type 0
-IsLeastCapacity net s t k = (X : ℕ → Bool) × IsMinimumCut net s t X × (capacity net X ≡ k)
 
 -- the least source side: the nodes that lie in the source side of every minimum cut
 abbrev pub IsInLeastSourceSide : Net → (ℕ → Bool) → (ℕ → Bool) → ℕ → Type 0

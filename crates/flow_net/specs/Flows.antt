@@ -1,4 +1,4 @@
--- Feasible flows and their values (Ford and Fulkerson 1956). A flow is a list of numbers, one for each arc, in their order.
+-- Feasible flows and their values (Ford and Fulkerson 1956). A flow is a list of numbers, one for each arc in order.
 use Rattle.std.specs.Prelude.{◌≡◌, ℕ, ◌+◌, ◌≤◌, ◌<◌, Bool, List, [], ◌∷◌, length, slice_index, IsFalse, if◌then◌else◌}
 use Rattle.flow_net.specs.declared.networks.Arc.{Arc}
 use Rattle.flow_net.specs.Nets.{Net, arc_at}
@@ -26,7 +26,8 @@ pub record Fits (net : Net) (xs : List ℕ) : Type 0 where
 -- a flow within the capacities that enters each node which is no terminal as much as it leaves it
 pub record IsFeasible (net : Net) (s t : ℕ → Bool) (xs : List ℕ) : Type 0 where
   pub fits : Fits net xs
-  pub conserved : (v : ℕ) → 1 ≤ v → v ≤ net.nodes → IsFalse (s v) → IsFalse (t v) → into (just v) net.arcs xs ≡ out_of (just v) net.arcs xs
+  pub conserved : (v : ℕ) → 1 ≤ v → v ≤ net.nodes → IsFalse (s v) → IsFalse (t v)
+      → into (just v) net.arcs xs ≡ out_of (just v) net.arcs xs
 
 -- the flow's value is k: what leaves the sources is k more than what enters them
 abbrev pub HasValue : Net → (ℕ → Bool) → List ℕ → ℕ → Type 0

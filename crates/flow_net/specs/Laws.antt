@@ -6,8 +6,9 @@ use Rattle.flow_net.specs.Limits.{IsNet}
 use Rattle.flow_net.specs.DerivedNets.{unit, both_ways}
 use Rattle.flow_net.specs.NodeSets.{just}
 use Rattle.flow_net.specs.Flows.{out_of, into, IsFeasible, HasValue, IsGreatest}
-use Rattle.flow_net.specs.Cuts.{IsCut, capacity, IsMinimumCut, IsLeastCapacity, IsInLeastSourceSide, IsInLeastSinkSide}
-use Rattle.flow_net.specs.Connectivity.{IsConnectivity, IsUndirectedConnectivity, IsPairConnectivity, IsUndirectedPairConnectivity}
+use Rattle.flow_net.specs.Cuts.{IsCut, capacity, IsMinimumCut, IsInLeastSourceSide, IsInLeastSinkSide}
+use Rattle.flow_net.specs.LeastCuts.{IsLeastCapacity}
+use Rattle.flow_net.specs.LeastCuts.{IsConnectivity, IsUndirectedConnectivity, IsPairConnectivity, IsUndirectedPairConnectivity}
 use Rattle.flow_net.specs.Residual.{IsClosed, IsReachable, IsReaching}
 use Rattle.flow_net.specs.Paths.{IsPath, HasRoom, IsApart, push_all, IsMoreBy}
 
@@ -22,17 +23,20 @@ WeakDuality = (net : Net) (s t X : ℕ → Bool) (xs : List ℕ) → IsNet net �
 
 -- a cut that no residual half-arc leaves is minimum, and the flow greatest: its value is the cut's capacity
 abbrev pub ClosedCut : Type 0
-ClosedCut = (net : Net) (s t X : ℕ → Bool) (xs : List ℕ) → IsNet net → IsFeasible net s t xs → IsCut s t X → IsClosed net xs X
+ClosedCut = (net : Net) (s t X : ℕ → Bool) (xs : List ℕ) → IsNet net → IsFeasible net s t xs → IsCut s t X
+    → IsClosed net xs X
     → IsGreatest net s t (capacity net X) × IsMinimumCut net s t X × HasValue net s xs (capacity net X)
 
--- the theorem of Ford and Fulkerson: one number is the greatest value of a feasible flow and the least capacity of a cut
+-- the theorem of Ford and Fulkerson: one number is a feasible flow's greatest value and a cut's least capacity
 abbrev pub MaxFlowMinCut : Type 0
-MaxFlowMinCut = (net : Net) (s t : ℕ → Bool) → IsNet net → AreApart s t → (k : ℕ) × IsGreatest net s t k × IsLeastCapacity net s t k
+MaxFlowMinCut = (net : Net) (s t : ℕ → Bool) → IsNet net → AreApart s t
+    → (k : ℕ) × IsGreatest net s t k × IsLeastCapacity net s t k
 
 -- what the residual network of a greatest flow reaches from the sources is the least source side
 abbrev pub LeastSourceSide : Type 0
-LeastSourceSide = (net : Net) (s t X : ℕ → Bool) (xs : List ℕ) → IsNet net → IsFeasible net s t xs → IsReachable net s xs X
-    → ((v : ℕ) → IsTrue (t v) → IsFalse (X v)) → (v : ℕ) → IsTrue (X v) ↔ IsInLeastSourceSide net s t v
+LeastSourceSide = (net : Net) (s t X : ℕ → Bool) (xs : List ℕ) → IsNet net → IsFeasible net s t xs
+    → IsReachable net s xs X → ((v : ℕ) → IsTrue (t v) → IsFalse (X v))
+    → (v : ℕ) → IsTrue (X v) ↔ IsInLeastSourceSide net s t v
 
 -- what reaches a sink in the residual network of a greatest flow is the least sink side
 abbrev pub LeastSinkSide : Type 0
@@ -41,17 +45,21 @@ LeastSinkSide = (net : Net) (s t X : ℕ → Bool) (xs : List ℕ) → IsNet net
 
 -- a push along a residual path from a source to a sink keeps the flow feasible and raises its value by the amount
 abbrev pub AugmentingPath : Type 0
-AugmentingPath = (net : Net) (s t : ℕ → Bool) (xs : List ℕ) (d u w : ℕ) (hs : List ℕ) → IsFeasible net s t xs → IsTrue (s u) → IsTrue (t w) → IsFalse (s w)
-    → IsPath net u hs w → IsApart hs → HasRoom net xs d hs → IsFeasible net s t (push_all xs hs d) × IsMoreBy net s xs d (push_all xs hs d)
+AugmentingPath = (net : Net) (s t : ℕ → Bool) (xs : List ℕ) (d u w : ℕ) (hs : List ℕ) → IsFeasible net s t xs
+    → IsTrue (s u) → IsTrue (t w) → IsFalse (s w) → IsPath net u hs w → IsApart hs → HasRoom net xs d hs
+    → IsFeasible net s t (push_all xs hs d) × IsMoreBy net s xs d (push_all xs hs d)
 
 -- the connectivity with the terminals is the greatest value of a flow where every capacity is 1
 abbrev pub PairByFlow : Type 0
-PairByFlow = (net : Net) (s t : ℕ → Bool) (k : ℕ) → IsNet net → AreApart s t → IsGreatest (unit net) s t k ↔ IsPairConnectivity net s t k
+PairByFlow = (net : Net) (s t : ℕ → Bool) (k : ℕ) → IsNet net → AreApart s t
+    → IsGreatest (unit net) s t k ↔ IsPairConnectivity net s t k
 
 -- k is the least connectivity of a node with another, to it or from it
 pub record IsLeastOfPairs (net : Net) (r k : ℕ) : Type 0 where
-  pub reached : (v : ℕ) × IsNode net v × (v ≢ r) × (IsPairConnectivity net (just r) (just v) k ⊎ IsPairConnectivity net (just v) (just r) k)
-  pub least : (v j : ℕ) → IsNode net v → v ≢ r → IsPairConnectivity net (just r) (just v) j ⊎ IsPairConnectivity net (just v) (just r) j → k ≤ j
+  pub reached : (v : ℕ) × IsNode net v × (v ≢ r)
+      × (IsPairConnectivity net (just r) (just v) k ⊎ IsPairConnectivity net (just v) (just r) k)
+  pub least : (v j : ℕ) → IsNode net v → v ≢ r
+      → IsPairConnectivity net (just r) (just v) j ⊎ IsPairConnectivity net (just v) (just r) j → k ≤ j
 
 -- the connectivity is the least over one node, whichever it is, and every other, both ways
 abbrev pub ConnectivityByPairs : Type 0
@@ -69,9 +77,9 @@ widened a d = record { src = a.src; dst = a.dst; cap = a.cap + d }
 abbrev pub upgraded : Net → ℕ → ℕ → Net
 upgraded net i d = record { nodes = net.nodes; arcs = slice_set net.arcs i (widened (arc_at net i) d) }
 
--- more capacity on one arc alone raises the greatest value just where the arc begins in the least source side and ends in
--- the least sink side
+-- more capacity on one arc alone raises the greatest value just where the arc begins in the least source side and ends
+-- in the least sink side
 abbrev pub SingleUpgrade : Type 0
-SingleUpgrade = (net : Net) (s t : ℕ → Bool) (i d k j : ℕ) → IsNet net → IsNet (upgraded net i d) → AreApart s t → i < length net.arcs → 1 ≤ d
-    → IsGreatest net s t k → IsGreatest (upgraded net i d) s t j
+SingleUpgrade = (net : Net) (s t : ℕ → Bool) (i d k j : ℕ) → IsNet net → IsNet (upgraded net i d) → AreApart s t
+    → i < length net.arcs → 1 ≤ d → IsGreatest net s t k → IsGreatest (upgraded net i d) s t j
     → (k < j) ↔ (IsInLeastSourceSide net s t (arc_at net i).src × IsInLeastSinkSide net s t (arc_at net i).dst)

@@ -1,4 +1,5 @@
 pub mod Nets
+pub mod Arcs
 pub mod Limits
 pub mod DerivedNets
 pub mod NodeSets
@@ -7,6 +8,7 @@ pub mod Flows
 pub mod GreatestFlows
 pub mod Cuts
 pub mod Connectivity
+pub mod LeastCuts
 pub mod Residual
 pub mod Paths
 pub mod Laws

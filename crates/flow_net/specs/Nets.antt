@@ -12,13 +12,9 @@ pub record Net : Type 0 where
 abbrev pub IsNode : Net → ℕ → Type 0
 IsNode net v = (1 ≤ v) × (v ≤ net.nodes)
 
--- stands for an arc past the last
-abbrev pub no_arc : Arc
-no_arc = record { src = 0; dst = 0; cap = 0 }
-
--- the arc at a place, counted from 0
+-- the arc at a place, counted from 0, and an arc of zeros past the last
 abbrev pub arc_at : Net → ℕ → Arc
-arc_at net i = slice_index_or net.arcs i no_arc
+arc_at net i = slice_index_or net.arcs i (record { src = 0; dst = 0; cap = 0 })
 
 -- A problem: a network with its sources and its sinks, each in a list.
 pub record Instance : Type 0 where

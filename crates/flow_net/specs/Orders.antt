@@ -4,7 +4,7 @@ use Rattle.flow_net.specs.Nets.{Net, IsNode}
 use Rattle.flow_net.specs.Limits.{IsNet, AreDistinct}
 use Rattle.flow_net.specs.DerivedNets.{both_ways}
 use Rattle.flow_net.specs.NodeSets.{one_of, just}
-use Rattle.flow_net.specs.Connectivity.{IsConnectivity, IsPairConnectivity}
+use Rattle.flow_net.specs.LeastCuts.{IsConnectivity, IsPairConnectivity}
 
 -- each node stands in the list once, and nothing else does
 pub record IsOrder (net : Net) (order : List ℕ) : Type 0 where
@@ -18,7 +18,8 @@ before order i = one_of (take i order)
 
 -- j is the connectivity of the nodes before a place with the node at it, one way or the other
 abbrev pub IsGrowthPair : Net → List ℕ → ℕ → ℕ → Type 0
-IsGrowthPair net order i j = IsPairConnectivity net (before order i) (just (slice_index order i)) j ⊎ IsPairConnectivity net (just (slice_index order i)) (before order i) j
+IsGrowthPair net order i j = IsPairConnectivity net (before order i) (just (slice_index order i)) j
+    ⊎ IsPairConnectivity net (just (slice_index order i)) (before order i) j
 
 -- k is the least of these connectivities, over every place but the first
 pub record IsLeastOfGrowth (net : Net) (order : List ℕ) (k : ℕ) : Type 0 where
@@ -27,8 +28,10 @@ pub record IsLeastOfGrowth (net : Net) (order : List ℕ) (k : ℕ) : Type 0 whe
 
 -- the connectivity is the least over every node but the first of an order, whichever it is, both ways
 abbrev pub ConnectivityByGrowth : Type 0
-ConnectivityByGrowth = (net : Net) (order : List ℕ) (k : ℕ) → IsNet net → IsOrder net order → IsConnectivity net k ↔ IsLeastOfGrowth net order k
+ConnectivityByGrowth = (net : Net) (order : List ℕ) (k : ℕ) → IsNet net → IsOrder net order
+    → IsConnectivity net k ↔ IsLeastOfGrowth net order k
 
 -- in a network both ways a pair's connectivity is the same either way
 abbrev pub SameEitherWay : Type 0
-SameEitherWay = (net : Net) (s t : ℕ → Bool) (k : ℕ) → IsPairConnectivity (both_ways net) s t k ↔ IsPairConnectivity (both_ways net) t s k
+SameEitherWay = (net : Net) (s t : ℕ → Bool) (k : ℕ)
+    → IsPairConnectivity (both_ways net) s t k ↔ IsPairConnectivity (both_ways net) t s k

@@ -39,16 +39,21 @@ pushed xs h d = slice_set xs (h / 2) (half_pushed (slice_index xs (h / 2)) h d)
 
 -- no half-arc with a residual capacity leaves the set
 abbrev pub IsClosed : Net → List ℕ → (ℕ → Bool) → Type 0
-IsClosed net xs X = (h : ℕ) → h < 2 * length net.arcs → IsTrue (X (tail_of net h)) → 1 ≤ residual net xs h → IsTrue (X (head_of net h))
+IsClosed net xs X = (h : ℕ) → h < 2 * length net.arcs → IsTrue (X (tail_of net h)) → 1 ≤ residual net xs h
+    → IsTrue (X (head_of net h))
 
 -- the least closed set that holds the sources: what the residual network reaches from them
 pub record IsReachable (net : Net) (s : ℕ → Bool) (xs : List ℕ) (X : ℕ → Bool) : Type 0 where
   pub sources : (v : ℕ) → IsTrue (s v) → IsTrue (X v)
   pub closed : IsClosed net xs X
-  pub least : (Y : ℕ → Bool) → ((v : ℕ) → IsTrue (s v) → IsTrue (Y v)) → IsClosed net xs Y → (v : ℕ) → IsTrue (X v) → IsTrue (Y v)
+  pub least : (Y : ℕ → Bool) → ((v : ℕ) → IsTrue (s v) → IsTrue (Y v)) → IsClosed net xs Y
+      → (v : ℕ) → IsTrue (X v) → IsTrue (Y v)
 
--- its mirror, the least set that holds the sinks and that no half-arc with a residual capacity enters: what reaches a sink
+-- its mirror, the least set that holds the sinks and that no half-arc with a residual capacity enters: what reaches a
+-- sink
 pub record IsReaching (net : Net) (t : ℕ → Bool) (xs : List ℕ) (X : ℕ → Bool) : Type 0 where
   pub sinks : (v : ℕ) → IsTrue (t v) → IsTrue (X v)
-  pub closed : (h : ℕ) → h < 2 * length net.arcs → IsTrue (X (head_of net h)) → 1 ≤ residual net xs h → IsTrue (X (tail_of net h))
-  pub least : (Y : ℕ → Bool) → ((v : ℕ) → IsTrue (t v) → IsFalse (Y v)) → IsClosed net xs Y → (v : ℕ) → IsTrue (X v) → IsFalse (Y v)
+  pub closed : (h : ℕ) → h < 2 * length net.arcs → IsTrue (X (head_of net h)) → 1 ≤ residual net xs h
+      → IsTrue (X (tail_of net h))
+  pub least : (Y : ℕ → Bool) → ((v : ℕ) → IsTrue (t v) → IsFalse (Y v)) → IsClosed net xs Y
+      → (v : ℕ) → IsTrue (X v) → IsFalse (Y v)

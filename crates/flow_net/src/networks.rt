@@ -4,7 +4,7 @@ ghost use Rattle.flow_net.specs.Nets.{Net, arc_at};
 ghost use Rattle.flow_net.specs.Limits.{IsNet, IsArcWithin};
 ghost use Rattle.flow_net.specs.DerivedNets.{unit, unit_arc, both_ways, reversed};
 
-use super::limits::{FEWEST_NODES, MOST_ARCS, MOST_ARCS_BOTH_WAYS, MOST_NODES};
+use crate::limits::{FEWEST_NODES, MOST_ARCS, MOST_ARCS_BOTH_WAYS, MOST_NODES};
 use std::alloc::Global;
 use std::marker::Model;
 

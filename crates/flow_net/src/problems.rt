@@ -2,7 +2,7 @@
 ghost use Rattle.std.specs.Prelude.{◌≡◌};
 ghost use Rattle.flow_net.specs.Limits.{IsProblem};
 
-use super::networks::Network;
+use crate::networks::Network;
 use std::marker::Model;
 
 /// A maximum flow problem of the DIMACS format (1990): a network of at most

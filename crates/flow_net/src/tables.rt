@@ -6,7 +6,7 @@ ghost use Rattle.flow_net.specs.Residual.{Table, head_of, residual, pushed};
 
 mod steps;
 
-use super::networks::{Network, OutOfMemory};
+use crate::networks::{Network, OutOfMemory};
 use std::alloc::Global;
 use std::marker::Model;
 use steps::Steps;

@@ -5,8 +5,10 @@ use Rattle.std.specs.List.{count_by}
 use Rattle.std.proofs.lemmas.List.{length-take, length-drop, get_or-take, get_or-drop}
 use Rattle.std.proofs.lemmas.List.Sums.{sum_by-cons, sum_by-take-drop}
 use Rattle.flow_net.specs.declared.networks.Arc.{Arc}
-use Rattle.flow_net.specs.Nets.{Net, arc_at, no_arc}
-use Rattle.flow_net.specs.Cuts.{leaves, enters}
+use Rattle.flow_net.specs.Nets.{Net, arc_at}
+use Rattle.flow_net.specs.Arcs.{no_arc}
+use Rattle.flow_net.specs.Cuts.{leaves}
+use Rattle.flow_net.specs.Arcs.{enters}
 
 -- each arc of one list is the arc of the other turned round
 abbrev pub AreTurned : List Arc → List Arc → Type 0

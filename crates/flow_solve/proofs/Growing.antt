@@ -12,8 +12,10 @@ use Rattle.flow_net.specs.Limits.{IsNet}
 use Rattle.flow_net.specs.NodeSets.{just}
 use Rattle.flow_net.specs.Orders.{IsOrder, before, IsGrowthPair}
 use Rattle.flow_net.specs.Flows.{flow_over, out_of, into, IsFeasible}
-use Rattle.flow_net.specs.Cuts.{cap_over, leaves, enters, IsCut}
-use Rattle.flow_net.specs.Connectivity.{leaving, IsProper, IsConnectivity}
+use Rattle.flow_net.specs.Cuts.{cap_over, leaves, IsCut}
+use Rattle.flow_net.specs.Arcs.{enters}
+use Rattle.flow_net.specs.Connectivity.{leaving, IsProper}
+use Rattle.flow_net.specs.LeastCuts.{IsConnectivity}
 use Rattle.flow_net.specs.Residual.{tail_of, head_of, residual, pushed, IsClosed}
 use Rattle.flow_net.proofs.Connections.{just_self}
 use Rattle.flow_net.proofs.Cuts.{across, flow_over-le-cap_over, closed_full, closed_empty}

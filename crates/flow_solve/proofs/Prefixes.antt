@@ -5,7 +5,8 @@ use Rattle.std.specs.Prelude.{slice_index}
 use Rattle.std.proofs.lemmas.Bool.Decides.{nat_tests}
 use Rattle.flow_net.specs.Nets.{Net}
 use Rattle.flow_net.specs.Orders.{IsOrder}
-use Rattle.flow_net.specs.Cuts.{leaves, enters}
+use Rattle.flow_net.specs.Cuts.{leaves}
+use Rattle.flow_net.specs.Arcs.{enters}
 use Rattle.flow_net.specs.Connectivity.{leaving, IsProper}
 use Rattle.flow_solve.specs.declared.searching.Direction.TheVariants.{Forwards, Backwards}
 use Rattle.flow_solve.specs.Growth.{ArePlaces, IsClean, earlier_in, parted}

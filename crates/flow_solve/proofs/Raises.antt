@@ -11,7 +11,8 @@ use Rattle.flow_net.specs.Nets.{Net, IsNode}
 use Rattle.flow_net.specs.Limits.{IsNet, IsArcWithin, AreTerminals}
 use Rattle.flow_net.specs.NodeSets.{one_of}
 use Rattle.flow_net.specs.Flows.{IsFeasible, HasValue, IsGreatest}
-use Rattle.flow_net.specs.Cuts.{leaves, cap_over, capacity, IsLeastCapacity}
+use Rattle.flow_net.specs.Cuts.{leaves, cap_over, capacity}
+use Rattle.flow_net.specs.LeastCuts.{IsLeastCapacity}
 use Rattle.flow_net.specs.Paths.{HasRoom, push_all}
 use Rattle.flow_net.specs.Laws.{AreApart}
 use Rattle.flow_net.proofs.AugmentingPaths.{climbs_apart, augmented, no_loops_climbed}
@@ -127,5 +128,10 @@ pub settled : (net : Net) (s t xs : List ℕ) (X : ℕ → Bool) (value : ℕ) �
     → IsGreatest net (one_of s) (one_of t) value × IsLeastCapacity net (one_of s) (one_of t) value
 settled net s t xs X value n f w out =
     let r = backward_tight net (one_of s) t X xs n f.feasible w out in
-    let same : capacity net (λ v. not (X v)) ≡ value = let v = r.value in let k = f.value in omega arith in
-    (subst (IsGreatest net (one_of s) (one_of t)) same r.greatest, ((λ v. not (X v)), r.minimum, same))
+    let same : capacity net (λ v. not (X v)) ≡ value = let v = r.value in let k = f.value in omega arith in (
+      subst (IsGreatest net (one_of s) (one_of t)) same r.greatest,
+      record {
+        reached = ((λ v. not (X v)), r.minimum.cut, same);
+        least = λ Y c. let l = r.minimum.least Y c in omega (arith, same);
+      },
+    )

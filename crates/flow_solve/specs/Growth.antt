@@ -5,7 +5,8 @@ use Rattle.flow_net.specs.Nets.{Net}
 use Rattle.flow_net.specs.NodeSets.{just}
 use Rattle.flow_net.specs.Orders.{IsOrder, before}
 use Rattle.flow_net.specs.Flows.{out_of, into, IsFeasible}
-use Rattle.flow_net.specs.Cuts.{leaves, enters, IsCut}
+use Rattle.flow_net.specs.Cuts.{leaves, IsCut}
+use Rattle.flow_net.specs.Arcs.{enters}
 use Rattle.flow_solve.specs.declared.searching.Direction.{Direction}
 use Rattle.flow_solve.specs.declared.searching.Direction.TheVariants.{Forwards, Backwards}
 use Rattle.flow_net.specs.Residual.{head_of, residual}

@@ -14,7 +14,8 @@ ghost use Rattle.std.specs.Prelude.{◌≡◌, ℕ, Bool, ◌+◌, ◌*◌, ◌<
 ghost use Rattle.std.specs.List.{All};
 ghost use Rattle.flow_net.specs.Flows.{Fits};
 ghost use Rattle.flow_net.specs.Orders.{IsOrder};
-ghost use Rattle.flow_net.specs.Connectivity.{leaving, IsProper, IsConnectivity};
+ghost use Rattle.flow_net.specs.Connectivity.{leaving, IsProper};
+ghost use Rattle.flow_net.specs.LeastCuts.{IsConnectivity};
 ghost use Rattle.flow_solve.specs.Packs.{IsPacked};
 ghost use Rattle.flow_solve.specs.Bounds.{work_cells};
 ghost use Rattle.flow_solve.specs.Growth.{ArePlaces, IsClean, IsBelow};

@@ -10,7 +10,7 @@ ghost use Rattle.flow_net.specs.NodeSets.{one_of};
 ghost use Rattle.flow_net.specs.MarkedNodes.{marked};
 ghost use Rattle.flow_net.specs.Flows.{Fits, IsFeasible, IsGreatest};
 ghost use Rattle.flow_net.specs.GreatestFlows.{HasGreatestValue};
-ghost use Rattle.flow_net.specs.Cuts.{IsLeastCapacity};
+ghost use Rattle.flow_net.specs.LeastCuts.{IsLeastCapacity};
 ghost use Rattle.flow_solve.specs.Bounds.{work_cells};
 ghost use Rattle.flow_solve.specs.Packs.{HoldsPacked, IsPacked};
 ghost use Rattle.flow_solve.specs.Raising.{IsFlow};

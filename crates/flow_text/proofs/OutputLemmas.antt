@@ -15,7 +15,7 @@ use Rattle.std.proofs.lemmas.List.{take_all, take_more}
 use Rattle.std.proofs.lemmas.Slice.Zip.{get_or-zip, length-zip}
 use Rattle.itoa.proofs.Decimal.{signed_wide}
 use Rattle.flow_net.specs.declared.networks.Arc.{Arc}
-use Rattle.flow_net.specs.Nets.{no_arc}
+use Rattle.flow_net.specs.Arcs.{no_arc}
 use Rattle.flow_text.specs.FaultTexts.{fault_text}
 use Rattle.flow_text.specs.declared.verdicts.Verdict.{Verdict}
 use Rattle.flow_text.specs.declared.verdicts.Verdict.TheVariants.{Over, Unbalanced, Value, Feasible, NotMaximal}

@@ -1,5 +1,5 @@
 -- A terminal more.
-use Rattle.std.specs.Prelude.{ℕ, Bool, List, [], ◌∷◌, ◌++◌, if◌then◌else◌}
+use Rattle.std.specs.Prelude.{ℕ, Bool, [], ◌∷◌, ◌++◌, if◌then◌else◌}
 use Rattle.flow_text.specs.Terminals.{Marks}
 
 -- one source or one sink more

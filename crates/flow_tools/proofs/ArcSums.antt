@@ -1,18 +1,19 @@
 -- Sums over arcs.
-use Rattle.std.proofs.Common.{◌≡◌, ℕ, zero, suc, ◌+◌, ◌*◌, ◌/◌, ◌%◌, ◌^◌, ◌≤◌, ◌<◌, Bool, true, false, cond, eqb, List}
+use Rattle.std.proofs.Common.{◌≡◌, ℕ, zero, suc, ◌+◌, ◌*◌, ◌/◌, ◌%◌, ◌≤◌, ◌<◌, Bool, true, false, cond, eqb, List}
 use Rattle.std.proofs.Common.{[], ◌∷◌, length, get_or, set, take, refl, ◌∙◌, sym, ap, inl, inr, eq-eqb, add-one, arith}
 use Rattle.std.proofs.lemmas.Bool.{cases_eq, ne_eqb, and_left, and_right, and_from}
 use Rattle.std.specs.List.{AllByRecursion, AllZip}
 use Rattle.std.proofs.lemmas.List.Elements.{recursion_from_All}
 use Rattle.flow_net.specs.declared.limits.TheConstants.{GREATEST_CAPACITY}
 use Rattle.flow_net.specs.declared.networks.Arc.{Arc}
-use Rattle.flow_net.specs.Nets.{Net, no_arc, arc_at}
+use Rattle.flow_net.specs.Nets.{Net, arc_at}
+use Rattle.flow_net.specs.Arcs.{no_arc}
 use Rattle.flow_net.specs.Limits.{IsNet, IsArcWithin}
 use Rattle.flow_net.specs.Flows.{flow_over}
 use Rattle.flow_net.specs.Cuts.{cap_over}
 use Rattle.flow_net.specs.Residual.{pushed}
 use Rattle.flow_net.proofs.Pushes.{flow_over-set}
-use Rattle.flow_tools.specs.SolutionFlows.{is_pair}
+use Rattle.flow_tools.specs.ArcShares.{is_pair}
 use Rattle.flow_tools.specs.ArcShares.{arc_flow, HasMore}
 
 -- one arc more, with the place as a successor

@@ -2,11 +2,12 @@
 use Rattle.std.proofs.Common.{◌≡◌, ℕ, Bool, true, false, cond, List, refl, sym, subst, ◌≤◌}
 use Rattle.std.specs.List.{All}
 use Rattle.std.proofs.lemmas.List.Elements.{All-map, All-from_get_or}
-use Rattle.flow_net.specs.Nets.{Net, Instance, no_arc}
+use Rattle.flow_net.specs.Nets.{Net, Instance}
+use Rattle.flow_net.specs.Arcs.{no_arc}
 use Rattle.flow_net.specs.Limits.{AreTerminals}
 use Rattle.flow_net.specs.DerivedNets.{unit, unit_arc, both_ways}
 use Rattle.flow_net.specs.NodeSets.{one_of}
-use Rattle.flow_net.specs.Connectivity.{IsConnectivity, IsPairConnectivity}
+use Rattle.flow_net.specs.LeastCuts.{IsConnectivity, IsPairConnectivity}
 use Rattle.flow_net.proofs.Connections.{undirected, undirected_pair, connectivity_of_unit, pair_of_unit}
 use Rattle.flow_tools.specs.Answers.{IsConnectivityOf}
 

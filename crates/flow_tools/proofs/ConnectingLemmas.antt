@@ -9,12 +9,16 @@ use Rattle.std.proofs.lemmas.Bool.{cases_eq, cases_lt, ne_eqb}
 use Rattle.std.proofs.lemmas.List.Elements.{recursion_from_All}
 use Rattle.std.proofs.lemmas.List.Sums.{count_by-le-length, count_by_more_no, count_by_more_yes, sum_by-cons}
 use Rattle.flow_net.specs.declared.networks.Arc.{Arc}
-use Rattle.flow_net.specs.Nets.{Net, IsNode, no_arc}
+use Rattle.flow_net.specs.Nets.{Net, IsNode}
+use Rattle.flow_net.specs.Arcs.{no_arc}
 use Rattle.flow_net.specs.Limits.{IsNet, IsArcWithin}
 use Rattle.flow_net.specs.DerivedNets.{unit, unit_arc}
 use Rattle.flow_net.specs.NodeSets.{one_of, just}
-use Rattle.flow_net.specs.Cuts.{leaves, enters, IsCut, IsLeastCapacity}
-use Rattle.flow_net.specs.Connectivity.{leaving, IsProper, IsConnectivity, IsPairConnectivity}
+use Rattle.flow_net.specs.Cuts.{leaves, IsCut}
+use Rattle.flow_net.specs.LeastCuts.{IsLeastCapacity}
+use Rattle.flow_net.specs.Arcs.{enters}
+use Rattle.flow_net.specs.Connectivity.{leaving, IsProper}
+use Rattle.flow_net.specs.LeastCuts.{IsConnectivity, IsPairConnectivity}
 use Rattle.flow_net.proofs.Connections.{pair_by_solve, cut_proper, just_self}
 use Rattle.flow_tools.specs.Degrees.{AreDegrees}
 

@@ -14,7 +14,8 @@ use Rattle.flow_net.proofs.Zips.{zip_from_fits}
 use Rattle.flow_net.proofs.Cuts.{flow_over-le-cap_over}
 use Rattle.flow_net.proofs.MaxFlows.{max_flow_min_cut}
 use Rattle.flow_text.specs.declared.solutions.FlowLine.{FlowLine}
-use Rattle.flow_tools.specs.SolutionFlows.{is_pair, net_outflow}
+use Rattle.flow_tools.specs.SolutionFlows.{net_outflow}
+use Rattle.flow_tools.specs.ArcShares.{is_pair}
 use Rattle.flow_tools.specs.Verdicts.{IsWithinCapacities, IsBalanced}
 use Rattle.flow_tools.specs.ArcShares.{Carries, HasLessValue}
 use Rattle.flow_tools.proofs.NodeSumLemmas.{not_one_of}

@@ -11,7 +11,6 @@ use Rattle.flow_net.specs.NodeSets.{one_of, just}
 use Rattle.flow_net.specs.Flows.{flow_over, IsFeasible, HasValue, IsGreatest}
 use Rattle.flow_net.proofs.Zips.{zip_from_fits}
 use Rattle.flow_net.proofs.Cuts.{flow_over-le-cap_over}
-use Rattle.flow_text.specs.Problem.{problem}
 use Rattle.flow_text.specs.Solution.{Written, solution}
 use Rattle.flow_text.specs.declared.verdicts.Verdict.{Verdict}
 use Rattle.flow_text.specs.declared.verdicts.Verdict.TheVariants.{Over, Unbalanced, Value, Feasible, NotMaximal}
@@ -90,10 +89,10 @@ solved_optimal b p text said s =
     let n : IsNet p.net = within.0 in
     let h : IsProblem p = within.1 in
     let w = written_flow p.net s.value s.flows in
-    let right = written_right p s.flows s.value s.flow_is.feasible s.flow_is.valued in
+    let right = written_right p s.flows s.value s.feasible s.valued in
     let optimal : IsVerdict p w false (Optimal s.value) = (right, refl, refl, s.value_is.greatest) in
     let accepted = solved_is_accepted p.net s.value s.flows n h.arcs_most
-    (value_small p s.flows s.value n h.arcs_most s.flow_is.feasible s.flow_is.valued) s.flow_is.feasible.fits in (
+    (value_small p s.flows s.value n h.arcs_most s.feasible s.valued) s.feasible.fits in (
       w,
       s.value,
       ap (λ t. solution t p.net.nodes) s.text_is ∙ accepted,

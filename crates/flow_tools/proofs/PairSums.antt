@@ -18,7 +18,8 @@ use Rattle.flow_text.specs.declared.solutions.FlowLine.{FlowLine}
 use Rattle.flow_text.specs.declared.verdicts.Verdict.{Verdict}
 use Rattle.flow_text.specs.declared.verdicts.Verdict.TheVariants.{Over, Unbalanced, Value, Feasible, NotMaximal}
 use Rattle.flow_text.specs.declared.verdicts.Verdict.TheVariants.{Optimal}
-use Rattle.flow_tools.specs.SolutionFlows.{is_pair, pair_flow, lines_into, lines_out_of}
+use Rattle.flow_tools.specs.SolutionFlows.{pair_flow, lines_into, lines_out_of}
+use Rattle.flow_tools.specs.ArcShares.{is_pair}
 use Rattle.flow_tools.specs.FeasibleSolutions.{IsFeasibleSolution, is_of_feasible}
 use Rattle.flow_tools.specs.Verdicts.{IsWithinCapacities, IsBalanced, IsFirstOver, IsVerdict}
 use Rattle.flow_tools.specs.ArcShares.{Carries}

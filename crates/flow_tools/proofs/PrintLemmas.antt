@@ -4,7 +4,8 @@ use Rattle.std.proofs.Common.{slice_index, refl, sym, append-nil, ◌∙◌, ari
 use Rattle.std.specs.List.{flat_map, zip, range_with_len}
 use Rattle.std.proofs.lemmas.Slice.Zip.{get_or-zip, length-zip}
 use Rattle.std.proofs.lemmas.List.FromFn.{get_or-range_with_len}
-use Rattle.flow_net.specs.Nets.{Net, arc_at, no_arc}
+use Rattle.flow_net.specs.Nets.{Net, arc_at}
+use Rattle.flow_net.specs.Arcs.{no_arc}
 use Rattle.flow_net.specs.declared.networks.Arc.{Arc}
 use Rattle.flow_net.specs.Cuts.{leaves}
 use Rattle.flow_text.specs.Output.{flow_line, arc_flow_line, arc_line, node_line, nodes_inside, solution_line}

@@ -15,7 +15,8 @@ use Rattle.flow_tools.specs.declared.jobs.Stop.TheVariants.{Fault, ReadFailed, W
 -- what a job puts for a problem, and a solution's text q, that it was handed, and its end
 abbrev pub PutsAt : Job → Instance → List ℕ → Stream → List ℕ → Result ℕ Stop → Type 0
 PutsAt job instance q out o (Ok status) = IsKept out × IsAnswer job instance q o status
-PutsAt job instance q out o (Err WriteFailed) = HasFailed out × ((text : List ℕ) × (status : ℕ) × IsAnswer job instance q text status × IsBeginning o text)
+PutsAt job instance q out o (Err WriteFailed) = HasFailed out
+    × ((text : List ℕ) × (status : ℕ) × IsAnswer job instance q text status × IsBeginning o text)
 PutsAt job instance q out o (Err OutOfMemory) = IsKept out × (o ≡ [])
 PutsAt job instance q out o (Err _) = ⊥
 
@@ -27,10 +28,13 @@ pub record Puts (job : Job) (instance : Instance) (q : List ℕ) (out : Stream) 
 
 -- how the check of a solution ends, where the solution delivered q and the output took o
 abbrev pub ChecksAt : Bool → Instance → Stream → Stream → List ℕ → List ℕ → Result ℕ Stop → Type 0
-ChecksAt feasible_only instance given out q o (Ok status) = HasEnded given × IsKept out × IsAnswer (Check feasible_only) instance q o status
+ChecksAt feasible_only instance given out q o (Ok status) = HasEnded given × IsKept out
+    × IsAnswer (Check feasible_only) instance q o status
 ChecksAt feasible_only instance given out q o (Err (Fault false line code)) = ⊥
-ChecksAt feasible_only instance given out q o (Err (Fault true line code)) = IsKept given × IsKept out × (o ≡ []) × HasFault (early_solution q instance.net.nodes) (solution q instance.net.nodes) given (line, code)
-ChecksAt feasible_only instance given out q o (Err ReadFailed) = HasFailed given × IsKept out × (o ≡ []) × (early_solution q instance.net.nodes ≡ None)
+ChecksAt feasible_only instance given out q o (Err (Fault true line code)) = IsKept given × IsKept out × (o ≡ [])
+    × HasFault (early_solution q instance.net.nodes) (solution q instance.net.nodes) given (line, code)
+ChecksAt feasible_only instance given out q o (Err ReadFailed) = HasFailed given × IsKept out × (o ≡ [])
+    × (early_solution q instance.net.nodes ≡ None)
 ChecksAt feasible_only instance given out q o (Err WriteFailed) = HasEnded given × HasFailed out
     × ((text : List ℕ) × (status : ℕ) × IsAnswer (Check feasible_only) instance q text status × IsBeginning o text)
 ChecksAt feasible_only instance given out q o (Err OutOfMemory) = IsKept given × IsKept out × (o ≡ [])

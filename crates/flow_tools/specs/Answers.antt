@@ -1,10 +1,10 @@
 -- What each job puts for an accepted problem, and with which status it ends.
 use Rattle.std.specs.Prelude.{◌≡◌, ◌↔◌, ℕ, Bool, true, false, List, IsTrue, IsFalse, Ok}
-use Rattle.flow_net.specs.Nets.{Instance, IsNode}
-use Rattle.flow_net.specs.NodeSets.{one_of}
+use Rattle.flow_net.specs.Nets.{Net, Instance, IsNode}
+use Rattle.flow_net.specs.NodeSets.{one_of, IsLeastOver}
 use Rattle.flow_net.specs.Flows.{IsFeasible, HasValue, IsGreatest, HasNoLoops}
-use Rattle.flow_net.specs.Cuts.{IsMinimumCut, IsLeastCapacity, capacity, IsInLeastSourceSide, IsInLeastSinkSide}
-use Rattle.flow_net.specs.Connectivity.{IsConnectivity, IsUndirectedConnectivity, IsPairConnectivity, IsUndirectedPairConnectivity}
+use Rattle.flow_net.specs.Cuts.{IsCut, IsMinimumCut, capacity, IsInLeastSourceSide, IsInLeastSinkSide}
+use Rattle.flow_net.specs.Connectivity.{leaving, crossing, IsProper}
 use Rattle.flow_text.specs.Output.{solve_text, cut_text, connect_line, verdict_line}
 use Rattle.flow_text.specs.Solution.{Written, solution}
 use Rattle.flow_text.specs.declared.verdicts.Verdict.{Verdict}
@@ -16,32 +16,28 @@ use Rattle.flow_tools.specs.declared.jobs.Job.TheVariants.{Solve, Cut, Connect, 
 -- One number is the greatest value of a feasible flow and the least capacity of a cut.
 pub record IsValueOf (p : Instance) (value : ℕ) : Type 0 where
   pub greatest : IsGreatest p.net (one_of p.sources) (one_of p.sinks) value
-  pub least : IsLeastCapacity p.net (one_of p.sources) (one_of p.sinks) value
-
--- A feasible flow of that value in which self-loops carry nothing.
-pub record IsFlowOf (p : Instance) (value : ℕ) (flows : List ℕ) : Type 0 where
-  pub feasible : IsFeasible p.net (one_of p.sources) (one_of p.sinks) flows
-  pub valued : HasValue p.net (one_of p.sources) flows value
-  pub no_loops : HasNoLoops p.net flows
+  pub least : IsLeastOver (IsCut (one_of p.sources) (one_of p.sinks)) (capacity p.net) value
 
 -- a set holds exactly the nodes that lie in the source side of every minimum cut; or, nearest the sinks, all but those
 -- that lie outside the source side of every minimum cut
-abbrev pub IsNearest : Instance → Bool → (ℕ → Bool) → Type 0
-IsNearest p false X = (v : ℕ) → IsNode p.net v → IsTrue (X v) ↔ IsInLeastSourceSide p.net (one_of p.sources) (one_of p.sinks) v
-IsNearest p true X = (v : ℕ) → IsNode p.net v → IsFalse (X v) ↔ IsInLeastSinkSide p.net (one_of p.sources) (one_of p.sinks) v
+abbrev pub IsNearest : Net → (ℕ → Bool) → (ℕ → Bool) → Bool → (ℕ → Bool) → Type 0
+IsNearest net s t false X = (v : ℕ) → IsNode net v → IsTrue (X v) ↔ IsInLeastSourceSide net s t v
+IsNearest net s t true X = (v : ℕ) → IsNode net v → IsFalse (X v) ↔ IsInLeastSinkSide net s t v
 
 -- A minimum cut of that capacity: the one nearest the sources, or nearest the sinks.
 pub record IsCutOf (p : Instance) (value : ℕ) (sink : Bool) (X : ℕ → Bool) : Type 0 where
   pub minimum : IsMinimumCut p.net (one_of p.sources) (one_of p.sinks) X
   pub valued : capacity p.net X ≡ value
-  pub nearest : IsNearest p sink X
+  pub nearest : IsNearest p.net (one_of p.sources) (one_of p.sinks) sink X
 
--- What `solve` puts: the value, and some flow that has it.
+-- What `solve` puts: the value, and some feasible flow that has it, in which self-loops carry nothing.
 pub record IsSolveText (p : Instance) (value_only : Bool) (text : List ℕ) : Type 0 where
   pub value : ℕ
   pub flows : List ℕ
   pub value_is : IsValueOf p value
-  pub flow_is : IsFlowOf p value flows
+  pub feasible : IsFeasible p.net (one_of p.sources) (one_of p.sinks) flows
+  pub valued : HasValue p.net (one_of p.sources) flows value
+  pub no_loops : HasNoLoops p.net flows
   pub text_is : text ≡ solve_text value_only p.net value flows
 
 -- What `cut` puts: the value, and the source side of the minimum cut that is asked for.
@@ -52,13 +48,13 @@ pub record IsCutText (p : Instance) (arcs sink : Bool) (text : List ℕ) : Type 
   pub cut_is : IsCutOf p value sink X
   pub text_is : text ≡ cut_text arcs p.net value X
 
--- the connectivity that is asked for: of the arcs in their direction or, undirected, of their ends; over all proper sets of
--- nodes or, with the pair, over those with every source inside and every sink outside
+-- the connectivity that is asked for: the least number of arcs that leave a set or, undirected, that have exactly one end
+-- in it; over all proper sets of nodes or, with the pair, over those with every source inside and every sink outside
 abbrev pub IsConnectivityOf : Instance → Bool → Bool → ℕ → Type 0
-IsConnectivityOf p false false k = IsConnectivity p.net k
-IsConnectivityOf p true false k = IsUndirectedConnectivity p.net k
-IsConnectivityOf p false true k = IsPairConnectivity p.net (one_of p.sources) (one_of p.sinks) k
-IsConnectivityOf p true true k = IsUndirectedPairConnectivity p.net (one_of p.sources) (one_of p.sinks) k
+IsConnectivityOf p false false k = IsLeastOver (IsProper p.net) (leaving p.net) k
+IsConnectivityOf p true false k = IsLeastOver (IsProper p.net) (crossing p.net) k
+IsConnectivityOf p false true k = IsLeastOver (IsCut (one_of p.sources) (one_of p.sinks)) (leaving p.net) k
+IsConnectivityOf p true true k = IsLeastOver (IsCut (one_of p.sources) (one_of p.sinks)) (crossing p.net) k
 
 -- the status of a check: 0 where the solution is right
 abbrev pub verdict_status : Verdict → ℕ

@@ -1,5 +1,5 @@
 -- How the flow lines of a solution are shared out over the arcs.
-use Rattle.std.specs.Prelude.{◌≡◌, ℕ, ◌+◌, ◌*◌, ◌<◌, ◌⊎◌, Bool, List, length, slice_index, slice_index_or, if◌then◌else◌}
+use Rattle.std.specs.Prelude.{◌≡◌, ℕ, ◌+◌, ◌*◌, ◌<◌, ◌⊎◌, Bool, ◌==◌, ◌&&◌, List, length, slice_index, slice_index_or, if◌then◌else◌}
 use Rattle.std.specs.List.{All, Contains}
 use Rattle.std.specs.List.Sorted.{IsNonDecreasingBy}
 use Rattle.flow_net.specs.Nets.{Net, arc_at, Instance}
@@ -12,6 +12,14 @@ use Rattle.flow_tools.specs.Verdicts.{IsFirstOver}
 use Rattle.flow_tools.specs.declared.sharing.ArcPlace.{ArcPlace}
 use Rattle.flow_tools.specs.declared.sharing.Shared.{Shared}
 use Rattle.flow_tools.specs.declared.sharing.Shared.TheVariants.{Flow, Over}
+
+-- the test for one pair of nodes
+abbrev pub is_pair : ℕ → ℕ → ℕ → ℕ → Bool
+is_pair u v src dst = (u == src) && (v == dst)
+
+-- a pair of nodes comes before another: by its first node, then by its second
+abbrev pub IsBefore : ℕ → ℕ → ℕ → ℕ → Type 0
+IsBefore u v src dst = (u < src) ⊎ ((u ≡ src) × (v < dst))
 
 -- a number that rises with a pair of nodes below 2^32: by the first, then by the second
 abbrev pub pair_rank : ℕ → ℕ → ℕ
@@ -48,7 +56,8 @@ Carries net lines xs = (p : ℕ → ℕ → Bool) → arc_flow net p xs ≡ line
 
 -- an amount more between two nodes: ys is xs, and so much more over the arcs from src to dst
 abbrev pub HasMore : Net → List ℕ → ℕ → ℕ → ℕ → List ℕ → Type 0
-HasMore net xs src dst amount ys = (p : ℕ → ℕ → Bool) → arc_flow net p ys ≡ arc_flow net p xs + (if p src dst then amount else 0)
+HasMore net xs src dst amount ys = (p : ℕ → ℕ → Bool) → arc_flow net p ys
+    ≡ arc_flow net p xs + (if p src dst then amount else 0)
 
 -- the arc carries its capacity
 abbrev pub IsFull : Net → List ℕ → ℕ → Type 0
@@ -56,7 +65,8 @@ IsFull net xs i = slice_index xs i ≡ (arc_at net i).cap
 
 -- each of the first places is of a pair of less than a rank, or its arc is full
 abbrev pub ArePassed : Net → List ArcPlace → ℕ → ℕ → List ℕ → Type 0
-ArePassed net places at rank xs = (k : ℕ) (d : ArcPlace) → k < at → (place_rank (slice_index_or places k d) < rank) ⊎ IsFull net xs (slice_index_or places k d).arc
+ArePassed net places at rank xs = (k : ℕ) (d : ArcPlace) → k < at
+    → (place_rank (slice_index_or places k d) < rank) ⊎ IsFull net xs (slice_index_or places k d).arc
 
 -- what comes of sharing out the lines: a flow that carries them, or the least pair whose flow passes its capacity
 abbrev pub IsSharedOut : Net → List FlowLine → Shared → Type 0
@@ -65,4 +75,5 @@ IsSharedOut net lines (Over src dst) = IsFirstOver net lines src dst
 
 -- a flow whose value is less than the greatest
 abbrev pub HasLessValue : Instance → List ℕ → Type 0
-HasLessValue p xs = (k : ℕ) × IsGreatest p.net (one_of p.sources) (one_of p.sinks) k × ((j : ℕ) → HasValue p.net (one_of p.sources) xs j → j < k)
+HasLessValue p xs = (k : ℕ) × IsGreatest p.net (one_of p.sources) (one_of p.sinks) k
+    × ((j : ℕ) → HasValue p.net (one_of p.sources) xs j → j < k)

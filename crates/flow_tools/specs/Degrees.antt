@@ -4,7 +4,8 @@ use Rattle.std.specs.List.{count_by}
 use Rattle.flow_net.specs.declared.networks.Arc.{Arc}
 use Rattle.flow_net.specs.Nets.{Net}
 use Rattle.flow_net.specs.NodeSets.{just}
-use Rattle.flow_net.specs.Cuts.{leaves, enters, IsCut}
+use Rattle.flow_net.specs.Cuts.{leaves, IsCut}
+use Rattle.flow_net.specs.Arcs.{enters}
 use Rattle.flow_net.specs.Connectivity.{leaving}
 
 -- cell v - 1 counts the arcs that leave node v, and the arcs that enter it

@@ -1,5 +1,5 @@
 -- How a run ends.
-use Rattle.std.specs.Prelude.{◌≡◌, ◌⊎◌, ◌∷◌, ◌++◌, ℕ, true, false, List, [], codes, Result, Ok, Err, Option, Some, None, ⊤}
+use Rattle.std.specs.Prelude.{◌≡◌, ◌⊎◌, ℕ, true, false, List, [], codes, Result, Ok, Err, Option, Some, None, ⊤}
 use Rattle.std.specs.Io.KnownBytes.{Appends, Consumes}
 use Rattle.flow_net.specs.Nets.{Instance}
 use Rattle.flow_text.specs.Problem.{early, problem}
@@ -23,7 +23,7 @@ abbrev pub IsCheck : Job → Type 0
 IsCheck (Check feasible_only) = ⊤
 IsCheck _ = ⊥
 
--- a job that checks a solution has come to it: the problem has ended and is accepted; and this holds for its number of nodes
+-- a job that checks a solution has come to it: the problem has ended and is accepted; and this holds for its nodes' number
 abbrev pub HasComeToSolution : Job → Stream → List ℕ → (ℕ → Type 0) → Type 0
 HasComeToSolution job source p holds =
     IsCheck job × HasEnded source × ((instance : Instance) × (problem p ≡ Ok instance) × holds instance.net.nodes)
@@ -63,27 +63,22 @@ pub record Runs (job : Job) (source given out : Stream) (end : Result ℕ Stop) 
       ⊎ HasComeToSolution job source p (λ nodes. IsOnePass (λ b. early_solution b nodes) q)
   pub exit : EndsAt job source given out p q o end
 
--- the message of an exit: none where there is an answer
-abbrev pub end_message : Result ℕ Stop → List ℕ
-end_message (Ok status) = []
-end_message (Err (Fault solution line code)) = fault_line solution line code
-end_message (Err ReadFailed) = codes "flow: read failed" ++ 10 ∷ []
-end_message (Err WriteFailed) = codes "flow: write failed" ++ 10 ∷ []
-end_message (Err OutOfMemory) = codes "flow: out of memory" ++ 10 ∷ []
-
--- its status: that of the answer, 3 for a fault of an input, 4 for a stream that failed and for want of memory
-abbrev pub end_status : Result ℕ Stop → ℕ
-end_status (Ok status) = status
-end_status (Err (Fault solution line code)) = 3
-end_status (Err _) = 4
+-- the message of an exit, and its status
+abbrev pub ending : Result ℕ Stop → List ℕ × ℕ
+ending (Ok status) = ([], status)
+ending (Err (Fault solution line code)) = (fault_line solution line code, 3)
+ending (Err ReadFailed) = (codes "flow: read failed\n", 4)
+ending (Err WriteFailed) = (codes "flow: write failed\n", 4)
+ending (Err OutOfMemory) = (codes "flow: out of memory\n", 4)
 
 -- all of the message was taken, or a beginning of it by a stream that failed
 abbrev pub IsTold : Stream → List ℕ → Type 0
-IsTold err message = (e : List ℕ) × Appends err.before.bytes err.after.bytes e × ((IsKept err × (e ≡ message)) ⊎ (HasFailed err × IsBeginning e message))
+IsTold err message = (e : List ℕ) × Appends err.before.bytes err.after.bytes e
+    × ((IsKept err × (e ≡ message)) ⊎ (HasFailed err × IsBeginning e message))
 
 -- A whole run.
 pub record EndsWith (job : Job) (source solution out err : Stream) (status : ℕ) : Type 0 where
   pub end : Result ℕ Stop
   pub runs : Runs job source solution out end
-  pub told : IsTold err (end_message end)
-  pub answered : status ≡ end_status end
+  pub told : IsTold err (ending end).0
+  pub answered : status ≡ (ending end).1

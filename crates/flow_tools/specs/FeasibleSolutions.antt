@@ -6,7 +6,8 @@ use Rattle.flow_net.specs.Flows.{flow_over, IsFeasible}
 use Rattle.flow_text.specs.declared.solutions.FlowLine.{FlowLine}
 use Rattle.flow_text.specs.declared.verdicts.Verdict.{Verdict}
 use Rattle.flow_text.specs.declared.verdicts.Verdict.TheVariants.{Over, Unbalanced, Value, Feasible, NotMaximal, Optimal}
-use Rattle.flow_tools.specs.SolutionFlows.{is_pair, pair_flow}
+use Rattle.flow_tools.specs.SolutionFlows.{pair_flow}
+use Rattle.flow_tools.specs.ArcShares.{is_pair}
 
 -- some feasible flow carries in all, over the arcs of each pair of nodes, what the lines say of the pair
 abbrev pub IsFeasibleSolution : Instance → List FlowLine → Type 0

@@ -25,7 +25,8 @@ pub record AreNodeFlows (nodes : ℕ) (lines : List FlowLine) (into out : List �
 
 -- of the first n places, those that aren't marked hold the same in both lists
 abbrev pub AreEqualUnless : List Bool → List ℕ → List ℕ → ℕ → Type 0
-AreEqualUnless marks into out n = (k : ℕ) → k < n → slice_index_or marks k true ≡ false → slice_index into k ≡ slice_index out k
+AreEqualUnless marks into out n = (k : ℕ) → k < n → slice_index_or marks k true ≡ false
+    → slice_index into k ≡ slice_index out k
 
 -- the least node that isn't marked and holds different numbers
 pub record IsFirstUnequal (marks : List Bool) (into out : List ℕ) (node : ℕ) : Type 0 where

@@ -34,15 +34,18 @@ stop_for solution (Fault line code) = StopFault solution line code
 stop_for solution OutOfMemory = StopOutOfMemory
 
 -- what the bytes that an input delivered are judged to be, and how that leaves the input
-abbrev pub IsJudged : {T : Type 0} → (List ℕ → Option (ℕ × FaultCode)) → (List ℕ → ℕ × FaultCode → Type 0) → (List ℕ → T → Type 0) → Stream → List ℕ → Bool → Result T Stop → Type 0
+abbrev pub IsJudged : {T : Type 0} → (List ℕ → Option (ℕ × FaultCode)) → (List ℕ → ℕ × FaultCode → Type 0)
+    → (List ℕ → T → Type 0) → Stream → List ℕ → Bool → Result T Stop → Type 0
 IsJudged early has_fault accepts s text solution (Ok value) = HasEnded s × accepts text value
-IsJudged early has_fault accepts s text solution (Err (StopFault told line code)) = IsKept s × (told ≡ solution) × ((early text ≡ Some (line, code)) ⊎ (HasEnded s × has_fault text (line, code)))
+IsJudged early has_fault accepts s text solution (Err (StopFault told line code)) = IsKept s × (told ≡ solution)
+    × ((early text ≡ Some (line, code)) ⊎ (HasEnded s × has_fault text (line, code)))
 IsJudged early has_fault accepts s text solution (Err ReadFailed) = HasFailed s × (early text ≡ None)
 IsJudged early has_fault accepts s text solution (Err WriteFailed) = ⊥
 IsJudged early has_fault accepts s text solution (Err StopOutOfMemory) = IsKept s
 
 -- An input over a call that reads it: what it delivered, in one pass, and what that is judged to be.
-pub record IsRead {T : Type 0} (early : List ℕ → Option (ℕ × FaultCode)) (has_fault : List ℕ → ℕ × FaultCode → Type 0) (accepts : List ℕ → T → Type 0) (s : Stream) (solution : Bool) (result : Result T Stop) : Type 0 where
+pub record IsRead {T : Type 0} (early : List ℕ → Option (ℕ × FaultCode))
+    (has_fault : List ℕ → ℕ × FaultCode → Type 0) (accepts : List ℕ → T → Type 0) (s : Stream) (solution : Bool) (result : Result T Stop) : Type 0 where
   pub text : List ℕ
   pub delivered : Consumes s.before.bytes s.after.bytes text
   pub one_pass : IsOnePass early text

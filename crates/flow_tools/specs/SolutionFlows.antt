@@ -9,17 +9,13 @@ use Rattle.flow_text.specs.declared.solutions.FlowLine.{FlowLine}
 abbrev pub line_flow : (ℕ → ℕ → Bool) → List FlowLine → ℕ
 line_flow p lines = sum_by (λ l. if p l.src l.dst then l.flow else 0) lines
 
--- the test for one pair of nodes
-abbrev pub is_pair : ℕ → ℕ → ℕ → ℕ → Bool
-is_pair u v src dst = (u == src) && (v == dst)
-
 -- a pair's flow: the sum of the flows of the lines from u to v
 abbrev pub pair_flow : List FlowLine → ℕ → ℕ → ℕ
-pair_flow lines u v = line_flow (is_pair u v) lines
+pair_flow lines u v = line_flow (λ src dst. (u == src) && (v == dst)) lines
 
 -- a pair's capacity: the sum of the capacities of the arcs from u to v, 0 where there is none
 abbrev pub pair_cap : Net → ℕ → ℕ → ℕ
-pair_cap net u v = cap_over (λ a. is_pair u v a.src a.dst) net.arcs
+pair_cap net u v = cap_over (λ a. (u == a.src) && (v == a.dst)) net.arcs
 
 -- OUT and IN: the sum of the flows of the lines that begin, that end in a set of nodes
 abbrev pub lines_out_of : (ℕ → Bool) → List FlowLine → ℕ

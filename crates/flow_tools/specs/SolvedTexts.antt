@@ -25,5 +25,6 @@ written_flow net value flows = record { value = value; lines = map carried_line 
 -- accepted as a solution of it, and the one verdict on it is that it is optimal, with the greatest value
 abbrev pub SolvedIsOptimal : Type 0
 SolvedIsOptimal = (b : List ℕ) (p : Instance) (text : List ℕ) → problem b ≡ Ok p → IsSolveText p false text
-    → (w : Written) × (k : ℕ) × (solution text p.net.nodes ≡ Ok w) × IsGreatest p.net (one_of p.sources) (one_of p.sinks) k
+    → (w : Written) × (k : ℕ) × (solution text p.net.nodes ≡ Ok w)
+    × IsGreatest p.net (one_of p.sources) (one_of p.sinks) k
     × ((verdict : Verdict) → IsVerdict p w false verdict ↔ (verdict ≡ Optimal k))

@@ -9,10 +9,6 @@ use Rattle.flow_text.specs.declared.verdicts.Verdict.{Verdict}
 use Rattle.flow_text.specs.declared.verdicts.Verdict.TheVariants.{Over, Unbalanced, Value, Feasible, NotMaximal, Optimal}
 use Rattle.flow_tools.specs.SolutionFlows.{pair_flow, pair_cap, lines_out_of, lines_into, net_outflow}
 
--- a pair of nodes comes before another: by its first node, then by its second
-abbrev pub IsBefore : ℕ → ℕ → ℕ → ℕ → Type 0
-IsBefore u v src dst = (u < src) ⊎ ((u ≡ src) × (v < dst))
-
 -- a node that is neither source nor sink
 abbrev pub IsInner : Instance → ℕ → Type 0
 IsInner p v = IsNode p.net v × IsFalse (one_of p.sources v) × IsFalse (one_of p.sinks v)
@@ -29,10 +25,10 @@ IsBalancedAt lines v = lines_into (just v) lines ≡ lines_out_of (just v) lines
 abbrev pub IsBalanced : Instance → List FlowLine → Type 0
 IsBalanced p lines = (v : ℕ) → IsInner p v → IsBalancedAt lines v
 
--- the least pair whose flow passes its capacity
+-- the least pair whose flow passes its capacity, by the first node, then by the second
 pub record IsFirstOver (net : Net) (lines : List FlowLine) (src dst : ℕ) : Type 0 where
   pub over : pair_cap net src dst < pair_flow lines src dst
-  pub least : (u v : ℕ) → IsBefore u v src dst → pair_flow lines u v ≤ pair_cap net u v
+  pub least : (u v : ℕ) → (u < src) ⊎ ((u ≡ src) × (v < dst)) → pair_flow lines u v ≤ pair_cap net u v
 
 -- the least node, neither source nor sink, of which what enters it isn't what leaves it
 pub record IsFirstUnbalanced (p : Instance) (lines : List FlowLine) (node : ℕ) : Type 0 where
@@ -48,9 +44,14 @@ pub record IsRight (p : Instance) (w : Written) : Type 0 where
 
 -- the verdict: the first that applies
 abbrev pub IsVerdict : Instance → Written → Bool → Verdict → Type 0
-IsVerdict p w feasible_only (Over src dst flow cap) = IsFirstOver p.net w.lines src dst × (flow ≡ pair_flow w.lines src dst) × (cap ≡ pair_cap p.net src dst)
-IsVerdict p w feasible_only (Unbalanced node into out) = IsWithinCapacities p.net w.lines × IsFirstUnbalanced p w.lines node × (into ≡ lines_into (just node) w.lines) × (out ≡ lines_out_of (just node) w.lines)
-IsVerdict p w feasible_only (Value given found) = IsWithinCapacities p.net w.lines × IsBalanced p w.lines × (pos given ≢ found) × (given ≡ w.value) × (found ≡ net_outflow p w.lines)
+IsVerdict p w _ (Over src dst flow cap) =
+    IsFirstOver p.net w.lines src dst × (flow ≡ pair_flow w.lines src dst) × (cap ≡ pair_cap p.net src dst)
+IsVerdict p w _ (Unbalanced node into out) = IsWithinCapacities p.net w.lines × IsFirstUnbalanced p w.lines node
+    × (into ≡ lines_into (just node) w.lines) × (out ≡ lines_out_of (just node) w.lines)
+IsVerdict p w _ (Value given found) = IsWithinCapacities p.net w.lines × IsBalanced p w.lines
+    × (pos given ≢ found) × (given ≡ w.value) × (found ≡ net_outflow p w.lines)
 IsVerdict p w feasible_only (Feasible value) = IsRight p w × (feasible_only ≡ true) × (value ≡ w.value)
-IsVerdict p w feasible_only (NotMaximal value) = IsRight p w × (feasible_only ≡ false) × (value ≡ w.value) × ((k : ℕ) × IsGreatest p.net (one_of p.sources) (one_of p.sinks) k × (value < k))
-IsVerdict p w feasible_only (Optimal value) = IsRight p w × (feasible_only ≡ false) × (value ≡ w.value) × IsGreatest p.net (one_of p.sources) (one_of p.sinks) value
+IsVerdict p w feasible_only (NotMaximal value) = IsRight p w × (feasible_only ≡ false) × (value ≡ w.value)
+    × ((k : ℕ) × IsGreatest p.net (one_of p.sources) (one_of p.sinks) k × (value < k))
+IsVerdict p w feasible_only (Optimal value) = IsRight p w × (feasible_only ≡ false) × (value ≡ w.value)
+    × IsGreatest p.net (one_of p.sources) (one_of p.sinks) value

@@ -1,8 +1,9 @@
 //! The answers to a problem: what is computed, and what is put. All memory is asked for before anything is put.
 ghost use Rattle.std.specs.Prelude.{◌≡◌, [], ◌≤◌, length, IfOk};
-ghost use Rattle.flow_net.specs.Flows.{Fits};
+ghost use Rattle.flow_net.specs.NodeSets.{one_of};
+ghost use Rattle.flow_net.specs.Flows.{Fits, IsFeasible, HasValue, HasNoLoops};
 ghost use Rattle.flow_solve.specs.Bounds.{work_cells};
-ghost use Rattle.flow_tools.specs.Answers.{IsValueOf, IsFlowOf, IsCutOf};
+ghost use Rattle.flow_tools.specs.Answers.{IsValueOf, IsCutOf};
 ghost use Rattle.flow_tools.specs.AnswerExits.{Puts};
 ghost use Rattle.flow_tools.specs.Sides.{side_of};
 ghost use Rattle.flow_tools.specs.Streams.{over};
@@ -92,7 +93,11 @@ fn make_room(alloc: Global, net: &Network) -> Result<Room, OutOfMemory>
 /// Finds the greatest value and a flow that has it. All the memory is asked for first.
 fn find_flow<M: Method>(alloc: Global, problem: &Problem) -> Result<Solved, OutOfMemory>
     ensures value { IfOk result (λ solved. IsValueOf problem.now solved.value) }
-    ensures flows { IfOk result (λ solved. IsFlowOf problem.now solved.value solved.table.flows) }
+    ensures feasible { IfOk result (λ solved.
+        IsFeasible problem.now.net (one_of problem.now.sources) (one_of problem.now.sinks) solved.table.flows) }
+    ensures valued { IfOk result (λ solved.
+        HasValue problem.now.net (one_of problem.now.sources) solved.table.flows solved.value) }
+    ensures no_loops { IfOk result (λ solved. HasNoLoops problem.now.net solved.table.flows) }
 {
     let net = problem.net();
     let Room {

@@ -60,7 +60,8 @@ pub(crate) fn answer_check<J: Input, O: Output>(
     given: &mut J,
     out: &mut O,
 ) -> Result<u8, Stop>
-    ensures { Checks feasible_only problem.now (over (J.state given.old) (J.state given.new)) (over (O.state out.old) (O.state out.new)) result }
+    ensures { Checks feasible_only problem.now (over (J.state given.old) (J.state given.new))
+        (over (O.state out.old) (O.state out.new)) result }
 {
     let reader = SolutionReader::new(alloc, problem.net().nodes());
     let written = match read_all(given, reader, Role::Solution) {

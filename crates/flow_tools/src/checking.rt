@@ -47,7 +47,8 @@ fn cap_of_pair(net: &Network, src: u32, dst: u32) -> u128
 /// Whether a feasible flow has the greatest value.
 fn is_greatest(alloc: Global, problem: &Problem, flow: &mut FlowTable) -> Result<bool, OutOfMemory>
     requires { IsFeasible problem.now.net (one_of problem.now.sources) (one_of problem.now.sinks) flow.old.flows }
-    ensures greatest { IfOk result (λ greatest. greatest ≡ true → HasGreatestValue problem.now.net (one_of problem.now.sources) (one_of problem.now.sinks) flow.old.flows) }
+    ensures greatest { IfOk result (λ greatest. greatest ≡ true
+        → HasGreatestValue problem.now.net (one_of problem.now.sources) (one_of problem.now.sinks) flow.old.flows) }
     ensures less { IfOk result (λ greatest. greatest ≡ false → HasLessValue problem.now flow.old.flows) }
 {
     let net = problem.net();
@@ -138,7 +139,8 @@ pub fn check(
 ) -> Result<Verdict, OutOfMemory>
     requires { IsWithinLimits problem.now.net.nodes (written_in solution.now) }
     ensures verdict { IfOk result (IsVerdict problem.now (written_in solution.now) feasible_only) }
-    ensures feasible { IfOk result (λ verdict. IsTrue (is_of_feasible verdict) ↔ IsFeasibleSolution problem.now solution.now.lines.items) }
+    ensures feasible { IfOk result (λ verdict. IsTrue (is_of_feasible verdict)
+        ↔ IsFeasibleSolution problem.now solution.now.lines.items) }
 {
     let lines = solution.lines.as_slice();
     match share_out(alloc, problem.net(), lines)? {

@@ -5,7 +5,7 @@ ghost use Rattle.flow_net.specs.declared.limits.TheConstants.{MOST_ARCS};
 ghost use Rattle.flow_net.specs.Limits.{AreTerminals};
 ghost use Rattle.flow_net.specs.DerivedNets.{unit, both_ways};
 ghost use Rattle.flow_net.specs.NodeSets.{one_of};
-ghost use Rattle.flow_net.specs.Connectivity.{IsConnectivity, IsPairConnectivity};
+ghost use Rattle.flow_net.specs.LeastCuts.{IsConnectivity, IsPairConnectivity};
 ghost use Rattle.flow_tools.specs.AnswerExits.{Puts};
 ghost use Rattle.flow_tools.specs.Streams.{over};
 
@@ -57,7 +57,8 @@ pub(crate) fn answer_connect<M: Method, O: Output>(
     form: ConnectForm,
     out: &mut O,
 ) -> Result<u8, Stop>
-    ensures { Puts (Job.Connect form.undirected form.pair) problem [] (over (O.state out.old) (O.state out.new)) result }
+    ensures { Puts (Job.Connect form.undirected form.pair) problem []
+        (over (O.state out.old) (O.state out.new)) result }
 {
     let (net, sources, sinks) = problem.into_parts();
     let net = match counting_network(net, form.undirected) {

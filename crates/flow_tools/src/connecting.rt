@@ -6,7 +6,8 @@ ghost use Rattle.flow_net.specs.Limits.{AreTerminals};
 ghost use Rattle.flow_net.specs.DerivedNets.{unit};
 ghost use Rattle.flow_net.specs.NodeSets.{one_of, just};
 ghost use Rattle.flow_net.specs.Flows.{Fits};
-ghost use Rattle.flow_net.specs.Connectivity.{leaving, IsProper, IsConnectivity, IsPairConnectivity};
+ghost use Rattle.flow_net.specs.Connectivity.{leaving, IsProper};
+ghost use Rattle.flow_net.specs.LeastCuts.{IsConnectivity, IsPairConnectivity};
 ghost use Rattle.flow_solve.specs.Bounds.{work_cells};
 ghost use Rattle.flow_tools.specs.Degrees.{AreDegrees, next_node};
 

@@ -14,7 +14,8 @@ use flow_text::{MOST_LINE_BYTES, push_arc_line, push_flow_line, push_node_line};
 #[inline(always)]
 fn make_room<O: Output>(out: &mut O, waiting: &mut Gathered) -> Result<(), Failed>
     ensures room { OnOk result (array_vec_len waiting.new + MOST_LINE_BYTES ≤ 65536) }
-    ensures gathered { IsGathered waiting.new.items waiting.old.items (over (O.state out.old) (O.state out.new)) result }
+    ensures gathered { IsGathered waiting.new.items waiting.old.items
+        (over (O.state out.old) (O.state out.new)) result }
 {
     if waiting.remaining_capacity() < MOST_LINE_BYTES {
         put_all(out, waiting.as_slice())?;

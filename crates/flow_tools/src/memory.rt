@@ -79,7 +79,8 @@ impl Input for Script<'_> {
         ensures falls { IfOk result (λ n. 0 < n → length self.new.rest.now < length self.old.rest.now) }
         ensures flag { Flags self.old.failed self.new.failed result }
         ensures most { IfOk result (λ n. n ≤ self.old.most) }
-        ensures lines { IfOk result (λ n. self.old.lines ≡ true → (k : ℕ) → k + 1 < n → slice_index self.old.rest.now k ≢ 10) }
+        ensures lines { IfOk result (λ n. self.old.lines ≡ true → (k : ℕ) → k + 1 < n
+            → slice_index self.old.rest.now k ≢ 10) }
         ensures fails_there { OnErr result (self.new.pulls ≡ self.old.fails_at) }
         ensures fails_only_there { OnOk result (self.new.pulls ≢ self.old.fails_at) }
         ensures counted { self.old.pulls < 2 ^ 64 - 1 → self.new.pulls ≡ self.old.pulls + 1 }

@@ -80,7 +80,8 @@ fn mark(cells: &mut [bool], nodes: &[u32])
 fn terminals(alloc: Global, problem: &Problem) -> Result<Vec<bool>, OutOfMemory>
     ensures len { IfOk result (λ cells. length cells.items ≡ problem.now.net.nodes) }
     ensures few { IfOk result (λ cells. length cells.items ≤ MOST_NODES) }
-    ensures marked { IfOk result (λ cells. (v : ℕ) → marked cells.items v ≡ (one_of problem.now.sources v || one_of problem.now.sinks v)) }
+    ensures marked { IfOk result (λ cells. (v : ℕ) → marked cells.items v
+        ≡ (one_of problem.now.sources v || one_of problem.now.sinks v)) }
 {
     let Ok(mut cells) = Vec::from_elem(alloc, false, problem.net().nodes() as usize) else {
         return Err(OutOfMemory);
@@ -95,7 +96,8 @@ fn first_unequal(marks: &[bool], into: &[u128], out: &[u128]) -> Option<u32>
     requires into { length into.now ≡ length marks.now }
     requires out { length out.now ≡ length marks.now }
     requires few { length marks.now ≤ MOST_NODES }
-    ensures { MatchOption result (AreEqualUnless marks.now into.now out.now (length marks.now)) (IsFirstUnequal marks.now into.now out.now) }
+    ensures { MatchOption result (AreEqualUnless marks.now into.now out.now (length marks.now))
+        (IsFirstUnequal marks.now into.now out.now) }
 {
     for i in 0..marks.len() {
         if !marks[i] && into[i] != out[i] {
@@ -113,8 +115,10 @@ pub(crate) fn first_unbalanced(
 ) -> Result<Option<u32>, OutOfMemory>
     requires into { length flows.now.into.items ≡ problem.now.net.nodes }
     requires out { length flows.now.out.items ≡ problem.now.net.nodes }
-    ensures { (lines : List FlowLine) → AreNodeFlows problem.now.net.nodes lines flows.now.into.items flows.now.out.items
-        → IfOk result (λ found. MatchOption found (IsBalanced problem.now lines) (IsFirstUnbalanced problem.now lines)) }
+    ensures { (lines : List FlowLine)
+        → AreNodeFlows problem.now.net.nodes lines flows.now.into.items flows.now.out.items
+        → IfOk result (λ found.
+        MatchOption found (IsBalanced problem.now lines) (IsFirstUnbalanced problem.now lines)) }
 {
     let marks = terminals(alloc, problem)?;
     Ok(first_unequal(
@@ -143,7 +147,9 @@ pub(crate) fn outflow_of_sources(problem: &Problem, flows: &NodeFlows) -> i128
     requires out { length flows.now.out.items ≡ problem.now.net.nodes }
     requires into_fits { sum_by (at_node flows.now.into.items) problem.now.sources < 2 ^ 127 }
     requires out_fits { sum_by (at_node flows.now.out.items) problem.now.sources < 2 ^ 127 }
-    ensures { (lines : List FlowLine) → AreNodeFlows problem.now.net.nodes lines flows.now.into.items flows.now.out.items → result ≡ net_outflow problem.now lines }
+    ensures { (lines : List FlowLine)
+        → AreNodeFlows problem.now.net.nodes lines flows.now.into.items flows.now.out.items
+        → result ≡ net_outflow problem.now lines }
 {
     let out = sum_at(flows.out.as_slice(), problem.sources());
     let into = sum_at(flows.into.as_slice(), problem.sources());

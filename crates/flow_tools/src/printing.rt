@@ -145,7 +145,8 @@ fn gather_arcs<O: Output>(
     sink: bool,
 ) -> Result<(), Failed>
     requires count { length side.now ≡ net.now.nodes }
-    ensures { let text = waiting.old.items ++ flat_map arc_line (filter (leaves (side_of sink side.now)) net.now.arcs) in
+    ensures { let text = waiting.old.items
+        ++ flat_map arc_line (filter (leaves (side_of sink side.now)) net.now.arcs) in
         IsGathered waiting.new.items text (over (O.state out.old) (O.state out.new)) result }
 {
     for i in 0..net.len() {

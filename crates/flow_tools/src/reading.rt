@@ -37,7 +37,8 @@ pub(crate) trait Reader {
 
     /// Takes the next piece of the text.
     fn feed(&mut self, piece: &[u8]) -> Result<(), ReadFault>
-        ensures { (n : ℕ) (b : List ℕ) → reads self.old n b → FeedsOn (early n (b ++ piece.now)) (reads self.new n (b ++ piece.now)) result };
+        ensures { (n : ℕ) (b : List ℕ) → reads self.old n b
+            → FeedsOn (early n (b ++ piece.now)) (reads self.new n (b ++ piece.now)) result };
 
     /// Takes the end of the text.
     fn finish(self) -> Result<Self::Parsed, ReadFault>

@@ -1,6 +1,6 @@
 //! The run of a job over its streams.
 ghost use Rattle.std.specs.Prelude.{◌≡◌, Err};
-ghost use Rattle.flow_tools.specs.Exits.{Runs, EndsWith, IsTold, end_message, end_status};
+ghost use Rattle.flow_tools.specs.Exits.{Runs, EndsWith, IsTold, ending};
 ghost use Rattle.flow_tools.specs.Streams.{over};
 
 use crate::answers::{answer_cut, answer_solve};
@@ -86,7 +86,7 @@ fn answer<I: Input, J: Input, O: Output>(
 
 /// Puts the message of a run that ends without an answer. A failure ends the message and changes nothing else.
 fn tell<E: Output>(err: &mut E, stop: Stop)
-    ensures { IsTold (over (E.state err.old) (E.state err.new)) (end_message (Err stop)) }
+    ensures { IsTold (over (E.state err.old) (E.state err.new)) (ending (Err stop)).0 }
 {
     let _ = match stop {
         Stop::Fault {
@@ -102,7 +102,7 @@ fn tell<E: Output>(err: &mut E, stop: Stop)
 
 /// The status of a run that ends without an answer.
 fn status_of_stop(stop: Stop) -> u8
-    ensures { result ≡ end_status (Err stop) }
+    ensures { result ≡ (ending (Err stop)).1 }
 {
     match stop {
         Stop::Fault { .. } => 3,

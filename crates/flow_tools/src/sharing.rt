@@ -11,7 +11,8 @@ ghost use Rattle.flow_net.specs.Limits.{IsNet};
 ghost use Rattle.flow_net.specs.Flows.{Fits};
 ghost use Rattle.flow_text.specs.SolutionReading.{IsLineWithin};
 ghost use Rattle.flow_text.specs.declared.solutions.FlowLine.{FlowLine};
-ghost use Rattle.flow_tools.specs.SolutionFlows.{is_pair, pair_cap};
+ghost use Rattle.flow_tools.specs.SolutionFlows.{pair_cap};
+ghost use Rattle.flow_tools.specs.ArcShares.{is_pair};
 ghost use Rattle.flow_tools.specs.Verdicts.{IsFirstOver};
 ghost use Rattle.flow_tools.specs.ArcShares.{pair_rank, line_rank, place_of, AreArcPlaces, AreOrderedArcs, arc_flow, Carries, HasMore, IsFull, ArePassed, IsSharedOut};
 
@@ -127,7 +128,8 @@ fn pour(
     ensures passed { ArePassed net.now places.now result.0 (line_rank line) flow.new.flows }
     ensures left { result.1 ≤ line.flow }
     ensures more { HasMore net.now flow.old.flows line.src line.dst (line.flow - result.1) flow.new.flows }
-    ensures full { 0 < result.1 → arc_flow net.now (is_pair line.src line.dst) flow.new.flows ≡ pair_cap net.now line.src line.dst }
+    ensures full { 0 < result.1 → arc_flow net.now (is_pair line.src line.dst) flow.new.flows
+        ≡ pair_cap net.now line.src line.dst }
 {
     let rank_of_line = rank(line.src, line.dst);
     let mut left = line.flow;
@@ -160,7 +162,8 @@ fn pour_all(
     requires within { All (IsLineWithin net.now.nodes) lines.now }
     requires ordered { IsNonDecreasingBy line_rank lines.now }
     ensures fits { Fits net.now flow.new.flows }
-    ensures answer { MatchOption result (Carries net.now lines.now flow.new.flows) (λ line. IsFirstOver net.now lines.now line.src line.dst) }
+    ensures answer { MatchOption result (Carries net.now lines.now flow.new.flows)
+        (λ line. IsFirstOver net.now lines.now line.src line.dst) }
 {
     let mut at = 0;
     for line in lines {

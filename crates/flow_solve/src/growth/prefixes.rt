@@ -1,7 +1,8 @@
 //! A first bound on the connectivity: how many arcs lead from the nodes before a place in the order to the others, or back.
 ghost use Rattle.std.specs.Prelude.{◌≡◌, ℕ, Bool, ◌≤◌, ◌<◌, length};
 ghost use Rattle.flow_net.specs.Nets.{arc_at};
-ghost use Rattle.flow_net.specs.Cuts.{leaves, enters};
+ghost use Rattle.flow_net.specs.Cuts.{leaves};
+ghost use Rattle.flow_net.specs.Arcs.{enters};
 ghost use Rattle.flow_net.specs.Orders.{IsOrder};
 ghost use Rattle.flow_net.specs.Connectivity.{leaving, IsProper};
 ghost use Rattle.flow_solve.specs.Growth.{ArePlaces, IsClean, earlier_in, parted};

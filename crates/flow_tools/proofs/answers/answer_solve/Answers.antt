@@ -17,7 +17,9 @@ returns-in-Ok-put_solution g c =
         value = solved.value;
         flows = solved.table.flows;
         value_is = c.in-Ok.ensures.value;
-        flow_is = c.in-Ok.ensures.flows;
+        feasible = c.in-Ok.ensures.feasible;
+        valued = c.in-Ok.ensures.valued;
+        no_loops = c.in-Ok.ensures.no_loops;
         text_is = refl;
       },
       refl,
@@ -34,7 +36,9 @@ returns g c =
         value = solved.value;
         flows = solved.table.flows;
         value_is = c.in-Ok.ensures.value;
-        flow_is = c.in-Ok.ensures.flows;
+        feasible = c.in-Ok.ensures.feasible;
+        valued = c.in-Ok.ensures.valued;
+        no_loops = c.in-Ok.ensures.no_loops;
         text_is = refl;
       },
       refl,

@@ -4,7 +4,8 @@ use Rattle.std.proofs.Common.{List, ◌<◌, ◌^◌, subst, sym, arith}
 use Rattle.flow_net.specs.Limits.{IsNet}
 use Rattle.flow_text.specs.SolutionReading.{written_in}
 use Rattle.flow_text.specs.declared.solutions.FlowLine.{FlowLine}
-use Rattle.flow_tools.specs.SolutionFlows.{is_pair, pair_flow}
+use Rattle.flow_tools.specs.SolutionFlows.{pair_flow}
+use Rattle.flow_tools.specs.ArcShares.{is_pair}
 use Rattle.flow_tools.specs.ArcShares.{IsSharedOut}
 use Rattle.flow_tools.proofs.LineSums.{line_flow-most}
 use Rattle.flow_tools.proofs.PairSums.{over_told, result_told}

@@ -1,11 +1,11 @@
 -- The circle of nodes: each turn takes the pair of a node and the next, and after the last every set has been met,
 -- since a set that is neither empty nor all has a node inside whose next is outside.
-use Rattle.std.proofs.Common.{◌≤◌, ◌+◌, ◌*◌, ◌-◌, ◌≡◌, ℕ, [], ◌∷◌, subst, sym, inl, inr, arith}
+use Rattle.std.proofs.Common.{◌≤◌, subst, sym, inl, inr, arith}
 use Rattle.std.proofs.Math.Nat.{min-le_left, min-le_right}
 use Rattle.std.proofs.lemmas.Bool.{cases_eq}
 use Rattle.flow_net.specs.Nets.{IsNode}
-use Rattle.flow_net.specs.NodeSets.{one_of, just}
-use Rattle.flow_net.specs.Connectivity.{IsPairConnectivity}
+use Rattle.flow_net.specs.NodeSets.{just}
+use Rattle.flow_net.specs.LeastCuts.{IsPairConnectivity}
 use Rattle.flow_tools.specs.Degrees.{next_node, IsBelowNext}
 use Rattle.flow_tools.proofs.ConnectingLemmas.{pair_of_singles, pair_is_proper, lesser_proper}
 use Rattle.flow_tools.proofs.CircleLemmas.{connected_around, next_is_node, below_next, below_next_less, around_steps}

@@ -1,7 +1,7 @@
 -- The loop over the arcs: an arc that doesn't leave the set adds nothing to the text, one that leaves it adds its
 -- line; a put that fails took a beginning of the text; at the end all lines have been put or wait.
 use Rattle.std.proofs.Common.{◌∙◌, arith, refl, rules}
-use Rattle.flow_net.specs.Nets.{no_arc}
+use Rattle.flow_net.specs.Arcs.{no_arc}
 use Rattle.flow_net.specs.Cuts.{leaves}
 use Rattle.flow_text.specs.Output.{arc_line}
 use Rattle.flow_tools.specs.Sides.{side_of}

@@ -2,7 +2,7 @@
 -- lines have been put or wait.
 use Rattle.std.proofs.Common.{◌∙◌, arith, refl, rules}
 use Rattle.std.specs.List.{zip}
-use Rattle.flow_net.specs.Nets.{no_arc}
+use Rattle.flow_net.specs.Arcs.{no_arc}
 use Rattle.flow_text.specs.Output.{arc_flow_line}
 use Rattle.flow_tools.proofs.SendLemmas.{on_err}
 use Rattle.flow_tools.proofs.LineLemmas.{lines_more, lines_stop, lines_end}

@@ -1,6 +1,7 @@
 use Rattle.std.proofs.Common.{◌≡◌, take, length}
 use Rattle.std.specs.List.{count_by}
-use Rattle.flow_net.specs.Cuts.{leaves, enters}
+use Rattle.flow_net.specs.Cuts.{leaves}
+use Rattle.flow_net.specs.Arcs.{enters}
 use Rattle.flow_solve.specs.Growth.{earlier_in}
 use Rattle.flow_solve.proofs.growth.prefixes.count_crossings.Given as goal
 

@@ -1,10 +1,14 @@
--- Phases with lifting: what they go by, where a walk is, and the number by which nodes fall along a path.
-use Rattle.std.specs.Prelude.{◌≡◌, ℕ, ◌+◌, ◌-◌, ◌*◌, ◌≤◌, List, length, slice_index}
-use Rattle.flow_net.specs.Nets.{IsNode}
+-- Phases with lifting: what they go by, where a walk is, what is known of its path, and the number by which nodes fall
+-- along it.
+use Rattle.std.specs.Prelude.{◌≡◌, ℕ, ◌+◌, ◌-◌, ◌*◌, ◌<◌, ◌≤◌, List, length, take, slice_index}
+use Rattle.flow_net.specs.Nets.{Net, IsNode}
+use Rattle.flow_net.specs.Residual.{tail_of, head_of, residual}
+use Rattle.flow_net.specs.Paths.{IsPath}
 use Rattle.flow_solve.specs.declared.lifting.Ranked.{Ranked}
+use Rattle.flow_solve.specs.declared.lifting.Step.{Step}
 use Rattle.flow_solve.specs.declared.lifting.TheConstants.{KEYS_APART}
 use Rattle.flow_solve.specs.declared.lifting.Walker.{Walker}
-use Rattle.flow_solve.specs.declared.stages.Task.{Task}
+use Rattle.flow_solve.specs.Levels.{Descends}
 use Rattle.flow_solve.specs.Stages.{IsSource, IsTask}
 
 -- a node's distance first, and then its rank, as one number
@@ -16,8 +20,62 @@ pub record IsRanked (ranked : Ranked) : Type 0 where
   pub task : IsTask ranked.task
   pub rank_size : length ranked.rank.now ≡ ranked.task.packed.net.now.nodes
 
--- a walk has come from a source to a node, over no more half-arcs than there are nodes
-pub record IsUnderWay (task : Task) (walk : Walker) : Type 0 where
-  pub source : IsSource task walk.source
-  pub node : IsNode task.packed.net.now walk.node
-  pub depth : walk.depth ≤ task.packed.net.now.nodes
+-- a half-arc leaves a node towards a lower key, and so much remains on it
+pub record LeadsDown (ranked : Ranked) (dist xs : List ℕ) (v h r : ℕ) : Type 0 where
+  pub half : h < 2 * length ranked.task.packed.net.now.arcs
+  pub tail : tail_of ranked.task.packed.net.now h ≡ v
+  pub falls : key_of dist ranked.rank.now (head_of ranked.task.packed.net.now h) < key_of dist ranked.rank.now v
+  pub room : r ≡ residual ranked.task.packed.net.now xs h
+
+abbrev pub IsStep : Ranked → List ℕ → List ℕ → ℕ → Step → Type 0
+IsStep ranked dist xs v step = LeadsDown ranked dist xs v step.half step.room
+
+-- such a half-arc stands at a place of the packed ones, unless the place is behind those of the node
+abbrev pub LeadsDownAt : Ranked → List ℕ → List ℕ → ℕ → ℕ → ℕ → Type 0
+LeadsDownAt ranked dist xs v spot r =
+    spot < slice_index ranked.task.packed.first.now v
+    → LeadsDown ranked dist xs v (slice_index ranked.task.packed.halves.now spot) r
+
+-- a walk has come from a source to a node, and its trail begins with a path that leads there along falling keys
+pub record IsUnderWay (ranked : Ranked) (dist trail : List ℕ) (walk : Walker) : Type 0 where
+  pub source : IsSource ranked.task walk.source
+  pub node : IsNode ranked.task.packed.net.now walk.node
+  pub depth : walk.depth ≤ ranked.task.packed.net.now.nodes
+  pub leads : IsPath ranked.task.packed.net.now walk.source (take walk.depth trail) walk.node
+  pub falls : Descends ranked.task.packed.net.now (key_of dist ranked.rank.now) (take walk.depth trail)
+
+-- the half-arc on which the least remains of those up to a place: its place stands in the trail's second half
+abbrev pub half_of_least : Net → List ℕ → ℕ → ℕ
+half_of_least net trail d = slice_index trail (slice_index trail (net.nodes + d))
+
+-- a walk has the least that remains on its path, by its trail
+abbrev pub HasLeast : Net → List ℕ → List ℕ → Walker → Type 0
+HasLeast net xs trail walk = 1 ≤ walk.depth → walk.least ≡ residual net xs (half_of_least net trail (walk.depth - 1))
+
+-- no more remains on one half-arc than on another
+abbrev pub HasNoMore : Net → List ℕ → ℕ → ℕ → Type 0
+HasNoMore net xs g h = residual net xs g ≤ residual net xs h
+
+-- on each beginning of its path it is known where the least remains, and on the whole how much that is
+pub record KnowsLeast (net : Net) (xs trail : List ℕ) (walk : Walker) : Type 0 where
+  pub before : (d : ℕ) → d < walk.depth → slice_index trail (net.nodes + d) ≤ d
+  pub least : (d i : ℕ) → d < walk.depth → i ≤ d → HasNoMore net xs (half_of_least net trail d) (slice_index trail i)
+  pub amount : HasLeast net xs trail walk
+
+-- where this was known of a walk it is known after a step, whatever the flow
+abbrev pub KeepsLeast : Net → List ℕ → List ℕ → Walker → Step → Walker → Type 0
+KeepsLeast net before after walk step next =
+    (xs : List ℕ) → KnowsLeast net xs before walk → step.room ≡ residual net xs step.half → KnowsLeast net xs after next
+
+-- a walk has gone back to where a half-arc of its path begins
+pub record HasGoneBack (net : Net) (trail : List ℕ) (before after : Walker) : Type 0 where
+  pub source : after.source ≡ before.source
+  pub shorter : after.depth < before.depth
+  pub node : after.node ≡ tail_of net (slice_index trail after.depth)
+
+-- the same words, of what a phase goes by
+abbrev pub KnowsLeastIn : Ranked → List ℕ → List ℕ → Walker → Type 0
+KnowsLeastIn ranked xs trail walk = KnowsLeast ranked.task.packed.net.now xs trail walk
+
+abbrev pub HasGoneBackIn : Ranked → List ℕ → Walker → Walker → Type 0
+HasGoneBackIn ranked trail before after = HasGoneBack ranked.task.packed.net.now trail before after

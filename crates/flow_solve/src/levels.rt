@@ -28,13 +28,15 @@
 //!    go on from whatever feasible flow they find, and their last search, which sees no source, shows that the flow is
 //!    greatest.
 //!
-//! Nothing is claimed of the trees, nor of lifted distances: a path is written down and looked at, half-arc by
-//! half-arc, before anything is pushed along it, and a stage may leave wherever it is. Of waves no more is claimed than
-//! what their end tests. What the trees take is counted off an allowance of 16 steps for each arc, and what waves and
-//! lifting phases take off the rest of `n²·m`; a half-arc that is passed by without a look counts as a step too. The
-//! other phases take at most `3·n²·m` from any feasible flow, so that all stay within `4·n²·m` for each network. They
-//! seldom begin: the last search, which shows that the flow is greatest, is mostly that of a phase that would have
-//! lifted.
+//! Nothing is claimed of the trees: a path of theirs is written down and looked at, half-arc by half-arc, before
+//! anything is pushed along it. Nor is anything claimed of lifted distances. But a walk that lifts knows its path: each
+//! half-arc of it was found to lead to a lower distance, or to a lower rank at the same distance, and where on it the
+//! least remains is kept beside it, so that an augmentation only pushes. A stage may leave wherever it is. Of waves no
+//! more is claimed than what their end tests. What the trees take is counted off an allowance of 16 steps for each arc,
+//! and what waves and lifting phases take off the rest of `n²·m`; a half-arc that is passed by without a look counts as
+//! a step too. The other phases take at most `3·n²·m` from any feasible flow, so that all stay within `4·n²·m` for each
+//! network. They seldom begin: the last search, which shows that the flow is greatest, is mostly that of a phase that
+//! would have lifted.
 //!
 //! The trees aren't grown where they were measured to bring nothing: where there are more than 32 arcs for each node,
 //! since a repair passes all half-arcs of a node; and no farther than until the nearest source and sink are found to be

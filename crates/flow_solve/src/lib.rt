@@ -17,9 +17,9 @@
 //! |---|---|
 //! | `n` | each node's distance in the last search |
 //! | `n` | the half-arc over which the search came to it; in a phase of [`Levels`] the node's rank after the search |
-//! | `n` | the search's queue |
-//! | `n` | for [`Levels`] each node's current place: that of its half-arc which the walks try next |
+//! | `n` | the search's queue; in a phase of [`Levels`] each node's current place: the half-arc that walks try next |
 //! | `n` | for [`Levels`] the half-arcs of the walk's path |
+//! | `n` | for [`Levels`] the search's queue; in lifting, where on each beginning of the path the least remains |
 //! | `n + 1` | where each node's half-arcs begin in the next cells |
 //! | `2·m` | the half-arcs, those of a node side by side |
 //! | `1` | spare |

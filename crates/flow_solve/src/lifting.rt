@@ -2,21 +2,26 @@
 //! distance of a node that something remains towards, and is tried again. So one search serves more augmentations. It
 //! is the relabelling of Goldberg and Tarjan (1988), in a walk that carries no excess.
 //!
-//! What the cells hold is a hint: a path is looked at, half-arc by half-arc, before flow is pushed along it. Each
-//! half-arc of it leads to a node of a lower key, its distance and then its rank, so no path turns back to a node.
-ghost use Rattle.std.specs.Prelude.{◌≡◌, ◌+◌, ◌-◌, ◌*◌, ◌<◌, ◌≤◌, true, IsTrue, IfSome, length, slice_index};
+//! Distances and ranks are a hint of the search, but what a walk has passed is known: each half-arc of its path leads
+//! to a node of a lower key, its distance and then its rank, so no path turns back to a node; and where on each
+//! beginning of the path the least remains is written down beside it. So an augmentation only pushes.
+ghost use Rattle.std.specs.Prelude.{◌≡◌, ◌≢◌, ℕ, List, [], ◌∷◌, ◌++◌, ◌+◌, ◌-◌, ◌*◌, ◌<◌, ◌≤◌, true, IsTrue, IfSome};
+ghost use Rattle.std.specs.Prelude.{length, take, slice_index};
 ghost use Rattle.flow_net.specs.Nets.{IsNode};
+ghost use Rattle.flow_net.specs.NodeSets.{one_of};
 ghost use Rattle.flow_net.specs.Flows.{Fits};
-ghost use Rattle.flow_solve.specs.Lifting.{key_of, IsRanked, IsUnderWay};
+ghost use Rattle.flow_net.specs.Residual.{head_of};
+ghost use Rattle.flow_solve.specs.Lifting.{HasGoneBack, HasGoneBackIn, HasLeast, IsRanked, IsStep, IsUnderWay};
+ghost use Rattle.flow_solve.specs.Lifting.{KeepsLeast, KnowsLeastIn, LeadsDownAt};
 ghost use Rattle.flow_solve.specs.Packs.{IsPacked};
-ghost use Rattle.flow_solve.specs.Stages.{Augments, HasFlow, IsSource, IsTask, degree_of};
+ghost use Rattle.flow_solve.specs.Stages.{Augments, HasFlow, IsTask, degree_of};
 ghost use Rattle.flow_solve.specs.Steps.{OnlyLooks, PaysLooks, PaysSteps};
 
 use crate::packing::Packed;
 use crate::searching::{FAR, WANTED, head};
 use crate::stages::Task;
 use crate::walking::{push_over, tail};
-use flow_net::FlowTable;
+use flow_net::{FlowTable, Network};
 
 /// What phases with lifting may still do.
 #[derive(Clone, Copy)]
@@ -36,6 +41,32 @@ pub(crate) struct Ranked<'a> {
     pub rank: &'a [u32],
 }
 
+/// How far apart the keys of distances are that follow one another: more than any rank. A node's key, by which nodes
+/// fall along a path, is its distance times this, and its rank.
+pub(crate) const KEYS_APART: u64 = 1 << 32;
+
+/// Where a walk is.
+#[derive(Clone, Copy)]
+pub(crate) struct Walker {
+    /// The source that it goes from.
+    pub source: u32,
+    /// The node that it has come to.
+    pub node: u32,
+    /// How many half-arcs its path has.
+    pub depth: u32,
+    /// The least that remains on one of them.
+    pub least: u64,
+}
+
+/// A half-arc by which a walk may go on.
+#[derive(Clone, Copy)]
+pub(crate) struct Step {
+    /// The half-arc.
+    pub half: u32,
+    /// What remains on it.
+    pub room: u64,
+}
+
 /// What a phase with lifting has come to.
 #[derive(Clone, Copy)]
 struct Lifted {
@@ -43,20 +74,29 @@ struct Lifted {
     supply: Supply,
     /// The value of the flow.
     value: u128,
+    /// Where the walk is.
+    walk: Walker,
 }
 
-/// The place of a node's first half-arc, from a place on, that leads to a lower key and has a residual capacity, or the
-/// place behind them all.
-fn next_falling(ranked: Ranked<'_>, flow: &mut FlowTable, dist: &[u32], node: u32, from: u32) -> u32
+/// The place of a node's first half-arc, from a place on, that leads to a lower key and has a residual capacity, and
+/// this capacity; or the place behind them all.
+fn next_falling(
+    ranked: Ranked<'_>,
+    flow: &mut FlowTable,
+    dist: &[u32],
+    node: u32,
+    from: u32,
+) -> (u32, u64)
     requires ranked { IsRanked ranked }
     requires fits { Fits ranked.task.packed.net.now flow.old.flows }
     requires dist_size { length dist.now ≡ ranked.task.packed.net.now.nodes }
     requires node { IsNode ranked.task.packed.net.now node }
     requires begun { slice_index ranked.task.packed.first.now (node - 1) ≤ from }
     requires within { from ≤ slice_index ranked.task.packed.first.now node }
-    ensures begun { from ≤ result }
-    ensures within { result ≤ slice_index ranked.entry.task.packed.first.now node }
-    ensures looks { OnlyLooks flow.old flow.new (result - from + 1) }
+    ensures begun { from ≤ result.0 }
+    ensures within { result.0 ≤ slice_index ranked.entry.task.packed.first.now node }
+    ensures falls { LeadsDownAt ranked.entry dist.now flow.old.flows node result.0 result.1 }
+    ensures looks { OnlyLooks flow.old flow.new (result.0 - from + 1) }
 {
     let packed = ranked.task.packed;
     let rank = ranked.rank;
@@ -71,12 +111,12 @@ fn next_falling(ranked: Ranked<'_>, flow: &mut FlowTable, dist: &[u32], node: u3
         if dist[next] < far || dist[next] == far && rank[next] < own {
             let (_, room) = flow.look(packed.net, half);
             if room > 0 {
-                return spot;
+                return (spot, room);
             }
         }
         spot += 1;
     }
-    end
+    (end, 0)
 }
 
 /// Moves a node's place on to its first half-arc that leads to a lower key and has a residual capacity, or behind all.
@@ -87,13 +127,13 @@ fn advance(
     dist: &[u32],
     current: &mut [u32],
     node: u32,
-) -> Option<u32>
+) -> Option<Step>
     requires ranked { IsRanked ranked }
     requires fits { Fits ranked.task.packed.net.now flow.old.flows }
     requires dist_size { length dist.now ≡ ranked.task.packed.net.now.nodes }
     requires size { length current.old ≡ ranked.task.packed.net.now.nodes }
     requires node { IsNode ranked.task.packed.net.now node }
-    ensures half { IfSome result (λ h. h < 2 * length ranked.entry.task.packed.net.now.arcs) }
+    ensures step { IfSome result (IsStep ranked.entry dist.now flow.old.flows node) }
     ensures paid { PaysLooks flow.old supply.old.left flow.new supply.new.left }
 {
     let packed = ranked.task.packed;
@@ -104,11 +144,12 @@ fn advance(
         supply.left = 0;
         return None;
     }
-    let spot = next_falling(ranked, flow, dist, node, from);
+    let (spot, room) = next_falling(ranked, flow, dist, node, from);
     supply.left -= u64::from(spot - from) + 1;
     current[node as usize - 1] = spot;
     if spot < end {
-        Some(packed.halves[spot as usize])
+        let half = packed.halves[spot as usize];
+        Some(Step { half, room })
     } else {
         None
     }
@@ -156,6 +197,7 @@ fn lift(
     ensures paid { PaysLooks flow.old supply.old.left flow.new supply.new.left }
     ensures fuel { result ≡ true → supply.new.fuel + degree_of packed.entry node ≤ supply.old.fuel }
     ensures no_refill { supply.new.fuel ≤ supply.old.fuel }
+    ensures others { (p : ℕ) → p ≢ node - 1 → slice_index dist.new p ≡ slice_index dist.old p }
 {
     let nodes = packed.net.nodes();
     let begin = packed.first[node as usize - 1];
@@ -174,233 +216,198 @@ fn lift(
     lifted
 }
 
-/// Where a walk is.
-#[derive(Clone, Copy)]
-pub(crate) struct Walker {
-    /// The source that it goes from.
-    pub source: u32,
-    /// The node that it has come to.
-    pub node: u32,
-    /// How many half-arcs its path has.
-    pub depth: u32,
-}
-
-/// What was found on a path.
-#[derive(Clone, Copy)]
-struct Trial {
-    /// The least that remains on its half-arcs, or 0 where it is no path that can be augmented.
-    amount: u64,
-    /// The place on the path of the first half-arc on which so little remains.
-    depth: u32,
-    /// The node that this half-arc leaves.
-    node: u32,
-}
-
-/// What is found on a path that can't be augmented.
-const NOTHING: Trial = Trial {
-    amount: 0,
-    depth: 0,
-    node: 1,
-};
-
-/// How far apart the keys of distances are that follow one another: more than any rank.
-const KEYS_APART: u64 = 1 << 32;
-
-/// The number by which nodes fall along a path: their distance first, then their rank.
-fn key(dist: &[u32], rank: &[u32], node: u32) -> u64
-    requires dist_node { node ≤ length dist.now }
-    requires rank_node { node ≤ length rank.now }
-    requires node { 1 ≤ node }
-    ensures { result ≡ key_of dist.now rank.now node }
-{
-    u64::from(dist[node as usize - 1]) * KEYS_APART + u64::from(rank[node as usize - 1])
-}
-
-/// Looks at each half-arc of a path from a source, and whether it leads to a sink along falling keys.
-// A function of its own: among the walk's values its loop would keep some of its own on the stack.
-#[inline(never)]
-fn look_over(
-    ranked: Ranked<'_>,
-    flow: &mut FlowTable,
-    dist: &[u32],
-    path: &[u32],
-    source: u32,
-) -> Trial
+/// Whether a node is a sink. The search entered the sinks first, each at its place among them.
+fn is_sink(ranked: Ranked<'_>, dist: &[u32], node: u32) -> bool
     requires ranked { IsRanked ranked }
-    requires fits { Fits ranked.task.packed.net.now flow.old.flows }
     requires dist_size { length dist.now ≡ ranked.task.packed.net.now.nodes }
-    requires few { length path.now ≤ ranked.task.packed.net.now.nodes }
-    requires source { IsSource ranked.task source }
-    ensures room { 1 ≤ result.amount → Augments ranked.entry.task flow.old.flows path.now result.amount }
-    ensures depth { result.depth ≤ length path.now }
-    ensures node { IsNode ranked.entry.task.packed.net.now result.node }
-    ensures looks { OnlyLooks flow.old flow.new (length path.now) }
+    requires node { IsNode ranked.task.packed.net.now node }
+    ensures sink { result ≡ true → IsTrue (one_of ranked.entry.task.t.now node) }
 {
-    let Ranked { task, rank } = ranked;
-    let net = task.packed.net;
-    let _ = net.nodes();
-    let mut found = Trial {
-        amount: u64::MAX,
-        depth: 0,
-        node: source,
-    };
-    let mut node = source;
-    let mut above = key(dist, rank, source);
-    for i in 0..path.len() {
-        let half = path[i];
-        if half as usize >= task.packed.halves.len() || tail(net, half) != node {
-            return NOTHING;
-        }
-        let (next, room) = flow.look(net, half);
-        let below = key(dist, rank, next);
-        if below >= above {
-            return NOTHING;
-        }
-        if room < found.amount {
-            found = Trial {
-                amount: room,
-                depth: i as u32,
-                node,
-            };
-        }
-        node = next;
-        above = below;
+    if dist[node as usize - 1] > 0 {
+        return false;
     }
-    // The search entered the sinks first, each at its place among them.
-    let place = rank[node as usize - 1] as usize;
-    if place < task.t.len() && task.t[place] == node {
-        found
+    let place = ranked.rank[node as usize - 1] as usize;
+    if place < ranked.task.t.len() && ranked.task.t[place] == node {
+        return true;
+    }
+    false
+}
+
+/// The walk, gone on along a half-arc. It is written down, and behind all nodes' cells where the least remains now.
+fn go_on(net: &Network, trail: &mut [u32], walk: Walker, step: Step) -> Walker
+    requires size { length trail.old ≡ 2 * net.now.nodes }
+    requires depth { walk.depth < net.now.nodes }
+    requires half { step.half < 2 * length net.now.arcs }
+    requires before { 1 ≤ walk.depth → slice_index trail.old (net.now.nodes + (walk.depth - 1)) < walk.depth }
+    ensures source { result.source ≡ walk.source }
+    ensures node { result.node ≡ head_of net.now step.half }
+    ensures is_node { IsNode net.now result.node }
+    ensures depth { result.depth ≡ walk.depth + 1 }
+    ensures path { take (walk.depth + 1) trail.new ≡ take walk.depth trail.old ++ (step.half ∷ []) }
+    ensures least { KeepsLeast net.now trail.old trail.new walk step result }
+{
+    let n = net.nodes() as usize;
+    let depth = walk.depth as usize;
+    let (place, least) = if depth == 0 || step.room < walk.least {
+        (walk.depth, step.room)
     } else {
-        NOTHING
+        (trail[n + (depth - 1)], walk.least)
+    };
+    trail[depth] = step.half;
+    trail[n + depth] = place;
+    Walker {
+        source: walk.source,
+        node: head(net, step.half),
+        depth: walk.depth + 1,
+        least,
     }
 }
 
-/// Pushes along a path from a source to a sink as much as remains on each of its half-arcs, if it is one. Answers what
-/// was found on it: the walk goes on from its first half-arc that this fills.
-fn augment(
-    ranked: Ranked<'_>,
-    flow: &mut FlowTable,
-    lifted: &mut Lifted,
-    dist: &[u32],
-    path: &[u32],
-    source: u32,
-) -> Trial
+/// The walk, gone back to the node that the half-arc at a place of its path leaves.
+fn go_back(net: &Network, flow: &mut FlowTable, trail: &[u32], walk: Walker, depth: u32) -> Walker
+    requires fits { Fits net.now flow.old.flows }
+    requires size { length trail.now ≡ 2 * net.now.nodes }
+    requires depth { depth < walk.depth }
+    requires most { walk.depth ≤ net.now.nodes }
+    requires halves { (i : ℕ) → i < walk.depth → slice_index trail.now i < 2 * length net.now.arcs }
+    requires before { (d : ℕ) → d < walk.depth → slice_index trail.now (net.now.nodes + d) ≤ d }
+    ensures back { HasGoneBack net.now trail.now walk result }
+    ensures depth { result.depth ≡ depth }
+    ensures least { HasLeast net.now flow.old.flows trail.now result }
+    ensures looks { OnlyLooks flow.old flow.new 1 }
+{
+    let n = net.nodes() as usize;
+    let mut least = u64::MAX;
+    if depth > 0 {
+        let place = trail[n + (depth as usize - 1)];
+        let (_, room) = flow.look(net, trail[place as usize]);
+        least = room;
+    }
+    Walker {
+        source: walk.source,
+        node: tail(net, trail[depth as usize]),
+        depth,
+        least,
+    }
+}
+
+/// Pushes along the walk's path as much as remains on each of its half-arcs, if this is still allowed, and goes back to
+/// the first half-arc that it fills. Answers whether it was allowed.
+fn augment(ranked: Ranked<'_>, flow: &mut FlowTable, lifted: &mut Lifted, trail: &[u32]) -> bool
     requires ranked { IsRanked ranked }
     requires flow { HasFlow ranked.task flow.old.flows lifted.old.value }
-    requires dist_size { length dist.now ≡ ranked.task.packed.net.now.nodes }
-    requires few { length path.now ≤ ranked.task.packed.net.now.nodes }
-    requires source { IsSource ranked.task source }
+    requires size { length trail.now ≡ 2 * ranked.task.packed.net.now.nodes }
+    requires some { 1 ≤ lifted.old.walk.depth }
+    requires most { lifted.old.walk.depth ≤ ranked.task.packed.net.now.nodes }
+    requires path { Augments ranked.task flow.old.flows (take lifted.old.walk.depth trail.now) lifted.old.walk.least }
+    requires least { KnowsLeastIn ranked flow.old.flows trail.now lifted.old.walk }
     ensures flow { HasFlow ranked.entry.task flow.new.flows lifted.new.value }
-    ensures depth { result.depth ≤ length path.now }
-    ensures node { IsNode ranked.entry.task.packed.net.now result.node }
+    ensures back { result ≡ true → HasGoneBackIn ranked.entry trail.now lifted.old.walk lifted.new.walk }
+    ensures least { result ≡ true → KnowsLeastIn ranked.entry flow.new.flows trail.now lifted.new.walk }
     ensures paid { PaysSteps flow.old lifted.old.supply.left flow.new lifted.new.supply.left }
 {
     let net = ranked.task.packed.net;
-    let supply = &mut lifted.supply;
-    let _ = net.nodes();
-    let cost = 2 * path.len() as u64;
-    if supply.left < cost {
-        return NOTHING;
+    let walk = lifted.walk;
+    let cost = u64::from(walk.depth) + 1;
+    if lifted.supply.left < cost {
+        return false;
     }
-    supply.left -= cost;
-    let found = look_over(ranked, flow, dist, path, source);
-    if found.amount == 0 {
-        return NOTHING;
-    }
-    push_over(net, flow, path, found.amount);
-    lifted.value += u128::from(found.amount);
-    found
-}
-
-/// The walk, gone to a node, with so many half-arcs on its path.
-fn moved(walk: Walker, node: u32, depth: u32) -> Walker
-    ensures source { result.source ≡ walk.source }
-    ensures node { result.node ≡ node }
-    ensures depth { result.depth ≡ depth }
-{
-    Walker {
-        source: walk.source,
-        node,
-        depth,
-    }
+    lifted.supply.left -= cost;
+    let full = trail[net.nodes() as usize + (walk.depth as usize - 1)];
+    push_over(net, flow, &trail[..walk.depth as usize], walk.least);
+    lifted.value += u128::from(walk.least);
+    lifted.walk = go_back(net, flow, trail, walk, full);
+    true
 }
 
 /// A turn of a walk: from a sink it goes back to the first half-arc that an augmentation fills, from another node on
 /// along a half-arc to a lower key, and where there is none the node is lifted, and the walk goes back by a half-arc;
-/// the source is tried again. Answers where it goes on, unless it is over.
+/// the source is tried again. Answers whether the walk goes on.
 fn turn(
     ranked: Ranked<'_>,
     flow: &mut FlowTable,
     lifted: &mut Lifted,
     dist: &mut [u32],
-    walks: &mut [u32],
-    walk: Walker,
-) -> Option<Walker>
+    current: &mut [u32],
+    trail: &mut [u32],
+) -> bool
     requires ranked { IsRanked ranked }
     requires flow { HasFlow ranked.task flow.old.flows lifted.old.value }
     requires dist_size { length dist.old ≡ ranked.task.packed.net.now.nodes }
-    requires size { length walks.old ≡ 2 * ranked.task.packed.net.now.nodes }
-    requires walk { IsUnderWay ranked.task walk }
+    requires size { length current.old ≡ ranked.task.packed.net.now.nodes }
+    requires trail_size { length trail.old ≡ 2 * ranked.task.packed.net.now.nodes }
+    requires walk { IsUnderWay ranked dist.old trail.old lifted.old.walk }
+    requires least { KnowsLeastIn ranked flow.old.flows trail.old lifted.old.walk }
     ensures flow { HasFlow ranked.entry.task flow.new.flows lifted.new.value }
-    ensures walk { IfSome result (IsUnderWay ranked.entry.task) }
+    ensures walk { result ≡ true → IsUnderWay ranked.entry dist.new trail.new lifted.new.walk }
+    ensures least { result ≡ true → KnowsLeastIn ranked.entry flow.new.flows trail.new lifted.new.walk }
     ensures paid { PaysSteps flow.old lifted.old.supply.left flow.new lifted.new.supply.left }
 {
     let packed = ranked.task.packed;
-    let (current, path) = walks.split_at_mut(packed.net.nodes() as usize);
-    let depth = walk.depth as usize;
-    if dist[walk.node as usize - 1] == 0 {
-        let found = augment(ranked, flow, lifted, dist, &path[..depth], walk.source);
-        if found.amount == 0 {
-            return None;
-        }
-        return Some(moved(walk, found.node, found.depth));
+    let walk = lifted.walk;
+    let _ = packed.net.nodes();
+    if is_sink(ranked, dist, walk.node) {
+        return augment(ranked, flow, lifted, trail);
     }
-    let supply = &mut lifted.supply;
-    if let Some(half) = advance(ranked, flow, supply, dist, current, walk.node) {
-        if depth >= path.len() {
-            return None;
+    if let Some(step) = advance(ranked, flow, &mut lifted.supply, dist, current, walk.node) {
+        if walk.depth >= packed.net.nodes() {
+            return false;
         }
-        path[depth] = half;
-        Some(moved(walk, head(packed.net, half), walk.depth + 1))
-    } else if lift(packed, flow, supply, dist, current, walk.node) && depth == 0 {
-        Some(walk)
-    } else if depth == 0 || path[depth - 1] as usize >= packed.halves.len() {
-        None
-    } else {
-        Some(moved(walk, tail(packed.net, path[depth - 1]), walk.depth - 1))
+        lifted.walk = go_on(packed.net, trail, walk, step);
+        return true;
     }
+    let again = lift(packed, flow, &mut lifted.supply, dist, current, walk.node);
+    if walk.depth == 0 {
+        return again;
+    }
+    if lifted.supply.left == 0 {
+        return false;
+    }
+    lifted.supply.left -= 1;
+    lifted.walk = go_back(packed.net, flow, trail, walk, walk.depth - 1);
+    true
 }
 
 /// Walks from a source until it is out of the phase, or no more is allowed.
-// A function of its own for the same reason as `look_over`.
+// A function of its own: among the phase's values its loop would keep some of its own on the stack.
 #[inline(never)]
 fn walk(
     ranked: Ranked<'_>,
     flow: &mut FlowTable,
     lifted: &mut Lifted,
     dist: &mut [u32],
-    walks: &mut [u32],
-    source: u32,
+    current: &mut [u32],
+    trail: &mut [u32],
 )
     requires ranked { IsRanked ranked }
     requires flow { HasFlow ranked.task flow.old.flows lifted.old.value }
     requires dist_size { length dist.old ≡ ranked.task.packed.net.now.nodes }
-    requires size { length walks.old ≡ 2 * ranked.task.packed.net.now.nodes }
-    requires source { IsSource ranked.task source }
+    requires size { length current.old ≡ ranked.task.packed.net.now.nodes }
+    requires trail_size { length trail.old ≡ 2 * ranked.task.packed.net.now.nodes }
+    requires walk { IsUnderWay ranked dist.old trail.old lifted.old.walk }
+    requires least { KnowsLeastIn ranked flow.old.flows trail.old lifted.old.walk }
     ensures flow { HasFlow ranked.entry.task flow.new.flows lifted.new.value }
     ensures paid { PaysSteps flow.old lifted.old.supply.left flow.new lifted.new.supply.left }
 {
-    let mut walk = Walker {
+    'turns: while lifted.supply.left > 0 {
+        lifted.supply.left -= 1;
+        if !turn(ranked, flow, lifted, dist, current, trail) {
+            return;
+        }
+    }
+}
+
+/// A walk that begins at a source.
+fn begun(source: u32) -> Walker
+    ensures source { result.source ≡ source }
+    ensures node { result.node ≡ source }
+    ensures depth { result.depth ≡ 0 }
+{
+    Walker {
         source,
         node: source,
         depth: 0,
-    };
-    'turns: while lifted.supply.left > 0 {
-        lifted.supply.left -= 1;
-        let Some(next) = turn(ranked, flow, lifted, dist, walks, walk) else {
-            return;
-        };
-        walk = next;
+        least: u64::MAX,
     }
 }
 
@@ -428,7 +435,8 @@ fn admit_unseen(task: Task<'_>, dist: &mut [u32]) -> u64
 }
 
 /// A phase with lifting, after its search: walks from each source that was seen. Answers the flow's value. `walks` has
-/// the nodes' current places, and then the walk's path.
+/// the nodes' current places, then the walk's path, and then for each of the path's beginnings where on it the least
+/// remains.
 pub(crate) fn run_lifted(
     ranked: Ranked<'_>,
     flow: &mut FlowTable,
@@ -440,21 +448,25 @@ pub(crate) fn run_lifted(
     requires ranked { IsRanked ranked }
     requires flow { HasFlow ranked.task flow.old.flows value }
     requires dist_size { length dist.old ≡ ranked.task.packed.net.now.nodes }
-    requires size { length walks.old ≡ 2 * ranked.task.packed.net.now.nodes }
+    requires size { length walks.old ≡ 3 * ranked.task.packed.net.now.nodes }
     ensures flow { HasFlow ranked.entry.task flow.new.flows result }
     ensures paid { PaysSteps flow.old supply.old.left flow.new supply.new.left }
 {
     let Task { packed, s, t: _ } = ranked.task;
     let n = packed.net.nodes() as usize;
-    walks[..n].copy_from_slice(&packed.first[..n]);
+    let (current, trail) = walks.split_at_mut(n);
+    current.copy_from_slice(&packed.first[..n]);
     supply.fuel = admit_unseen(ranked.task, dist) / 2;
     let mut lifted = Lifted {
         supply: *supply,
         value,
+        // None yet: each source's begins below.
+        walk: begun(1),
     };
     for source in s {
         if dist[*source as usize - 1] < WANTED {
-            walk(ranked, flow, &mut lifted, dist, walks, *source);
+            lifted.walk = begun(*source);
+            walk(ranked, flow, &mut lifted, dist, current, trail);
         }
     }
     *supply = lifted.supply;

@@ -146,8 +146,7 @@ pub(crate) fn run_phases(
     let Task { packed, s, t } = task;
     let n = packed.net.nodes() as usize;
     let (dist, rest) = cells.split_at_mut(n);
-    let (rank, rest) = rest.split_at_mut(n);
-    let (queue, walks) = rest.split_at_mut(n);
+    let (rank, walks) = rest.split_at_mut(n);
     let plan = Plan {
         packed,
         direction: Direction::Backwards,
@@ -163,13 +162,13 @@ pub(crate) fn run_phases(
     };
     // Read by the loop's invariant alone, `invariant-phases`: after so many phases the sources are farther than that.
     let mut phases = 0u32;
-    'phases: while find_levels(plan, flow, dist, rank, queue) {
+    'phases: while find_levels(plan, flow, dist, rank, &mut walks[2 * n..]) {
         if supply.left > search {
             supply.left -= search + 1;
             value = run_lifted(Ranked { task, rank }, flow, &mut supply, dist, walks, value);
         } else {
             supply.left = 0;
-            let (current, path) = walks.split_at_mut(n);
+            let (current, path) = walks[..2 * n].split_at_mut(n);
             let phase = Phase {
                 packed,
                 s,

@@ -16,7 +16,7 @@ fn lift_once<'a>(
     left: u64,
 ) -> Option<(u128, u64)> {
     let terminals = [1, 6];
-    let mut walks = [7u32; 14];
+    let mut walks = [7u32; 21];
     let mut work = [7u32; 88];
     let m = net.len() as usize;
     if net.nodes() != 7 || m > 40 || !may_be_terminals(net, &terminals, 1) {

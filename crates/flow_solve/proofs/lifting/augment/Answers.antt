@@ -1,51 +1,54 @@
--- `augment`: what was looked at is a path that can be augmented, so it may be pushed along.
-use Rattle.std.proofs.Common.{ℕ, List, ◌+◌, ◌≤◌, sym, subst, arith}
-use Rattle.std.specs.List.{All}
-use Rattle.flow_net.specs.Residual.{residual}
-use Rattle.flow_solve.specs.Stages.{Augments, HasFlow}
-use Rattle.flow_solve.proofs.Rising.{augmenting_halves, augmenting_apart, augmenting_room, flow_on, flow_fits}
+-- `augment`: the path can be augmented by what remains on each of its half-arcs, and the least remains where it did.
+use Rattle.std.proofs.Common.{ℕ, ◌+◌, take, refl, sym, subst, arith}
+use Rattle.flow_solve.specs.Stages.{HasFlow}
+use Rattle.flow_solve.proofs.Lifted.{augmenting_at, knows_pushed}
+use Rattle.flow_solve.proofs.Rising.{augmenting_apart, flow_on, flow_same, flow_fits}
 use Rattle.flow_solve.proofs.lifting.augment.Goals as goal
-
-pub push_over-requires-clause-halves : goal.push_over-requires-clause-halves
-push_over-requires-clause-halves c =
-    let task = c.args.ranked.task in let net = task.packed.net.now in let s = task.s.now in let t = task.t.now in
-    let xs = c.args.flow.now.flows in let path = c.args.path.now in let amount = c.look_over-found.result.amount in
-    let can : Augments task xs path amount = c.look_over-found.ensures.room (omega (arith, c.if-found-eq0.false)) in
-    augmenting_halves net s t xs path amount can
 
 pub push_over-requires-clause-apart : goal.push_over-requires-clause-apart
 push_over-requires-clause-apart c =
-    let task = c.args.ranked.task in let net = task.packed.net.now in let s = task.s.now in let t = task.t.now in
-    let xs = c.args.flow.now.flows in let path = c.args.path.now in let amount = c.look_over-found.result.amount in
-    let can : Augments task xs path amount = c.look_over-found.ensures.room (omega (arith, c.if-found-eq0.false)) in
-    augmenting_apart net s t xs path amount can
-
-pub push_over-requires-clause-room : goal.push_over-requires-clause-room
-push_over-requires-clause-room c =
-    let task = c.args.ranked.task in let net = task.packed.net.now in let s = task.s.now in let t = task.t.now in
-    let xs = c.args.flow.now.flows in let path = c.args.path.now in let amount = c.look_over-found.result.amount in
-    let can : Augments task xs path amount = c.look_over-found.ensures.room (omega (arith, c.if-found-eq0.false)) in
-    subst (λ (zs : List ℕ). All (λ h. amount ≤ residual net zs h) path) (sym c.look_over-found.ensures.looks.flows)
-    (augmenting_room net s t xs path amount can)
+    let task = c.args.ranked.task in let walk = c.args.lifted.now.walk in
+    augmenting_apart task.packed.net.now task.s.now task.t.now c.args.flow.now.flows
+    (take walk.depth c.args.trail.now) walk.least c.requires.path
 
 pub overflow_add-lifted : goal.overflow_add-lifted
 overflow_add-lifted c =
     let task = c.args.ranked.task in let net = task.packed.net.now in let s = task.s.now in let t = task.t.now in
-    let xs = c.args.flow.now.flows in let path = c.args.path.now in let amount = c.look_over-found.result.amount in
-    let can : Augments task xs path amount = c.look_over-found.ensures.room (omega (arith, c.if-found-eq0.false)) in
-    let looks = c.look_over-found.ensures.looks in let ys = c.push_over.new.flow.flows in
-    let now = flow_on net s t xs c.look_over-found.new.flow.flows ys path amount c.args.lifted.now.value
-    c.requires.ranked.task.terminals c.requires.flow can looks.flows c.push_over.ensures.flows in
-    let fits = flow_fits net s t ys (c.args.lifted.now.value + amount) c.nodes.ensures.is_net
+    let walk = c.args.lifted.now.walk in let xs = c.args.flow.now.flows in let ys = c.push_over.new.flow.flows in
+    let now = flow_on net s t xs xs ys (take walk.depth c.args.trail.now) walk.least c.args.lifted.now.value
+    c.requires.ranked.task.terminals c.requires.flow c.requires.path refl c.push_over.ensures.flows in
+    let fits = flow_fits net s t ys (c.args.lifted.now.value + walk.least) c.nodes.ensures.is_net
     c.requires.ranked.task.terminals now in
     omega (arith, fits, c.from.ensures)
+
+pub go_back-lifted-requires-clause-fits : goal.go_back-lifted-requires-clause-fits
+go_back-lifted-requires-clause-fits c =
+    let task = c.args.ranked.task in let net = task.packed.net.now in let s = task.s.now in let t = task.t.now in
+    let walk = c.args.lifted.now.walk in let xs = c.args.flow.now.flows in let ys = c.push_over.new.flow.flows in
+    let now = flow_on net s t xs xs ys (take walk.depth c.args.trail.now) walk.least c.args.lifted.now.value
+    c.requires.ranked.task.terminals c.requires.flow c.requires.path refl c.push_over.ensures.flows in
+    now.feasible.fits
+
+pub go_back-lifted-requires-clause-halves : goal.go_back-lifted-requires-clause-halves
+go_back-lifted-requires-clause-halves c =
+    let task = c.args.ranked.task in let walk = c.args.lifted.now.walk in
+    augmenting_at task.packed.net.now task.s.now task.t.now c.args.flow.now.flows c.args.trail.now walk.depth walk.least
+    (omega (arith, c.requires.most, c.requires.size)) c.requires.path
 
 pub returns-clause-flow : goal.returns-clause-flow
 returns-clause-flow c =
     let task = c.args.ranked.task in let net = task.packed.net.now in let s = task.s.now in let t = task.t.now in
-    let xs = c.args.flow.now.flows in let path = c.args.path.now in let amount = c.look_over-found.result.amount in
-    let can : Augments task xs path amount = c.look_over-found.ensures.room (omega (arith, c.if-found-eq0.false)) in
-    let looks = c.look_over-found.ensures.looks in let ys = c.push_over.new.flow.flows in
-    let now = flow_on net s t xs c.look_over-found.new.flow.flows ys path amount c.args.lifted.now.value
-    c.requires.ranked.task.terminals c.requires.flow can looks.flows c.push_over.ensures.flows in
-    subst (λ (k : ℕ). HasFlow task ys (c.args.lifted.now.value + k)) (sym c.from.ensures) now
+    let walk = c.args.lifted.now.walk in let xs = c.args.flow.now.flows in let ys = c.push_over.new.flow.flows in
+    let zs = c.go_back-lifted.new.flow.flows in
+    let now = flow_on net s t xs xs ys (take walk.depth c.args.trail.now) walk.least c.args.lifted.now.value
+    c.requires.ranked.task.terminals c.requires.flow c.requires.path refl c.push_over.ensures.flows in
+    subst (λ (k : ℕ). HasFlow task zs (c.args.lifted.now.value + k)) (sym c.from.ensures)
+    (flow_same net s t ys zs (c.args.lifted.now.value + walk.least) c.go_back-lifted.ensures.looks.flows now)
+
+pub returns-clause-least : goal.returns-clause-least
+returns-clause-least c = λ e.
+    let task = c.args.ranked.task in let walk = c.args.lifted.now.walk in let back = c.go_back-lifted.ensures in
+    knows_pushed task.packed.net.now task.s.now task.t.now c.args.flow.now.flows c.go_back-lifted.new.flow.flows
+    c.push_over.new.flow.flows c.args.trail.now walk c.go_back-lifted.result
+    (omega (arith, c.requires.flow.feasible.fits.count)) (omega (arith, c.requires.most, c.requires.size))
+    c.requires.path c.push_over.ensures.flows back.looks.flows c.requires.least back.back.shorter back.least

@@ -8,6 +8,7 @@ abbrev pub invariant-loop-source : goal.invariant-loop-source
 invariant-loop-source l = record {
   flow : HasFlow l.ranked.task l.flow.flows l.lifted.value;
   dist_size : length l.dist ≡ l.ranked.task.packed.net.now.nodes;
-  size : length l.walks ≡ 2 * l.ranked.task.packed.net.now.nodes;
+  size : length l.current ≡ l.ranked.task.packed.net.now.nodes;
+  trail_size : length l.trail ≡ 2 * l.ranked.task.packed.net.now.nodes;
   paid : PaysSteps l.fn.flow l.fn.supply.left l.flow l.lifted.supply.left;
 }

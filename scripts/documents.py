@@ -140,10 +140,10 @@ def check_links(document):
 
 
 def check_names():
-    """Looks for the crates' files on the pages that tell what stands where; answers how many are there, and how many not.
+    """Looks for the crates' files on the pages that tell what stands where; answers how many are there and aren't.
 
-    A lemma file has a row in docs/PROOFS.md, a source file a place in docs/ARCHITECTURE.md, and a file of definitions is
-    named on one of these pages or in docs/DEFINITIONS.md. Tests are named where they are declared.
+    A lemma file has a row in docs/PROOFS.md, a source file a place in docs/ARCHITECTURE.md, and a file of definitions
+    is named on one of these pages or in docs/DEFINITIONS.md. Tests are named where they are declared.
     """
     pages = {name: (REPOSITORY / f"docs/{name}.md").read_text() for name in ("PROOFS", "ARCHITECTURE", "DEFINITIONS")}
     wanted = [(file, ["PROOFS"]) for file in REPOSITORY.glob("crates/*/proofs/*.antt")]

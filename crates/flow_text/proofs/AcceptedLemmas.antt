@@ -15,12 +15,13 @@ use Rattle.flow_net.specs.Limits.{IsNet, IsProblem, IsArcWithin, AreDistinct}
 use Rattle.flow_text.specs.Lines.{lines}
 use Rattle.flow_text.specs.Fields.{field_at}
 use Rattle.flow_text.specs.Tests.{first_failed, number_tests, ends_tests}
-use Rattle.flow_text.specs.Terminals.{Marks, is_marked}
+use Rattle.flow_text.specs.Terminals.{Marks, is_marked, lacks_one}
 use Rattle.flow_text.specs.Rules.{whole_fault}
-use Rattle.flow_text.specs.Problem.{Known, known_of, problem, problem_rules, problem_record_fault, problem_tests}
+use Rattle.flow_text.specs.Problem.{Known, known_of, problem, problem_rules, problem_record_fault}
+use Rattle.flow_text.specs.ProblemReading.{problem_tests}
 use Rattle.flow_text.specs.Problem.{size_tests, node_tests, mark_tests, arc_tests, end_tests, instance_of}
-use Rattle.flow_text.specs.Problem.{lacks_terminals, nodes}
-use Rattle.flow_text.specs.ProblemReading.{size_of, node_of, arc_of, with_problem_record, with_node}
+use Rattle.flow_text.specs.Problem.{nodes}
+use Rattle.flow_text.specs.ProblemReading.{marks_of, size_of, node_of, arc_of, with_problem_record, with_node}
 use Rattle.flow_text.specs.Solution.{Stated, Written, stated_of, solution, solution_rules, solution_record_fault}
 use Rattle.flow_text.specs.Solution.{value_tests, written_of}
 use Rattle.flow_text.specs.SolutionReading.{flow_of, with_solution_record, IsLineWithin, IsWithinLimits}
@@ -65,16 +66,16 @@ InsideFrom None marks arcs = (marks ≡ record { sources = []; sinks = [] }) × 
 InsideFrom (Some size) marks arcs = Inside size.0 size.1 marks arcs
 
 abbrev pub IsInside : Known → Type 0
-IsInside k = InsideFrom k.size k.marks k.arcs
+IsInside k = InsideFrom k.size (marks_of k) k.arcs
 
 -- a problem line
 sized : (k : Known) (fields : List (List ℕ)) → first_failed (problem_tests k fields) ≡ None → IsInside k
-    → Inside (size_of fields).0 (size_of fields).1 k.marks k.arcs
+    → Inside (size_of fields).0 (size_of fields).1 (marks_of k) k.arcs
 unfolding size_tests
 sized k fields h p =
     let first = passed (is_some k.size) SecondProblemLine (first_failed (size_tests fields)) h in
     let none = none_from k.size first.0 in
-    let empty : InsideFrom None k.marks k.arcs = subst (λ o. InsideFrom o k.marks k.arcs) none p in
+    let empty : InsideFrom None (marks_of k) k.arcs = subst (λ o. InsideFrom o (marks_of k) k.arcs) none p in
     let count = passed (not (length fields == 4)) WrongFields _ first.1 in
     let max = passed (not (bytes_eq (field_at fields 1) (codes "max"))) NotMax _ count.1 in
     let n = number-passed (field_at fields 2) FEWEST_NODES MOST_NODES NodesOutOfRange
@@ -98,7 +99,7 @@ s_not_t (c ∷ cs) is = grind (arith, common_steps)
 
 -- a node line
 marked : (n m : ℕ) (marks : Marks) (arcs : List Arc) (fields : List (List ℕ))
-    → first_failed (mark_tests n marks fields) ≡ None → Inside n m marks arcs → Inside n m (with_node marks fields) arcs
+    → first_failed (mark_tests n marks.sources marks.sinks fields) ≡ None → Inside n m marks arcs → Inside n m (with_node marks fields) arcs
 unfolding mark_tests
 marked n m marks arcs fields h p =
     let not_letter = not (bytes_eq (field_at fields 2) (codes "s") || bytes_eq (field_at fields 2) (codes "t")) in
@@ -141,21 +142,21 @@ marked n m marks arcs fields h p =
     ]
 
 noded : (size : Option (ℕ × ℕ)) (marks : Marks) (arcs : List Arc) (fields : List (List ℕ))
-    → first_failed (node_tests (record { size = size; marks = marks; arcs = arcs }) fields) ≡ None
+    → first_failed (node_tests (record { size = size; sources = marks.sources; sinks = marks.sinks; arcs = arcs }) fields) ≡ None
     → InsideFrom size marks arcs → InsideFrom size (with_node marks fields) arcs
 noded None marks arcs fields h p = cc
 noded (Some size) marks arcs fields h p =
-    let early = passed (nat_lt 0 (length arcs)) NodeLineAfterArcLine (first_failed (mark_tests size.0 marks fields))
+    let early = passed (nat_lt 0 (length arcs)) NodeLineAfterArcLine (first_failed (mark_tests size.0 marks.sources marks.sinks fields))
     h in
     marked size.0 size.1 marks arcs fields early.1 p
 
 -- an arc line
 arced : (size : Option (ℕ × ℕ)) (marks : Marks) (arcs : List Arc) (fields : List (List ℕ))
-    → first_failed (arc_tests (record { size = size; marks = marks; arcs = arcs }) fields) ≡ None
+    → first_failed (arc_tests (record { size = size; sources = marks.sources; sinks = marks.sinks; arcs = arcs }) fields) ≡ None
     → InsideFrom size marks arcs → InsideFrom size marks (arcs ++ arc_of fields ∷ [])
 arced None marks arcs fields h p = cc
 arced (Some size) marks arcs fields h p =
-    let terminals = passed (lacks_terminals marks) TerminalsMissing
+    let terminals = passed (lacks_one marks) TerminalsMissing
     (if nat_le size.1 (length arcs) then Some TooManyArcs else first_failed
     (ends_tests size.0 CapacityOutOfRange fields)) h in
     let few = passed (nat_le size.1 (length arcs)) TooManyArcs
@@ -191,11 +192,11 @@ keeps k letter others fine p = elim (cases_Bool (bytes_eq letter (codes "p"))) [
   | inr no_p ↦ elim (cases_Bool (bytes_eq letter (codes "n"))) [
     | inl is ↦
         let of = of_node k letter others no_p is in
-        subst IsInside (sym of.1) (noded k.size k.marks k.arcs (letter ∷ others) (sym of.0 ∙ fine) p)
+        subst IsInside (sym of.1) (noded k.size (marks_of k) k.arcs (letter ∷ others) (sym of.0 ∙ fine) p)
     | inr no_n ↦ elim (cases_Bool (bytes_eq letter (codes "a"))) [
       | inl is ↦
           let of = of_arc k letter others no_p no_n is in
-          subst IsInside (sym of.1) (arced k.size k.marks k.arcs (letter ∷ others) (sym of.0 ∙ fine) p)
+          subst IsInside (sym of.1) (arced k.size (marks_of k) k.arcs (letter ∷ others) (sym of.0 ∙ fine) p)
       | inr no_a ↦
           let no' : ◌≡◌ {A = Option FaultCode} None (Some UnknownLine) =
           sym fine ∙ of_unknown k letter others no_p no_n no_a in
@@ -206,11 +207,11 @@ keeps k letter others fine p = elim (cases_Bool (bytes_eq letter (codes "p"))) [
 
 -- what an end without a fault says
 closed : (size : Option (ℕ × ℕ)) (marks : Marks) (arcs : List Arc)
-    → first_failed (end_tests (record { size = size; marks = marks; arcs = arcs })) ≡ None → InsideFrom size marks arcs
-    → let p = instance_of (record { size = size; marks = marks; arcs = arcs }) in IsNet p.net × IsProblem p
+    → first_failed (end_tests (record { size = size; sources = marks.sources; sinks = marks.sinks; arcs = arcs })) ≡ None → InsideFrom size marks arcs
+    → let p = instance_of (record { size = size; sources = marks.sources; sinks = marks.sinks; arcs = arcs }) in IsNet p.net × IsProblem p
 closed None marks arcs h p = cc
 closed (Some size) marks arcs h p =
-    let terminals = passed (lacks_terminals marks) TerminalsMissing
+    let terminals = passed (lacks_one marks) TerminalsMissing
     (if nat_lt (length arcs) size.1 then Some TooFewArcs else None) h in
     let lacks = terminals.0 in
     let declared = p.declared_most in let most = p.arcs_most in (
@@ -242,7 +243,7 @@ accepted_problem b p h =
     let parts = accepted-parts _ p (whole_fault problem_rules known_of b) h in
     let k = known_of (lines b) in
     let whole = by_text problem_rules known_of with_problem_record Adds-problem IsInside keeps b nothing parts.0 in
-    subst (λ (q : Instance). IsNet q.net × IsProblem q) parts.1 (closed k.size k.marks k.arcs whole.1 whole.0)
+    subst (λ (q : Instance). IsNet q.net × IsProblem q) parts.1 (closed k.size (marks_of k) k.arcs whole.1 whole.0)
 
 -- a solution's lines
 abbrev pub IsInsideSolution : Stated → Type 0

@@ -12,7 +12,7 @@ use Rattle.flow_text.specs.declared.faults.ReadFault.TheVariants.{Fault, OutOfMe
 use Rattle.flow_text.specs.declared.machine.Refusal.{Refusal}
 use Rattle.flow_text.specs.declared.machine.Refusal.TheVariants.{Code, Memory}
 use Rattle.flow_text.proofs.FaultLemmas.{first_fault-push, early-parts}
-use Rattle.flow_text.proofs.ReaderLemmas.{judged, holds_plain, told-more}
+use Rattle.flow_text.proofs.ReaderLemmas.{judged, partial_plain, told-more}
 
 pub lines-some : (b : List ℕ) → 0 < length (rest b) → lines b ≡ ended b ++ rest b ∷ []
 unfolding lines
@@ -53,7 +53,7 @@ Finals-line rules known_of with_record adds old new b (Ok done) r some e =
 Finals-line rules known_of with_record adds old new b (Err Memory) r some e = tt
 Finals-line rules known_of with_record adds old new b (Err (Code code)) r some e =
     let is : fault_of rules (known_of (ended b)) (rest b ++ []) ≡ Some code =
-    rw (← holds_plain rules known_of old b r e.plain, ← r.knows) e.tells in
+    rw (← partial_plain rules known_of old b r e.plain, ← r.knows) e.tells in
     let is' : fault_of rules (known_of (ended b)) (rest b) ≡ Some code = rw (append-nil (rest b)) at is in
     rw (lines-some b some)
     (first_fault-push rules known_of (ended b) (rest b)

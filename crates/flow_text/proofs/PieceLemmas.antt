@@ -7,9 +7,9 @@ use Rattle.std.proofs.lemmas.List.Elements.{All-from_get_or}
 use Rattle.memchr.specs.Find.{IsFirstByte, is_byte}
 use Rattle.flow_text.specs.LineParts.{is_end, HasNoEnd}
 use Rattle.flow_text.specs.Rules.{Rules}
-use Rattle.flow_text.specs.Reading.{State, HasRead, HoldsTail, Takes}
+use Rattle.flow_text.specs.Reading.{State, HasRead, BuffersTail, Takes}
 use Rattle.flow_text.specs.declared.machine.Refusal.{Refusal}
-use Rattle.flow_text.proofs.ReaderLemmas.{HasRead-holds, Tells-holds}
+use Rattle.flow_text.proofs.ReaderLemmas.{HasRead-buffers, Tells-buffers}
 
 not_true : (x : Bool) → (x ≡ true → ⊥) → x ≡ false
 not_true true h = absurd (h refl)
@@ -55,7 +55,7 @@ text-last b piece start = append_assoc b _ _ ∙ ap (λ more. b ++ more) (take-a
 
 pub Takes-from : {K : Type 0} (rules : Rules K) (known_of : List (List ℕ) → K) (old new : State K) (b tail : List ℕ)
     (r : Result (Unit {0}) Refusal) → HasNoEnd tail → HasRead rules known_of old b
-    → HoldsTail old tail r new → Takes rules known_of (b ++ tail) r new
-Takes-from rules known_of old new b tail (Ok done) none r h = HasRead-holds rules known_of old new b tail none r h
+    → BuffersTail old tail r new → Takes rules known_of (b ++ tail) r new
+Takes-from rules known_of old new b tail (Ok done) none r h = HasRead-buffers rules known_of old new b tail none r h
 Takes-from rules known_of old new b tail (Err refusal) none r h =
-    Tells-holds rules known_of old new b tail refusal none r h
+    Tells-buffers rules known_of old new b tail refusal none r h

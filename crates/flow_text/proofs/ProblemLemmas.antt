@@ -11,12 +11,12 @@ use Rattle.flow_net.specs.declared.networks.Arc.{Arc}
 use Rattle.flow_text.specs.Fields.{fields_of, field_at}
 use Rattle.flow_text.specs.Tests.{first_failed}
 use Rattle.flow_text.specs.Rules.{is_comment, names, is_kind, fault_of}
-use Rattle.flow_text.specs.Terminals.{Marks}
-use Rattle.flow_text.specs.TerminalMarks.{with_mark}
-use Rattle.flow_text.specs.Problem.{Known, known_of, problem_record_fault, problem_rules, problem_tests, node_tests}
-use Rattle.flow_text.specs.Problem.{arc_tests, is_terminal, lacks_terminals}
+use Rattle.flow_text.specs.Terminals.{Marks, lacks_one, with_mark}
+use Rattle.flow_text.specs.Problem.{Known, known_of, problem_record_fault, problem_rules, node_tests}
+use Rattle.flow_text.specs.ProblemReading.{problem_tests}
+use Rattle.flow_text.specs.Problem.{arc_tests, is_terminal}
 use Rattle.flow_text.specs.ProblemReading.{size_of, arc_of, node_of, ProblemSoFar, known_with, with_problem_record}
-use Rattle.flow_text.specs.ProblemReading.{with_node, IsKept}
+use Rattle.flow_text.specs.ProblemReading.{with_terminal, IsKept}
 use Rattle.std.specs.Prelude.{Result, Ok, Err}
 use Rattle.flow_text.specs.Reading.{with_line, Adds, Judges}
 use Rattle.flow_text.specs.declared.machine.Refusal.{Refusal}
@@ -69,7 +69,7 @@ of_problem k kind others is = (simp is, simp (is, p_not_n kind is, p_not_a kind 
 pub of_node : (k : Known) (kind : List ℕ) (others : List (List ℕ)) → bytes_eq kind (codes "p") ≡ false
     → bytes_eq kind (codes "n") ≡ true
     → (problem_record_fault k (kind ∷ others) ≡ first_failed (node_tests k (kind ∷ others)))
-    × (with_problem_record k (kind ∷ others) ≡ record k { marks = with_node k.marks (kind ∷ others) })
+    × (with_problem_record k (kind ∷ others) ≡ with_terminal k (kind ∷ others))
 unfolding problem_record_fault with_problem_record
 of_node k kind others p is = (simp (p, is), simp (p, is, n_not_a kind is))
 
@@ -101,19 +101,14 @@ no_size k line is fine =
     let has = has_field 112 (fields_of line) parts.1 in
     none_from k.size (grind (arith, common_steps, parts.0, parts.1, has, is, fine))
 
-marks-push : (n s t : Bool) (x : ℕ) (sources sinks : List ℕ)
-    → ◌≡◌ {A = Marks}
-    (record { sources = cond (n && s) (sources ++ x ∷ []) sources; sinks = cond (n && t) (sinks ++ x ∷ []) sinks })
-    (cond n (record { sources = cond s (sources ++ x ∷ []) sources; sinks = cond t (sinks ++ x ∷ []) sinks })
-    (record { sources = sources; sinks = sinks }))
-marks-push true s t x sources sinks = refl
-marks-push false s t x sources sinks = refl
-
 -- what fields add, where a comment adds nothing
 by_kind : (comment : Bool) (fields : List (List ℕ)) (known : Known)
     → ◌≡◌ {A = Known} (record {
       size = cond (not comment && names (codes "p") fields) (Some (size_of fields)) known.size;
-      marks = cond (not comment && names (codes "n") fields) (with_node known.marks fields) known.marks;
+      sources = cond ((not comment && names (codes "n") fields) && bytes_eq (field_at fields 2) (codes "s"))
+          (known.sources ++ node_of fields ∷ []) known.sources;
+      sinks = cond ((not comment && names (codes "n") fields) && bytes_eq (field_at fields 2) (codes "t"))
+          (known.sinks ++ node_of fields ∷ []) known.sinks;
       arcs = cond (not comment && names (codes "a") fields) (known.arcs ++ arc_of fields ∷ []) known.arcs;
     }) (cond (comment || not (nat_lt 0 (length fields))) known (with_problem_record known fields))
 unfolding with_problem_record
@@ -130,14 +125,12 @@ Adds-problem before line fine =
       list-push (λ (l : List ℕ). arc_of (fields_of l)) (is_kind (codes "a")) before line,
       list-push (λ (l : List ℕ). node_of (fields_of l)) (is_terminal (codes "s")) before line,
       list-push (λ (l : List ℕ). node_of (fields_of l)) (is_terminal (codes "t")) before line,
-      marks-push (is_kind (codes "n") line) (bytes_eq (field_at (fields_of line) 2) (codes "s"))
-          (bytes_eq (field_at (fields_of line) 2) (codes "t")),
     )
     (by_kind (is_comment line) (fields_of line) (known_of before))
 
 -- an arc line of the usual form, with no fault
 pub of_usual : (old : ProblemSoFar) (text : List ℕ) (arc : Arc) (at : ℕ) → IsUsual 97 text arc.src arc.dst arc.cap at
-    → lacks_terminals old.marks ≡ false → length old.arcs < old.declared → IsArcWithin old.nodes arc
+    → lacks_one old.marks ≡ false → length old.arcs < old.declared → IsArcWithin old.nodes arc
     → (fault_of problem_rules (known_with old) (take at text) ≡ None)
     × (known_with (record old { arcs = old.arcs ++ arc ∷ [] })
     ≡ with_line with_problem_record (known_with old) (take at text))

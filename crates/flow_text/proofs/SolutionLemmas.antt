@@ -7,7 +7,8 @@ use Rattle.std.specs.Prelude.{codes}
 use Rattle.flow_text.specs.Fields.{fields_of}
 use Rattle.flow_text.specs.Tests.{first_failed}
 use Rattle.flow_text.specs.Rules.{is_comment, names, is_kind, fault_of}
-use Rattle.flow_text.specs.Solution.{Stated, stated_of, solution_record_fault, solution_rules, solution_tests}
+use Rattle.flow_text.specs.Solution.{Stated, stated_of, solution_record_fault, solution_rules}
+use Rattle.flow_text.specs.SolutionReading.{solution_tests}
 use Rattle.flow_text.specs.Solution.{flow_tests}
 use Rattle.flow_text.specs.SolutionReading.{given_of, flow_of, with_solution_record, IsLineWithin}
 use Rattle.flow_text.specs.Reading.{with_line, Adds}

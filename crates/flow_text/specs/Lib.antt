@@ -6,7 +6,6 @@ pub mod Numbers
 pub mod Tests
 pub mod Rules
 pub mod Terminals
-pub mod TerminalMarks
 pub mod Problem
 pub mod Solution
 pub mod Reading

@@ -16,7 +16,7 @@ solution_line value = codes "s " ++ decimal value ++ codes "\n"
 
 -- f SRC DST FLOW
 unfoldable pub flow_line : ℕ → ℕ → ℕ → List ℕ
-flow_line src dst flow = codes "f " ++ decimal src ++ codes " " ++ decimal dst ++ codes " " ++ decimal flow ++ codes "\n"
+flow_line src dst x = codes "f " ++ decimal src ++ codes " " ++ decimal dst ++ codes " " ++ decimal x ++ codes "\n"
 
 -- n NODE
 unfoldable pub node_line : ℕ → List ℕ
@@ -24,7 +24,7 @@ node_line node = codes "n " ++ decimal node ++ codes "\n"
 
 -- a SRC DST CAP
 unfoldable pub arc_line : Arc → List ℕ
-arc_line arc = codes "a " ++ decimal arc.src ++ codes " " ++ decimal arc.dst ++ codes " " ++ decimal arc.cap ++ codes "\n"
+arc_line a = codes "a " ++ decimal a.src ++ codes " " ++ decimal a.dst ++ codes " " ++ decimal a.cap ++ codes "\n"
 
 -- k VALUE
 unfoldable pub connect_line : ℕ → List ℕ
@@ -32,8 +32,11 @@ connect_line value = codes "k " ++ decimal value ++ codes "\n"
 
 -- the word of the verdict, and its numbers; FOUND alone may be negative, with '-' before its digits
 unfoldable pub verdict_line : Verdict → List ℕ
-verdict_line (Over src dst flow cap) = codes "over " ++ decimal src ++ codes " " ++ decimal dst ++ codes " " ++ decimal flow ++ codes " " ++ decimal cap ++ codes "\n"
-verdict_line (Unbalanced node into out) = codes "unbalanced " ++ decimal node ++ codes " " ++ decimal into ++ codes " " ++ decimal out ++ codes "\n"
+verdict_line (Over src dst flow cap) =
+    codes "over " ++ decimal src ++ codes " " ++ decimal dst ++ codes " " ++ decimal flow ++ codes " " ++ decimal cap
+    ++ codes "\n"
+verdict_line (Unbalanced node into out) =
+    codes "unbalanced " ++ decimal node ++ codes " " ++ decimal into ++ codes " " ++ decimal out ++ codes "\n"
 verdict_line (Value given found) = codes "value " ++ decimal given ++ codes " " ++ signed_decimal found ++ codes "\n"
 verdict_line (Feasible value) = codes "feasible " ++ decimal value ++ codes "\n"
 verdict_line (NotMaximal value) = codes "not-maximal " ++ decimal value ++ codes "\n"
@@ -41,21 +44,20 @@ verdict_line (Optimal value) = codes "optimal " ++ decimal value ++ codes "\n"
 
 -- flow: line K: TEXT, or flow: solution line K: TEXT
 unfoldable pub fault_line : Bool → ℕ → FaultCode → List ℕ
-fault_line solution line code = (if solution then codes "flow: solution line " else codes "flow: line ") ++ decimal line ++ codes ": " ++ fault_text code ++ codes "\n"
+fault_line solution line code = (if solution then codes "flow: solution line " else codes "flow: line ")
+    ++ decimal line ++ codes ": " ++ fault_text code ++ codes "\n"
 
 -- an arc's flow, in a line
 abbrev pub arc_flow_line : Arc × ℕ → List ℕ
 arc_flow_line (arc, flow) = flow_line arc.src arc.dst flow
 
--- the nodes of a set, rising
-abbrev pub nodes_inside : Net → (ℕ → Bool) → List ℕ
-nodes_inside net X = filter X (range_with_len 1 net.nodes)
-
 -- A solve: the value, then, unless it is asked for alone, the flow of every arc in order. Parallel arcs have a line each.
 unfoldable pub solve_text : Bool → Net → ℕ → List ℕ → List ℕ
-solve_text value_only net value flows = solution_line value ++ (if value_only then [] else flat_map arc_flow_line (zip net.arcs flows))
+solve_text value_only net value flows =
+    solution_line value ++ (if value_only then [] else flat_map arc_flow_line (zip net.arcs flows))
 
 -- A cut: the value, the nodes of its source side, rising, and where they are asked for the arcs that leave it, in order.
 unfoldable pub cut_text : Bool → Net → ℕ → (ℕ → Bool) → List ℕ
 cut_text arcs net value X =
-    solution_line value ++ flat_map node_line (nodes_inside net X) ++ (if arcs then flat_map arc_line (filter (leaves X) net.arcs) else [])
+    solution_line value ++ flat_map node_line (filter X (range_with_len 1 net.nodes))
+    ++ (if arcs then flat_map arc_line (filter (leaves X) net.arcs) else [])

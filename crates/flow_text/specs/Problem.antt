@@ -4,12 +4,12 @@ use Rattle.std.specs.List.{find}
 use Rattle.std.specs.Option.{option_map, option_map_or, unwrap_or}
 use Rattle.std.specs.Str.{bytes_eq}
 use Rattle.flow_net.specs.declared.networks.Arc.{Arc}
-use Rattle.flow_net.specs.Nets.{Net, Instance}
+use Rattle.flow_net.specs.Nets.{Instance}
+use Rattle.flow_net.specs.NodeSets.{one_of}
 use Rattle.flow_text.specs.Lines.{lines}
 use Rattle.flow_text.specs.Fields.{fields_of, field_at}
 use Rattle.flow_text.specs.Digits.{value_of, number_at}
 use Rattle.flow_text.specs.Tests.{first_failed, number_tests, ends_tests, Test}
-use Rattle.flow_text.specs.Terminals.{Marks, is_marked}
 use Rattle.flow_text.specs.Rules.{Rules, names, is_kind, early_fault, whole_fault}
 use Rattle.flow_text.specs.declared.faults.FaultCode.{FaultCode}
 use Rattle.flow_text.specs.declared.faults.FaultCode.TheVariants.{UnknownLine, WrongFields, SecondProblemLine, ProblemLineMissing, NotMax, NodesOutOfRange, ArcsOutOfRange, NodeOutOfRange, NodeLineAfterArcLine, NotTerminal, TerminalsMissing, AlreadyTerminal, TooManyArcs, CapacityOutOfRange, TooFewArcs}
@@ -22,7 +22,8 @@ is_terminal letter line = is_kind (codes "n") line && bytes_eq (field_at (fields
 -- What the lines before a line say: NODES and ARCS, the terminals, and the arcs.
 pub record Known : Type 0 where
   pub size : Option (ℕ × ℕ)
-  pub marks : Marks
+  pub sources : List ℕ
+  pub sinks : List ℕ
   pub arcs : List Arc
 
 -- NODES and ARCS of the first line `p max NODES ARCS`, the sources of the lines `n ID s` and the sinks of the lines `n ID t`,
@@ -30,10 +31,8 @@ pub record Known : Type 0 where
 unfoldable pub known_of : List (List ℕ) → Known
 known_of before = record {
   size = option_map (λ line. (number_at line 2, number_at line 3)) (find (is_kind (codes "p")) before);
-  marks = record {
-    sources = map (λ line. number_at line 1) (filter (is_terminal (codes "s")) before);
-    sinks = map (λ line. number_at line 1) (filter (is_terminal (codes "t")) before);
-  };
+  sources = map (λ line. number_at line 1) (filter (is_terminal (codes "s")) before);
+  sinks = map (λ line. number_at line 1) (filter (is_terminal (codes "t")) before);
   arcs = map (λ line. record { src = number_at line 1; dst = number_at line 2; cap = number_at line 3 })
       (filter (is_kind (codes "a")) before);
 }
@@ -45,10 +44,10 @@ abbrev pub arc_count : Known → ℕ
 arc_count known = (unwrap_or known.size (0, 0)).1
 
 -- whether a source or a sink is missing
-abbrev pub lacks_terminals : Marks → Bool
-lacks_terminals marks = nat_le (length marks.sources) 0 || nat_le (length marks.sinks) 0
+abbrev pub lacks_terminals : Known → Bool
+lacks_terminals known = nat_le (length known.sources) 0 || nat_le (length known.sinks) 0
 
--- the tests of a problem line, after that of a second one
+-- the tests of a problem line, but for that of a second one
 unfoldable pub size_tests : List (List ℕ) → List Test
 size_tests fields =
     (not (length fields == 4), WrongFields)
@@ -56,36 +55,33 @@ size_tests fields =
     ∷ number_tests (field_at fields 2) FEWEST_NODES MOST_NODES NodesOutOfRange
     ++ number_tests (field_at fields 3) 0 MOST_ARCS ArcsOutOfRange
 
-abbrev pub problem_tests : Known → List (List ℕ) → List Test
-problem_tests known fields = (is_some known.size, SecondProblemLine) ∷ size_tests fields
-
 -- the tests of a node line's own fields, and of the whole line
-unfoldable pub mark_tests : ℕ → Marks → List (List ℕ) → List Test
-mark_tests nodes marks fields =
+unfoldable pub mark_tests : ℕ → List ℕ → List ℕ → List (List ℕ) → List Test
+mark_tests nodes sources sinks fields =
     (not (length fields == 3), WrongFields)
     ∷ number_tests (field_at fields 1) 1 nodes NodeOutOfRange
     ++ (not (bytes_eq (field_at fields 2) (codes "s") || bytes_eq (field_at fields 2) (codes "t")), NotTerminal)
-    ∷ (is_marked marks (value_of (field_at fields 1)), AlreadyTerminal)
+    ∷ (one_of sources (value_of (field_at fields 1)) || one_of sinks (value_of (field_at fields 1)), AlreadyTerminal)
     ∷ []
 
 abbrev pub node_tests : Known → List (List ℕ) → List Test
 node_tests known fields =
     (not (is_some known.size), ProblemLineMissing)
     ∷ (nat_lt 0 (length known.arcs), NodeLineAfterArcLine)
-    ∷ mark_tests (nodes known) known.marks fields
+    ∷ mark_tests (nodes known) known.sources known.sinks fields
 
 -- the tests of an arc line
 abbrev pub arc_tests : Known → List (List ℕ) → List Test
 arc_tests known fields =
     (not (is_some known.size), ProblemLineMissing)
-    ∷ (lacks_terminals known.marks, TerminalsMissing)
+    ∷ (lacks_terminals known, TerminalsMissing)
     ∷ (nat_le (arc_count known) (length known.arcs), TooManyArcs)
     ∷ ends_tests (nodes known) CapacityOutOfRange fields
 
 -- the fault of a line with these fields
 unfoldable pub problem_record_fault : Known → List (List ℕ) → Option FaultCode
 problem_record_fault known fields =
-    if names (codes "p") fields then first_failed (problem_tests known fields)
+    if names (codes "p") fields then first_failed ((is_some known.size, SecondProblemLine) ∷ size_tests fields)
     else if names (codes "n") fields then first_failed (node_tests known fields)
     else if names (codes "a") fields then first_failed (arc_tests known fields)
     else Some UnknownLine
@@ -94,7 +90,7 @@ problem_record_fault known fields =
 abbrev pub end_tests : Known → List Test
 end_tests known =
     (not (is_some known.size), ProblemLineMissing)
-    ∷ (lacks_terminals known.marks, TerminalsMissing)
+    ∷ (lacks_terminals known, TerminalsMissing)
     ∷ (nat_lt (length known.arcs) (arc_count known), TooFewArcs)
     ∷ []
 
@@ -102,13 +98,10 @@ end_tests known =
 abbrev pub problem_rules : Rules Known
 problem_rules = record { record_fault = problem_record_fault; end_fault = λ known. first_failed (end_tests known) }
 
--- the network of NODES and of the arcs so far
-abbrev pub net_of : Known → Net
-net_of known = record { nodes = nodes known; arcs = known.arcs }
-
 -- the problem that an accepted text says
 abbrev pub instance_of : Known → Instance
-instance_of known = record { net = net_of known; sources = known.marks.sources; sinks = known.marks.sinks }
+instance_of known =
+    record { net = record { nodes = nodes known; arcs = known.arcs }; sources = known.sources; sinks = known.sinks }
 
 -- the early fault of a problem text that may go on
 abbrev pub early : List ℕ → Option (ℕ × FaultCode)

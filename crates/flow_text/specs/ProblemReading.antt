@@ -1,5 +1,5 @@
 -- What the reader of a problem keeps and answers.
-use Rattle.std.specs.Prelude.{◌≡◌, ℕ, ◌≤◌, ◌<◌, Bool, true, false, ◌++◌, List, [], ◌∷◌, length, Option, Some, None, is_some, Result, Ok, Err, codes, if◌then◌else◌}
+use Rattle.std.specs.Prelude.{◌≡◌, ℕ, ◌≤◌, ◌<◌, Bool, true, false, ◌&&◌, ◌++◌, List, [], ◌∷◌, length, Option, Some, None, is_some, Result, Ok, Err, codes, if◌then◌else◌}
 use Rattle.std.specs.Str.{bytes_eq}
 use Rattle.std.specs.List.{All}
 use Rattle.std.specs.Option.{option_map}
@@ -9,8 +9,10 @@ use Rattle.flow_net.specs.Limits.{IsArcWithin}
 use Rattle.flow_text.specs.Fields.{field_at}
 use Rattle.flow_text.specs.Digits.{value_of}
 use Rattle.flow_text.specs.Rules.{names}
-use Rattle.flow_text.specs.Terminals.{Marks}
-use Rattle.flow_text.specs.Problem.{Known, known_of, net_of, lacks_terminals, problem_rules}
+use Rattle.flow_text.specs.Terminals.{Marks, lacks_one}
+use Rattle.flow_text.specs.Problem.{Known, known_of, size_tests, instance_of, problem_rules}
+use Rattle.flow_text.specs.Tests.{Test}
+use Rattle.flow_text.specs.declared.faults.FaultCode.TheVariants.{SecondProblemLine}
 use Rattle.flow_text.specs.Reading.{State, HasRead, FeedsBy, AnswersAs}
 use Rattle.flow_text.specs.declared.faults.FaultCode.{FaultCode}
 use Rattle.flow_text.specs.declared.faults.ReadFault.{ReadFault}
@@ -28,7 +30,15 @@ node_of fields = value_of (field_at fields 1)
 
 -- the arc of `a SRC DST CAP`
 abbrev pub arc_of : List (List ℕ) → Arc
-arc_of fields = record { src = value_of (field_at fields 1); dst = value_of (field_at fields 2); cap = value_of (field_at fields 3) }
+arc_of fields = record {
+  src = value_of (field_at fields 1);
+  dst = value_of (field_at fields 2);
+  cap = value_of (field_at fields 3);
+}
+
+-- the tests of a problem line
+abbrev pub problem_tests : Known → List (List ℕ) → List Test
+problem_tests known fields = (is_some known.size, SecondProblemLine) ∷ size_tests fields
 
 -- the terminals after a node line with these fields
 abbrev pub with_node : Marks → List (List ℕ) → Marks
@@ -37,11 +47,25 @@ with_node marks fields = record {
   sinks = if bytes_eq (field_at fields 2) (codes "t") then marks.sinks ++ node_of fields ∷ [] else marks.sinks;
 }
 
+-- the terminals that are known
+abbrev pub marks_of : Known → Marks
+marks_of known = record { sources = known.sources; sinks = known.sinks }
+
+-- what is known after a node line with these fields
+abbrev pub with_terminal : Known → List (List ℕ) → Known
+with_terminal known fields = record known {
+  sources = (with_node (marks_of known) fields).sources;
+  sinks = (with_node (marks_of known) fields).sinks;
+}
+
 -- what is known after a line with these fields
 unfoldable pub with_problem_record : Known → List (List ℕ) → Known
 with_problem_record known fields = record {
   size = if names (codes "p") fields then Some (size_of fields) else known.size;
-  marks = if names (codes "n") fields then with_node known.marks fields else known.marks;
+  sources = if names (codes "n") fields && bytes_eq (field_at fields 2) (codes "s")
+      then known.sources ++ node_of fields ∷ [] else known.sources;
+  sinks = if names (codes "n") fields && bytes_eq (field_at fields 2) (codes "t")
+      then known.sinks ++ node_of fields ∷ [] else known.sinks;
   arcs = if names (codes "a") fields then known.arcs ++ arc_of fields ∷ [] else known.arcs;
 }
 
@@ -53,17 +77,23 @@ pub record ProblemSoFar : Type 0 where
   pub arcs : List Arc
 
 abbrev pub known_with : ProblemSoFar → Known
-known_with sized = record { size = Some (sized.nodes, sized.declared); marks = sized.marks; arcs = sized.arcs }
+known_with sized = record {
+  size = Some (sized.nodes, sized.declared);
+  sources = sized.marks.sources;
+  sinks = sized.marks.sinks;
+  arcs = sized.arcs;
+}
 
 -- what is known: nothing before a problem line
 abbrev pub known_from : Option ProblemSoFar → Known
-known_from None = record { size = None; marks = record { sources = []; sinks = [] }; arcs = [] }
+known_from None = record { size = None; sources = []; sinks = []; arcs = [] }
 known_from (Some sized) = known_with sized
 
 -- what the keeper of an arc answers: whether the arc line has no fault, and the arc is kept
 abbrev pub KeepsArc : ProblemSoFar → Arc → Result Bool Refusal → ProblemSoFar → Type 0
 KeepsArc old arc (Ok true) new =
-    (lacks_terminals old.marks ≡ false) × (length old.arcs < old.declared) × IsArcWithin old.nodes arc × (new ≡ record old { arcs = old.arcs ++ arc ∷ [] })
+    (lacks_one old.marks ≡ false) × (length old.arcs < old.declared) × IsArcWithin old.nodes arc
+    × (new ≡ record old { arcs = old.arcs ++ arc ∷ [] })
 KeepsArc old arc (Ok false) new = new ≡ old
 KeepsArc old arc (Err refusal) new = refusal ≡ Memory
 
@@ -88,7 +118,7 @@ Finishes answer result = AnswersAs answer result
 
 -- the network that lines say: none before a problem line
 abbrev pub known_net : Known → Option Net
-known_net known = option_map (λ size. net_of known) known.size
+known_net known = option_map (λ size. (instance_of known).net) known.size
 
 -- the network that a reader lends: none after a refusal
 abbrev pub lent_net : State Known → Option Net

@@ -28,19 +28,20 @@ pub record State (K : Type 0) : Type 0 where
   pub count : ℕ
   pub known : K
   pub comment : Bool
-  pub held : List ℕ
+  pub partial : List ℕ
 
--- of a comment nothing is held
-abbrev pub held_of : List ℕ → List ℕ
-held_of line = if is_comment line then [] else line
+-- what is buffered of a line that goes on: all of it, and nothing of a comment
+abbrev pub partial_of : List ℕ → List ℕ
+partial_of line = if is_comment line then [] else line
 
 -- the reader has been fed these bytes and has refused none
-pub record HasRead {K : Type 0} (rules : Rules K) (known_of : List (List ℕ) → K) (reader : State K) (b : List ℕ) : Type 0 where
+pub record HasRead {K : Type 0} (rules : Rules K) (known_of : List (List ℕ) → K) (reader : State K) (b : List ℕ)
+    : Type 0 where
   pub going : reader.refused ≡ None
   pub counts : reader.count ≡ told (length (ended b))
   pub knows : reader.known ≡ known_of (ended b)
   pub in_comment : reader.comment ≡ is_comment (rest b)
-  pub holds : reader.held ≡ held_of (rest b)
+  pub buffered : reader.partial ≡ partial_of (rest b)
   pub fine : early_fault rules known_of b ≡ None
 
 -- the reader answers this refusal from now on
@@ -53,7 +54,8 @@ Tells (Fault line code) fault = fault ≡ Some (line, code)
 Tells OutOfMemory fault = Unit {0}
 
 -- what `feed` answers, with these bytes fed in all
-abbrev pub FeedsBy : {K : Type 0} → Rules K → (List (List ℕ) → K) → List ℕ → Result (Unit {0}) ReadFault → State K → Type 0
+abbrev pub FeedsBy : {K : Type 0} → Rules K → (List (List ℕ) → K) → List ℕ → Result (Unit {0}) ReadFault
+    → State K → Type 0
 FeedsBy rules known_of b (Ok done) new = HasRead rules known_of new b
 FeedsBy rules known_of b (Err fault) new = Tells fault (early_fault rules known_of b) × Refuses new fault
 
@@ -75,7 +77,8 @@ with_line with_record known line =
 
 -- a line without a fault adds to what is known what it adds to what the lines say
 abbrev pub Adds : {K : Type 0} → Rules K → (List (List ℕ) → K) → (K → List (List ℕ) → K) → Type 0
-Adds rules known_of with_record = (before : List (List ℕ)) (line : List ℕ) → fault_of rules (known_of before) line ≡ None
+Adds rules known_of with_record = (before : List (List ℕ)) (line : List ℕ)
+    → fault_of rules (known_of before) line ≡ None
     → known_of (before ++ line ∷ []) ≡ with_line with_record (known_of before) line
 
 -- what a refusal of a line says of the line's fault
@@ -89,33 +92,41 @@ Judges fault after (Ok done) new = (fault ≡ None) × (new ≡ after)
 Judges fault after (Err refusal) new = IsRefusal refusal fault
 
 -- what the judge of a text's first line answers: the place of its byte 10 where it has judged the line, or nothing
-abbrev pub JudgesFirst : {K : Type 0} → Rules K → (K → List (List ℕ) → K) → K → List ℕ → Result (Option ℕ) Refusal → K → Type 0
+abbrev pub JudgesFirst : {K : Type 0} → Rules K → (K → List (List ℕ) → K) → K → List ℕ → Result (Option ℕ) Refusal
+    → K → Type 0
 JudgesFirst rules with_record old text (Ok (Some at)) new =
-    IsFirstByte (is_byte 10) text (Some at) × (fault_of rules old (take at text) ≡ None) × (new ≡ with_line with_record old (take at text))
+    IsFirstByte (is_byte 10) text (Some at) × (fault_of rules old (take at text) ≡ None)
+    × (new ≡ with_line with_record old (take at text))
 JudgesFirst rules with_record old text (Ok None) new = new ≡ old
-JudgesFirst rules with_record old text (Err refusal) new = (at : ℕ) × IsFirstByte (is_byte 10) text (Some at) × IsRefusal refusal (fault_of rules old (take at text))
+JudgesFirst rules with_record old text (Err refusal) new = (at : ℕ) × IsFirstByte (is_byte 10) text (Some at)
+    × IsRefusal refusal (fault_of rules old (take at text))
 
 -- a line has ended with these bytes: it was judged, or it is a comment
-pub record Ends {K : Type 0} (rules : Rules K) (with_record : K → List (List ℕ) → K) (old : State K) (tail : List ℕ) (count : ℕ) (new : State K) : Type 0 where
+pub record Ends {K : Type 0} (rules : Rules K) (with_record : K → List (List ℕ) → K) (old : State K)
+    (tail : List ℕ) (count : ℕ) (new : State K) : Type 0 where
   pub going : new.refused ≡ old.refused
   pub counts : new.count ≡ count
   pub in_comment : new.comment ≡ false
-  pub holds : new.held ≡ []
+  pub buffered : new.partial ≡ []
   pub skipped : old.comment ≡ true → new.known ≡ old.known
-  pub judged : old.comment ≡ false → (fault_of rules old.known (old.held ++ tail) ≡ None) × (new.known ≡ with_line with_record old.known (old.held ++ tail))
+  pub judged : old.comment ≡ false → (fault_of rules old.known (old.partial ++ tail) ≡ None)
+      × (new.known ≡ with_line with_record old.known (old.partial ++ tail))
 
 -- a line that ends with these bytes is refused
-pub record Fails {K : Type 0} (rules : Rules K) (old : State K) (tail : List ℕ) (refusal : Refusal) (new : State K) : Type 0 where
+pub record Fails {K : Type 0} (rules : Rules K) (old : State K) (tail : List ℕ) (refusal : Refusal) (new : State K)
+    : Type 0 where
   pub plain : old.comment ≡ false
   pub counts : new.count ≡ old.count
-  pub tells : IsRefusal refusal (fault_of rules old.known (old.held ++ tail))
+  pub tells : IsRefusal refusal (fault_of rules old.known (old.partial ++ tail))
 
-abbrev pub EndsLine : {K : Type 0} → Rules K → (K → List (List ℕ) → K) → State K → List ℕ → ℕ → Result (Unit {0}) Refusal → State K → Type 0
+abbrev pub EndsLine : {K : Type 0} → Rules K → (K → List (List ℕ) → K) → State K → List ℕ → ℕ
+    → Result (Unit {0}) Refusal → State K → Type 0
 EndsLine rules with_record old tail count (Ok done) new = Ends rules with_record old tail count new
 EndsLine rules with_record old tail count (Err refusal) new = Fails rules old tail refusal new
 
 -- the line that ends at the first byte 10 of these bytes, if there is one, has ended
-abbrev pub EndsFirst : {K : Type 0} → Rules K → (K → List (List ℕ) → K) → State K → List ℕ → Result (Option ℕ) Refusal → State K → Type 0
+abbrev pub EndsFirst : {K : Type 0} → Rules K → (K → List (List ℕ) → K) → State K → List ℕ → Result (Option ℕ) Refusal
+    → State K → Type 0
 EndsFirst rules with_record old text (Ok (Some at)) new =
     IsFirstByte (is_byte 10) text (Some at) × Ends rules with_record old (take at text) (told (old.count + 1)) new
 EndsFirst rules with_record old text (Ok None) new = IsFirstByte (is_byte 10) text None × (new ≡ old)
@@ -123,18 +134,20 @@ EndsFirst rules with_record old text (Err refusal) new =
     (at : ℕ) × IsFirstByte (is_byte 10) text (Some at) × Fails rules old (take at text) refusal new
 
 -- a line that goes on with these bytes
-pub record Holds {K : Type 0} (old : State K) (tail : List ℕ) (new : State K) : Type 0 where
+pub record Buffers {K : Type 0} (old : State K) (tail : List ℕ) (new : State K) : Type 0 where
   pub going : new.refused ≡ old.refused
   pub counts : new.count ≡ old.count
   pub knows : new.known ≡ old.known
-  pub skipped : old.comment ≡ true → (new.comment ≡ true) × (new.held ≡ old.held)
-  pub in_comment : old.comment ≡ false → new.comment ≡ is_comment (old.held ++ tail)
-  pub holds : old.comment ≡ false → new.held ≡ held_of (old.held ++ tail)
-  pub short : length new.held ≤ LONGEST_LINE
+  pub skipped : old.comment ≡ true → (new.comment ≡ true) × (new.partial ≡ old.partial)
+  pub in_comment : old.comment ≡ false → new.comment ≡ is_comment (old.partial ++ tail)
+  pub buffered : old.comment ≡ false → new.partial ≡ partial_of (old.partial ++ tail)
+  pub short : length new.partial ≤ LONGEST_LINE
 
-abbrev pub HoldsTail : {K : Type 0} → State K → List ℕ → Result (Unit {0}) Refusal → State K → Type 0
-HoldsTail old tail (Ok done) new = Holds old tail new
-HoldsTail old tail (Err refusal) new = (old.comment ≡ false) × (new.count ≡ old.count) × (is_comment (old.held ++ tail) ≡ false) × (LONGEST_LINE < length (old.held ++ tail)) × (refusal ≡ Code LineTooLong)
+abbrev pub BuffersTail : {K : Type 0} → State K → List ℕ → Result (Unit {0}) Refusal → State K → Type 0
+BuffersTail old tail (Ok done) new = Buffers old tail new
+BuffersTail old tail (Err refusal) new = (old.comment ≡ false) × (new.count ≡ old.count)
+    × (is_comment (old.partial ++ tail) ≡ false) × (LONGEST_LINE < length (old.partial ++ tail))
+    × (refusal ≡ Code LineTooLong)
 
 -- what a refusal says of the first fault, where so many lines have ended
 abbrev pub TellsAt : ℕ → Refusal → Option (ℕ × FaultCode) → Type 0
@@ -154,5 +167,6 @@ Takes rules known_of b (Err refusal) new = TellsAt new.count refusal (early_faul
 -- the last line has been judged too, if no byte 10 ends it
 abbrev pub Finals : {K : Type 0} → Rules K → (List (List ℕ) → K) → List ℕ → Result (Unit {0}) Refusal → State K → Type 0
 Finals rules known_of b (Ok done) new =
-    (first_fault rules known_of [] (lines b) ≡ None) × (new.known ≡ known_of (lines b)) × (new.count ≡ told (length (lines b)))
+    (first_fault rules known_of [] (lines b) ≡ None) × (new.known ≡ known_of (lines b))
+    × (new.count ≡ told (length (lines b)))
 Finals rules known_of b (Err refusal) new = TellsAt new.count refusal (first_fault rules known_of [] (lines b))

@@ -40,10 +40,12 @@ abbrev pub at_line : ℕ → Option FaultCode → Option (ℕ × FaultCode)
 at_line k fault = option_map (λ code. (min k GREATEST_LINE_NUMBER, code)) fault
 
 -- the fault of the first of these lines that has one, where other lines stand before them; `known_of` tells what lines say
-unfoldable pub first_fault : {K : Type 0} → Rules K → (List (List ℕ) → K) → List (List ℕ) → List (List ℕ) → Option (ℕ × FaultCode)
+unfoldable pub first_fault : {K : Type 0} → Rules K → (List (List ℕ) → K) → List (List ℕ) → List (List ℕ)
+    → Option (ℕ × FaultCode)
 first_fault rules known_of before [] = None
 first_fault rules known_of before (line ∷ after) =
-    option_or (at_line (length before + 1) (fault_of rules (known_of before) line)) (first_fault rules known_of (before ++ line ∷ []) after)
+    option_or (at_line (length before + 1) (fault_of rules (known_of before) line))
+    (first_fault rules known_of (before ++ line ∷ []) after)
 
 -- a line that goes on can be too long already
 abbrev pub unended_fault : List ℕ → Option FaultCode
@@ -57,4 +59,5 @@ early_fault rules known_of b =
 -- the first fault of a whole text: that of its lines, else that of its end, at the line after the last
 unfoldable pub whole_fault : {K : Type 0} → Rules K → (List (List ℕ) → K) → List ℕ → Option (ℕ × FaultCode)
 whole_fault rules known_of b =
-    option_or (first_fault rules known_of [] (lines b)) (at_line (length (lines b) + 1) (rules.end_fault (known_of (lines b))))
+    option_or (first_fault rules known_of [] (lines b))
+    (at_line (length (lines b) + 1) (rules.end_fault (known_of (lines b))))

@@ -27,12 +27,10 @@ stated_of nodes before = record {
       (filter (is_kind (codes "f")) before);
 }
 
--- the tests of a solution line, after that of a second one
+-- the tests of a solution line, but for that of a second one
 unfoldable pub value_tests : List (List ℕ) → List Test
-value_tests fields = (not (length fields == 2), WrongFields) ∷ number_tests (field_at fields 1) 0 GREATEST_VALUE ValueOutOfRange
-
-abbrev pub solution_tests : Stated → List (List ℕ) → List Test
-solution_tests stated fields = (is_some stated.value, SecondSolutionLine) ∷ value_tests fields
+value_tests fields =
+    (not (length fields == 2), WrongFields) ∷ number_tests (field_at fields 1) 0 GREATEST_VALUE ValueOutOfRange
 
 -- the tests of a flow line
 abbrev pub flow_tests : Stated → List (List ℕ) → List Test
@@ -44,13 +42,17 @@ flow_tests stated fields =
 -- the fault of a line with these fields
 unfoldable pub solution_record_fault : Stated → List (List ℕ) → Option FaultCode
 solution_record_fault stated fields =
-    if names (codes "s") fields then first_failed (solution_tests stated fields)
+    if names (codes "s") fields then first_failed ((is_some stated.value, SecondSolutionLine) ∷ value_tests fields)
     else if names (codes "f") fields then first_failed (flow_tests stated fields)
     else Some UnknownLine
 
+-- the fault of the end of input
+abbrev pub solution_end_fault : Stated → Option FaultCode
+solution_end_fault stated = if is_some stated.value then None else Some SolutionLineMissing
+
 -- the rules of a solution file
 abbrev pub solution_rules : Rules Stated
-solution_rules = record { record_fault = solution_record_fault; end_fault = λ stated. if is_some stated.value then None else Some SolutionLineMissing }
+solution_rules = record { record_fault = solution_record_fault; end_fault = solution_end_fault }
 
 -- what an accepted solution says: VALUE and the flow lines
 pub record Written : Type 0 where
@@ -66,4 +68,5 @@ early_solution b nodes = early_fault solution_rules (stated_of nodes) b
 
 -- the first fault of a whole solution text, or what it says
 unfoldable pub solution : List ℕ → ℕ → Result Written (ℕ × FaultCode)
-solution b nodes = option_map_or Err (whole_fault solution_rules (stated_of nodes) b) (Ok (written_of (stated_of nodes (lines b))))
+solution b nodes =
+    option_map_or Err (whole_fault solution_rules (stated_of nodes) b) (Ok (written_of (stated_of nodes (lines b))))

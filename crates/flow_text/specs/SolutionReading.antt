@@ -4,7 +4,9 @@ use Rattle.std.specs.List.{All}
 use Rattle.flow_text.specs.Fields.{field_at}
 use Rattle.flow_text.specs.Digits.{value_of}
 use Rattle.flow_text.specs.Rules.{names}
-use Rattle.flow_text.specs.Solution.{Stated, stated_of, Written, solution_rules}
+use Rattle.flow_text.specs.Solution.{Stated, stated_of, value_tests, Written, solution_rules}
+use Rattle.flow_text.specs.Tests.{Test}
+use Rattle.flow_text.specs.declared.faults.FaultCode.TheVariants.{SecondSolutionLine}
 use Rattle.flow_text.specs.Reading.{State, HasRead, FeedsBy, AnswersAs}
 use Rattle.flow_text.specs.declared.faults.FaultCode.{FaultCode}
 use Rattle.flow_text.specs.declared.faults.ReadFault.{ReadFault}
@@ -18,9 +20,17 @@ use Rattle.flow_text.specs.declared.limits.TheConstants.{GREATEST_VALUE, MOST_FL
 abbrev pub given_of : List (List ℕ) → ℕ
 given_of fields = value_of (field_at fields 1)
 
+-- the tests of a solution line
+abbrev pub solution_tests : Stated → List (List ℕ) → List Test
+solution_tests stated fields = (is_some stated.value, SecondSolutionLine) ∷ value_tests fields
+
 -- SRC, DST and FLOW of `f SRC DST FLOW`
 abbrev pub flow_of : List (List ℕ) → FlowLine
-flow_of fields = record { src = value_of (field_at fields 1); dst = value_of (field_at fields 2); flow = value_of (field_at fields 3) }
+flow_of fields = record {
+  src = value_of (field_at fields 1);
+  dst = value_of (field_at fields 2);
+  flow = value_of (field_at fields 3);
+}
 
 -- what is known after a line with these fields
 unfoldable pub with_solution_record : Stated → List (List ℕ) → Stated
@@ -41,7 +51,8 @@ pub record IsLineWithin (nodes : ℕ) (line : FlowLine) : Type 0 where
 -- what the keeper of a flow line answers: whether the line has no fault and is kept
 abbrev pub KeepsLine : Stated → FlowLine → Result Bool Refusal → Stated → Type 0
 KeepsLine old line (Ok true) new =
-    (is_some old.value ≡ true) × (length old.lines < MOST_FLOW_LINES) × IsLineWithin old.nodes line × (new ≡ record old { lines = old.lines ++ line ∷ [] })
+    (is_some old.value ≡ true) × (length old.lines < MOST_FLOW_LINES) × IsLineWithin old.nodes line
+    × (new ≡ record old { lines = old.lines ++ line ∷ [] })
 KeepsLine old line (Ok false) new = new ≡ old
 KeepsLine old line (Err refusal) new = refusal ≡ Memory
 

@@ -16,7 +16,8 @@ LinesAreCut = (b : List ℕ) → (joined (ended b) (rest b) ≡ b) × All HasNoE
 
 -- .. in one way only
 abbrev pub LinesAreCutOneWay : Type 0
-LinesAreCutOneWay = (ls : List (List ℕ)) (r : List ℕ) → All HasNoEnd ls → HasNoEnd r → (ended (joined ls r) ≡ ls) × (rest (joined ls r) ≡ r)
+LinesAreCutOneWay = (ls : List (List ℕ)) (r : List ℕ) → All HasNoEnd ls → HasNoEnd r → (ended (joined ls r) ≡ ls)
+    × (rest (joined ls r) ≡ r)
 
 -- an early fault of a problem text is the fault of every text that goes on from it
 abbrev pub EarlyFaultStays : Type 0
@@ -24,7 +25,8 @@ EarlyFaultStays = (b x : List ℕ) (fault : ℕ × FaultCode) → early b ≡ So
 
 -- the same of a solution text
 abbrev pub EarlySolutionFaultStays : Type 0
-EarlySolutionFaultStays = (b x : List ℕ) (nodes : ℕ) (fault : ℕ × FaultCode) → early_solution b nodes ≡ Some fault → solution (b ++ x) nodes ≡ Err fault
+EarlySolutionFaultStays = (b x : List ℕ) (nodes : ℕ) (fault : ℕ × FaultCode) → early_solution b nodes ≡ Some fault
+    → solution (b ++ x) nodes ≡ Err fault
 
 -- an accepted problem text says a network within the limits, and terminals that are proper: sources and sinks, all nodes, none twice
 abbrev pub AcceptedProblemIsWithin : Type 0
@@ -32,4 +34,5 @@ AcceptedProblemIsWithin = (b : List ℕ) (p : Instance) → problem b ≡ Ok p �
 
 -- an accepted solution text says a value and flow lines within the limits
 abbrev pub AcceptedSolutionIsWithin : Type 0
-AcceptedSolutionIsWithin = (b : List ℕ) (nodes : ℕ) (found : Written) → solution b nodes ≡ Ok found → IsWithinLimits nodes found
+AcceptedSolutionIsWithin = (b : List ℕ) (nodes : ℕ) (found : Written) → solution b nodes ≡ Ok found
+    → IsWithinLimits nodes found

@@ -2,7 +2,7 @@
 //! end hasn't come yet it keeps the bytes so far, at most as many as a line may have; of a comment it keeps none.
 ghost use Rattle.std.specs.Prelude.{◌≡◌, ◌+◌, ◌++◌, ◌∷◌, [], List, ℕ, None, Some, Err, false, IsErrOf, IfOk, is_some, true, MatchOption};
 ghost use Rattle.flow_text.specs.Rules.{Rules, is_comment, fault_of};
-ghost use Rattle.flow_text.specs.Reading.{told, Adds, HasRead, Refuses, FeedsBy, ClosesBy, Judges, JudgesFirst, with_line, EndsLine, EndsFirst, HoldsTail, Takes, Finals, fault_from};
+ghost use Rattle.flow_text.specs.Reading.{told, Adds, HasRead, Refuses, FeedsBy, ClosesBy, Judges, JudgesFirst, with_line, EndsLine, EndsFirst, BuffersTail, Takes, Finals, fault_from};
 ghost use Rattle.flow_text.specs.declared.faults.ReadFault.{ReadFault};
 
 use crate::faults::{FaultCode, ReadFault};
@@ -30,7 +30,8 @@ pub(crate) trait Judge: Drop {
 
     /// Judges the fields of the next line, and keeps what they say.
     fn judge(&mut self, letter: &[u8], others: Fields<'_>) -> Result<(), Refusal>
-        ensures { Judges (rules.record_fault self.old (letter.now ∷ others.entry)) (with_record self.old (letter.now ∷ others.entry)) result self.new };
+        ensures { Judges (rules.record_fault self.old (letter.now ∷ others.entry))
+            (with_record self.old (letter.now ∷ others.entry)) result self.new };
 
     /// Judges the first line of a text in one pass and keeps what it says, where it has the usual form and no fault, and
     /// answers the place of its byte 10. Any other line is left to `judge`.
@@ -49,7 +50,7 @@ pub(crate) struct Machine<J> {
     count: u64,
     judge: J,
     comment: bool,
-    held: ArrayVec<u8, LONGEST_LINE>,
+    partial: ArrayVec<u8, LONGEST_LINE>,
 }
 
 impl<J> Model for Machine<J> {
@@ -60,9 +61,19 @@ impl<J> Model for Machine<J> {
 
     ghost Value = { State J };
 
-    ghost view = { λ m. record { refused = m.refused; count = m.count; known = m.judge; comment = m.comment; held = m.held.items } };
+    ghost view = { λ m. record {
+      refused = m.refused;
+      count = m.count;
+      known = m.judge;
+      comment = m.comment;
+      partial = m.partial.items;
+    } };
 
-    ghost invariant = { λ m. record { plain : is_comment m.held.items ≡ false; short : length m.held.items ≤ LONGEST_LINE; empty : m.comment ≡ true → m.held.items ≡ [] } };
+    ghost invariant = { λ m. record {
+      plain : is_comment m.partial.items ≡ false;
+      short : length m.partial.items ≤ LONGEST_LINE;
+      empty : m.comment ≡ true → m.partial.items ≡ [];
+    } };
 }
 
 /// Whether a line is a comment, by its first byte.
@@ -91,7 +102,8 @@ fn read_fault(count: u64, refusal: Refusal) -> ReadFault
 
 /// Judges a whole line.
 fn judge_line<J: Judge>(judge: &mut J, line: &[u8]) -> Result<(), Refusal>
-    ensures { Judges (fault_of J.rules judge.old line.now) (with_line J.with_record judge.old line.now) result judge.new }
+    ensures { Judges (fault_of J.rules judge.old line.now)
+        (with_line J.with_record judge.old line.now) result judge.new }
 {
     if begins_comment(line) {
         return Ok(());
@@ -116,7 +128,7 @@ impl<J: Judge> Machine<J> {
             count: 0,
             judge,
             comment: false,
-            held: ArrayVec::new(),
+            partial: ArrayVec::new(),
         }
     }
 
@@ -128,16 +140,16 @@ impl<J: Judge> Machine<J> {
             self.comment = false;
             return Ok(());
         }
-        if self.held.is_empty() {
+        if self.partial.is_empty() {
             return judge_line(&mut self.judge, tail);
         }
-        match self.held.try_extend_from_slice(tail) {
+        match self.partial.try_extend_from_slice(tail) {
             Ok(()) => {}
             Err(_) => return Err(Refusal::Code(FaultCode::LineTooLong)),
         }
-        match judge_line(&mut self.judge, self.held.as_slice()) {
+        match judge_line(&mut self.judge, self.partial.as_slice()) {
             Ok(()) => {
-                self.held.clear();
+                self.partial.clear();
                 Ok(())
             }
             Err(refusal) => Err(refusal),
@@ -161,7 +173,7 @@ impl<J: Judge> Machine<J> {
     fn end_first(&mut self, text: &[u8]) -> Result<Option<usize>, Refusal>
         ensures { EndsFirst J.rules J.with_record self.old text.now result self.new }
     {
-        if !self.comment && self.held.is_empty() {
+        if !self.comment && self.partial.is_empty() {
             match self.judge.judge_usual(text) {
                 Ok(Some(at)) => {
                     self.count = self.count.saturating_add(1);
@@ -181,17 +193,17 @@ impl<J: Judge> Machine<J> {
     }
 
     /// Keeps the last bytes of a piece, in which no line ends, for the line that they begin or continue.
-    fn hold(&mut self, tail: &[u8]) -> Result<(), Refusal>
-        ensures { HoldsTail self.old tail.now result self.new }
+    fn buffer(&mut self, tail: &[u8]) -> Result<(), Refusal>
+        ensures { BuffersTail self.old tail.now result self.new }
     {
         if self.comment {
             return Ok(());
         }
-        if self.held.is_empty() && begins_comment(tail) {
+        if self.partial.is_empty() && begins_comment(tail) {
             self.comment = true;
             return Ok(());
         }
-        match self.held.try_extend_from_slice(tail) {
+        match self.partial.try_extend_from_slice(tail) {
             Ok(()) => Ok(()),
             Err(_) => Err(Refusal::Code(FaultCode::LineTooLong)),
         }
@@ -199,13 +211,15 @@ impl<J: Judge> Machine<J> {
 
     /// Takes a piece: judges each line that ends in it, and keeps what is left.
     fn take(&mut self, piece: &[u8]) -> Result<(), Refusal>
-        ensures { (known_of : List (List ℕ) → J) → Adds J.rules known_of J.with_record → (b : List ℕ) → HasRead J.rules known_of self.old b → Takes J.rules known_of (b ++ piece.now) result self.new }
+        ensures { (known_of : List (List ℕ) → J) → Adds J.rules known_of J.with_record
+            → (b : List ℕ) → HasRead J.rules known_of self.old b
+            → Takes J.rules known_of (b ++ piece.now) result self.new }
     {
         let mut start = 0;
         loop {
             match self.end_first(&piece[start..]) {
                 Ok(Some(at)) => start += at + 1,
-                Ok(None) => return self.hold(&piece[start..]),
+                Ok(None) => return self.buffer(&piece[start..]),
                 Err(refusal) => return Err(refusal),
             }
         }
@@ -213,7 +227,9 @@ impl<J: Judge> Machine<J> {
 
     /// Takes the next piece of the text.
     pub(crate) fn feed(&mut self, piece: &[u8]) -> Result<(), ReadFault>
-        ensures fed { (known_of : List (List ℕ) → J) → Adds J.rules known_of J.with_record → (b : List ℕ) → HasRead J.rules known_of self.old b → FeedsBy J.rules known_of (b ++ piece.now) result self.new }
+        ensures fed { (known_of : List (List ℕ) → J) → Adds J.rules known_of J.with_record
+            → (b : List ℕ) → HasRead J.rules known_of self.old b
+            → FeedsBy J.rules known_of (b ++ piece.now) result self.new }
         ensures refused { (fault : ReadFault) → Refuses self.old fault → (result ≡ Err fault) × Refuses self.new fault }
     {
         if let Some(fault) = self.refused {
@@ -231,12 +247,13 @@ impl<J: Judge> Machine<J> {
 
     /// Judges the last line, if no byte 10 ends it.
     fn end_text(&mut self) -> Result<(), Refusal>
-        ensures { (known_of : List (List ℕ) → J) → Adds J.rules known_of J.with_record → (b : List ℕ) → HasRead J.rules known_of self.old b → Finals J.rules known_of b result self.new }
+        ensures { (known_of : List (List ℕ) → J) → Adds J.rules known_of J.with_record
+            → (b : List ℕ) → HasRead J.rules known_of self.old b → Finals J.rules known_of b result self.new }
     {
         if self.comment {
             return self.end_line(&[]);
         }
-        if self.held.is_empty() {
+        if self.partial.is_empty() {
             return Ok(());
         }
         self.end_line(&[])
@@ -244,7 +261,8 @@ impl<J: Judge> Machine<J> {
 
     /// The judge after the whole text, which ends here.
     pub(crate) fn finish(mut self) -> Result<J, ReadFault>
-        ensures whole { (known_of : List (List ℕ) → J) → Adds J.rules known_of J.with_record → (b : List ℕ) → HasRead J.rules known_of self b → ClosesBy J.rules known_of b result }
+        ensures whole { (known_of : List (List ℕ) → J) → Adds J.rules known_of J.with_record
+            → (b : List ℕ) → HasRead J.rules known_of self b → ClosesBy J.rules known_of b result }
         ensures done { IfOk result (λ judge. J.rules.end_fault judge ≡ None) }
         ensures refused { (fault : ReadFault) → Refuses self fault → IsErrOf result fault }
     {
@@ -262,7 +280,8 @@ impl<J: Judge> Machine<J> {
 
     /// The judge, unless the machine has refused.
     pub(crate) fn judge(&self) -> Option<&J>
-        ensures { MatchOption result (is_some self.now.refused ≡ true) (λ judge. (self.now.refused ≡ None) × (judge.now ≡ self.now.known)) }
+        ensures { MatchOption result (is_some self.now.refused ≡ true)
+            (λ judge. (self.now.refused ≡ None) × (judge.now ≡ self.now.known)) }
     {
         match self.refused {
             None => Some(&self.judge),

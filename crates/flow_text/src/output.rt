@@ -157,7 +157,8 @@ fn push_pair<const N: usize>(
     amount: u64,
 )
     requires { array_vec_len line.old + 48 ≤ N }
-    ensures { line.new.items ≡ line.old.items ++ (letter ∷ codes " " ++ decimal src ++ codes " " ++ decimal dst ++ codes " " ++ decimal amount ++ codes "\n") }
+    ensures { line.new.items ≡ line.old.items ++ (letter ∷ codes " " ++ decimal src
+        ++ codes " " ++ decimal dst ++ codes " " ++ decimal amount ++ codes "\n") }
 {
     let mut bytes = [b'\n'; 48];
     let end = put_number(&mut bytes, amount, 47);

@@ -1,10 +1,10 @@
 //! The judge of the lines of a problem.
 ghost use Rattle.std.specs.Prelude.{◌≡◌, ◌≤◌, [], ◌∷◌, ◌++◌, List, ℕ, Some, None, true, false, length, IfOk, IfSome, MatchOption, MatchResult};
 ghost use Rattle.flow_text.specs.Tests.{first_failed};
-ghost use Rattle.flow_text.specs.Terminals.{is_marked};
-ghost use Rattle.flow_text.specs.TerminalMarks.{with_mark};
-ghost use Rattle.flow_text.specs.Problem.{Known, known_of, size_tests, problem_tests, mark_tests, node_tests, arc_tests, end_tests, problem_rules, instance_of};
-ghost use Rattle.flow_text.specs.ProblemReading.{size_of, node_of, arc_of, KeepsArc, known_with, with_node, with_problem_record, known_net};
+ghost use Rattle.flow_text.specs.Terminals.{is_marked, with_mark};
+ghost use Rattle.flow_text.specs.Problem.{Known, known_of, size_tests, mark_tests, node_tests, arc_tests, end_tests, problem_rules, instance_of};
+ghost use Rattle.flow_text.specs.ProblemReading.{problem_tests};
+ghost use Rattle.flow_text.specs.ProblemReading.{size_of, node_of, arc_of, KeepsArc, known_with, with_node, with_terminal, with_problem_record, known_net};
 ghost use Rattle.flow_text.specs.Reading.{Judges};
 
 use crate::faults::FaultCode;
@@ -47,10 +47,10 @@ fn size_in(others: Fields<'_>) -> Result<(u32, u32), FaultCode>
 #[tactic(auto, unfolding(crate::specs::Problem::mark_tests))]
 fn mark_in(others: Fields<'_>, nodes: u32, marks: &Terminals) -> Result<(u32, bool), FaultCode>
     ensures tests { (kind : List ℕ) → MatchResult result
-        (λ mark. (first_failed (mark_tests nodes marks.now (kind ∷ others.entry)) ≡ None)
+        (λ mark. (first_failed (mark_tests nodes marks.now.sources marks.now.sinks (kind ∷ others.entry)) ≡ None)
         × (mark.0 ≡ node_of (kind ∷ others.entry))
         × (with_mark marks.now mark.0 mark.1 ≡ with_node marks.now (kind ∷ others.entry)))
-        (λ e. first_failed (mark_tests nodes marks.now (kind ∷ others.entry)) ≡ Some e) }
+        (λ e. first_failed (mark_tests nodes marks.now.sources marks.now.sinks (kind ∷ others.entry)) ≡ Some e) }
     ensures least { IfOk result (λ mark. 1 ≤ mark.0) }
     ensures most { IfOk result (λ mark. mark.0 ≤ nodes) }
     ensures unmarked { IfOk result (λ mark. is_marked marks.now mark.0 ≡ false) }
@@ -92,7 +92,8 @@ impl Declared {
         requires nodes_least { FEWEST_NODES ≤ nodes }
         requires nodes_most { nodes ≤ MOST_NODES }
         requires arcs_most { arcs ≤ MOST_ARCS }
-        ensures { result ≡ record { nodes = nodes; declared = arcs; marks = record { sources = []; sinks = [] }; arcs = [] } }
+        ensures { result ≡
+            record { nodes = nodes; declared = arcs; marks = record { sources = []; sinks = [] }; arcs = [] } }
     {
         Declared {
             net: Network::new(alloc, nodes),
@@ -244,7 +245,7 @@ impl ProblemLines {
     /// Judges a node line.
     fn node_line(&mut self, others: Fields<'_>) -> Result<(), Refusal>
         ensures { (kind : List ℕ) → Judges (first_failed (node_tests self.old (kind ∷ others.entry)))
-            (record self.old { marks = with_node self.old.marks (kind ∷ others.entry) }) result self.new }
+            (with_terminal self.old (kind ∷ others.entry)) result self.new }
     {
         let Some(declared) = &mut self.declared else {
             return Err(Refusal::Code(FaultCode::ProblemLineMissing));

@@ -75,7 +75,8 @@ impl ProblemReader {
     pub fn net(&self) -> Option<&Network>
         ensures lent { MatchOption result (lent_net self.now ≡ None) (λ net. lent_net self.now ≡ Some net.now) }
         ensures most { IfSome result (λ net. length net.now.arcs ≤ MOST_ARCS) }
-        ensures ended { (b : List ℕ) → Reads self.now b → MatchOption result (known_net (known_of (ended b)) ≡ None) (λ net. known_net (known_of (ended b)) ≡ Some net.now) }
+        ensures ended { (b : List ℕ) → Reads self.now b → MatchOption result (known_net (known_of (ended b)) ≡ None)
+            (λ net. known_net (known_of (ended b)) ≡ Some net.now) }
     {
         match self.machine.judge() {
             None => None,

@@ -56,7 +56,8 @@ pub(crate) fn number_in(
     code: FaultCode,
 ) -> Result<u128, FaultCode>
     ensures { MatchResult result
-        (λ v. (first_failed (number_tests field.now least greatest code) ≡ None) × (v ≡ value_of field.now) × (least ≤ v) × (v ≤ greatest))
+        (λ v. (first_failed (number_tests field.now least greatest code) ≡ None) × (v ≡ value_of field.now)
+        × (least ≤ v) × (v ≤ greatest))
         (λ e. first_failed (number_tests field.now least greatest code) ≡ Some e) }
 {
     match number(field, greatest) {

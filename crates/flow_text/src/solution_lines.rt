@@ -1,7 +1,8 @@
 //! The judge of the lines of a solution.
 ghost use Rattle.std.specs.Prelude.{◌≡◌, ◌≤◌, [], ◌∷◌, ◌++◌, List, ℕ, Some, None, is_some, true, length, IfOk, MatchResult};
 ghost use Rattle.flow_text.specs.Tests.{first_failed};
-ghost use Rattle.flow_text.specs.Solution.{stated_of, value_tests, solution_tests, flow_tests, solution_rules, written_of};
+ghost use Rattle.flow_text.specs.Solution.{stated_of, value_tests, flow_tests, solution_rules, written_of};
+ghost use Rattle.flow_text.specs.SolutionReading.{solution_tests};
 ghost use Rattle.flow_text.specs.SolutionReading.{given_of, flow_of, KeepsLine, with_solution_record, written_in, IsWithinLimits};
 ghost use Rattle.flow_text.specs.Reading.{Judges};
 
@@ -45,7 +46,8 @@ impl Model for SolutionLines {
 
     ghost view = { λ s. record { nodes = s.nodes; value = s.value; lines = s.lines.items } };
 
-    ghost invariant = { λ s. IsWithinLimits s.nodes (written_of (record { nodes = s.nodes; value = s.value; lines = s.lines.items })) };
+    ghost invariant = { λ s. IsWithinLimits s.nodes
+        (written_of (record { nodes = s.nodes; value = s.value; lines = s.lines.items })) };
 }
 
 impl SolutionLines {

@@ -49,7 +49,8 @@ impl SolutionReader {
     /// of the line that goes on. Or `OutOfMemory`, where the memory for a line was refused. After an error every later call
     /// answers the same.
     pub fn feed(&mut self, piece: &[u8]) -> Result<(), ReadFault>
-        ensures fed { (nodes : ℕ) (b : List ℕ) → ReadsSolution nodes self.old b → FeedsSolution nodes (b ++ piece.now) result self.new }
+        ensures fed { (nodes : ℕ) (b : List ℕ) → ReadsSolution nodes self.old b
+            → FeedsSolution nodes (b ++ piece.now) result self.new }
         ensures refused { (fault : ReadFault) → Refuses self.old fault → (result ≡ Err fault) × Refuses self.new fault }
     {
         self.machine.feed(piece)
@@ -61,8 +62,10 @@ impl SolutionReader {
     ///
     /// The first fault of the text, or `OutOfMemory`.
     pub fn finish(self) -> Result<Solution, ReadFault>
-        ensures whole { (nodes : ℕ) (b : List ℕ) → ReadsSolution nodes self b → FinishesSolution (solution b nodes) result }
-        ensures limits { (nodes : ℕ) (b : List ℕ) → ReadsSolution nodes self b → IfOk result (λ found. IsWithinLimits nodes (written_in found)) }
+        ensures whole { (nodes : ℕ) (b : List ℕ) → ReadsSolution nodes self b
+            → FinishesSolution (solution b nodes) result }
+        ensures limits { (nodes : ℕ) (b : List ℕ) → ReadsSolution nodes self b
+            → IfOk result (λ found. IsWithinLimits nodes (written_in found)) }
         ensures refused { (fault : ReadFault) → Refuses self fault → IsErrOf result fault }
     {
         match self.machine.finish() {
@@ -75,7 +78,8 @@ impl SolutionReader {
     pub fn lines(&self) -> &[FlowLine]
         ensures lent { result.now ≡ lent_lines self.now }
         ensures most { length result.now ≤ MOST_FLOW_LINES }
-        ensures ended { (nodes : ℕ) (b : List ℕ) → ReadsSolution nodes self.now b → result.now ≡ (stated_of nodes (ended b)).lines }
+        ensures ended { (nodes : ℕ) (b : List ℕ) → ReadsSolution nodes self.now b
+            → result.now ≡ (stated_of nodes (ended b)).lines }
     {
         match self.machine.judge() {
             None => &[],

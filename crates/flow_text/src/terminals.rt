@@ -1,9 +1,7 @@
 //! The terminals that the node lines name.
 ghost use Rattle.std.specs.Prelude.{◌≡◌, ◌++◌, [], OnOk, OnErr, false};
 ghost use Rattle.flow_net.specs.Limits.{AreDistinct};
-ghost use Rattle.flow_text.specs.Terminals.{is_marked};
-ghost use Rattle.flow_text.specs.TerminalMarks.{with_mark};
-ghost use Rattle.flow_text.specs.Problem.{lacks_terminals};
+ghost use Rattle.flow_text.specs.Terminals.{is_marked, lacks_one, with_mark};
 
 use std::alloc::{AllocError, Global};
 use std::collections::BTreeSet;
@@ -29,7 +27,8 @@ impl Model for Terminals {
     ghost view = { λ t. record { sources = t.sources.items; sinks = t.sinks.items } };
 
     ghost invariant = { λ t. record {
-      all : (q : ℕ) → sorted.contains nat_cmp t.all q ≡ is_marked (record { sources = t.sources.items; sinks = t.sinks.items }) q;
+      all : (q : ℕ) → sorted.contains nat_cmp t.all q
+          ≡ is_marked (record { sources = t.sources.items; sinks = t.sinks.items }) q;
       distinct : AreDistinct (t.sources.items ++ t.sinks.items);
     } };
 }
@@ -55,7 +54,7 @@ impl Terminals {
 
     /// Whether there is no source or no sink.
     pub(crate) fn lacks_one(&self) -> bool
-        ensures { result ≡ lacks_terminals self.now }
+        ensures { result ≡ lacks_one self.now }
     {
         self.sources.is_empty() || self.sinks.is_empty()
     }

@@ -33,7 +33,8 @@ fn leading_digits(text: &[u8], start: usize) -> (u64, usize)
 #[inline(always)]
 fn number_until(text: &[u8], start: usize, end: u8) -> Option<(u64, usize)>
     requires { start + SHORT_DIGITS + 1 ≤ length text.now }
-    ensures { IfSome result (λ found. (start ≤ found.1) × (found.1 ≤ start + SHORT_DIGITS) × IsNumberUntil (drop start text.now) end found.0 (found.1 - start)) }
+    ensures { IfSome result (λ found. (start ≤ found.1) × (found.1 ≤ start + SHORT_DIGITS)
+        × IsNumberUntil (drop start text.now) end found.0 (found.1 - start)) }
 {
     let (value, at) = leading_digits(text, start);
     if at == start || text[at] != end {

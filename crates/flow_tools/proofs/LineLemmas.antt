@@ -19,7 +19,7 @@ line_if-true p line_of x e = rw (← e) refl
 pub line_if-false : {X : Type 0} (p : X → Bool) (line_of : X → List ℕ) (x : X) → false ≡ p x → line_if p line_of x ≡ []
 line_if-false p line_of x e = rw (← e) refl
 
--- Behind what was held first, the lines of the first i items were sent or are held.
+-- Behind what waited first, the lines of the first i items were sent or wait.
 pub record HasSent {X : Type 0} (line_of : X → List ℕ) (xs : List X) (i : ℕ) (before after : Option (List ℕ))
     (held_before held_after : List ℕ) : Type 0 where
   pub sends : Sends before after held_after (held_before ++ flat_map line_of (take i xs))
@@ -39,19 +39,19 @@ module _ {X : Type 0} (line_of : X → List ℕ) (xs : List X) (i : ℕ) (d : X)
       ∙ flat_map-append line_of (take (i + 1) xs) (drop (i + 1) xs)
       ∙ ap (λ l. l ++ flat_map line_of (drop (i + 1) xs)) line_more
 
-module _ {X : Type 0} (line_of : X → List ℕ) (xs : List X) (i : ℕ) (a b : Option (List ℕ)) (first held : List ℕ)
-    (so_far : HasSent line_of xs i a b first held) where
-  -- the next line is held
+module _ {X : Type 0} (line_of : X → List ℕ) (xs : List X) (i : ℕ) (a b : Option (List ℕ)) (first waiting : List ℕ)
+    (so_far : HasSent line_of xs i a b first waiting) where
+  -- the next line waits
   pub lines_more : (d : X) (c : Option (List ℕ)) (more line : List ℕ) → i < length xs → line ≡ line_of (get_or xs i d)
-      → Sends b c more (held ++ line) → HasSent line_of xs (i + 1) a c first more
+      → Sends b c more (waiting ++ line) → HasSent line_of xs (i + 1) a c first more
   lines_more d c more line within same s =
       let e : first ++ flat_map line_of (take (i + 1) xs) ≡ (first ++ flat_map line_of (take i xs)) ++ line =
       ap (λ l. first ++ l) (line_more line_of xs i d within ∙ ap (λ l. flat_map line_of (take i xs) ++ l) (sym same))
       ∙ sym (append_assoc first (flat_map line_of (take i xs)) line) in
-      record { sends = rw e (sends_more a b c held more _ line so_far.sends s) }
+      record { sends = rw e (sends_more a b c waiting more _ line so_far.sends s) }
 
   -- the next item has no line
-  pub lines_skip : (d : X) → i < length xs → line_of (get_or xs i d) ≡ [] → HasSent line_of xs (i + 1) a b first held
+  pub lines_skip : (d : X) → i < length xs → line_of (get_or xs i d) ≡ [] → HasSent line_of xs (i + 1) a b first waiting
   lines_skip d within none =
       let e : flat_map line_of (take (i + 1) xs) ≡ flat_map line_of (take i xs) =
       line_more line_of xs i d within ∙ ap (λ l. flat_map line_of (take i xs) ++ l) none
@@ -60,7 +60,7 @@ module _ {X : Type 0} (line_of : X → List ℕ) (xs : List X) (i : ℕ) (a b : 
 
   -- a stream fails at the next line
   pub lines_stop : (d : X) (c : Option (List ℕ)) (line : List ℕ) → i < length xs → line ≡ line_of (get_or xs i d)
-      → Stops b c (held ++ line) → Stops a c (first ++ flat_map line_of xs)
+      → Stops b c (waiting ++ line) → Stops a c (first ++ flat_map line_of xs)
   lines_stop d c line within same s =
       let done = flat_map line_of (take i xs) in
       let rest = flat_map line_of (drop (i + 1) xs) in
@@ -68,10 +68,10 @@ module _ {X : Type 0} (line_of : X → List ℕ) (xs : List X) (i : ℕ) (a b : 
       let e : first ++ flat_map line_of xs ≡ ((first ++ done) ++ line) ++ rest =
       ap (λ l. first ++ l) split ∙ sym (append_assoc first (done ++ line) rest)
       ∙ ap (λ l. l ++ rest) (sym (append_assoc first done line)) in
-      stops_early a c ((first ++ done) ++ line) rest _ (stops_at a b c held line (first ++ done) so_far.sends s) e
+      stops_early a c ((first ++ done) ++ line) rest _ (stops_at a b c waiting line (first ++ done) so_far.sends s) e
 
-  -- all lines are sent or held
-  pub lines_end : length xs ≤ i → Sends a b held (first ++ flat_map line_of xs)
+  -- all lines are sent or wait
+  pub lines_end : length xs ≤ i → Sends a b waiting (first ++ flat_map line_of xs)
   lines_end h = rw (take_all i xs h) at so_far.sends
 
 -- the lines of the items that pass a test

@@ -19,7 +19,7 @@ use Rattle.flow_net.specs.declared.limits.TheConstants.{MOST_ARCS}
 use Rattle.flow_text.specs.declared.limits.TheConstants.{GREATEST_VALUE}
 use Rattle.flow_text.proofs.AcceptedLemmas.{accepted_problem}
 use Rattle.flow_tools.specs.SolutionFlows.{line_flow}
-use Rattle.flow_tools.specs.Verdicts.{IsRight, IsVerdict}
+use Rattle.flow_tools.specs.Verdicts.{IsRight, IsVerdict, IsBalanced}
 use Rattle.flow_tools.specs.ArcShares.{Carries}
 use Rattle.flow_tools.specs.SolvedTexts.{carried_line, written_flow, SolvedIsOptimal}
 use Rattle.flow_tools.proofs.LineSums.{line_flow-cons}
@@ -58,14 +58,13 @@ written_right : (p : Instance) (xs : List ℕ) (value : ℕ) → IsFeasible p.ne
 written_right p xs value f v =
     let lines = map carried_line (zip p.net.arcs xs) in
     let c : Carries p.net lines xs = λ t. written_carries t p.net.arcs xs in
-    record {
-      within = carried_within p.net lines xs f.fits c;
-      balanced = λ w at.
-          sym (c (λ src dst. just w dst)) ∙ f.conserved w at.0.0 at.0.1 at.1 at.2 ∙ c (λ src dst. just w src);
-      valued =
-          positive value _ _
-          (sym (c (λ src dst. one_of p.sources src)) ∙ v ∙ ap (λ k. value + k) (c (λ src dst. one_of p.sources dst)));
-    }
+    let balanced : IsBalanced p lines =
+    λ w at. sym (c (λ src dst. just w dst)) ∙ f.conserved w at.0.0 at.0.1 at.1 at.2 ∙ c (λ src dst. just w src) in (
+      carried_within p.net lines xs f.fits c,
+      balanced,
+      positive value _ _
+          (sym (c (λ src dst. one_of p.sources src)) ∙ v ∙ ap (λ k. value + k) (c (λ src dst. one_of p.sources dst))),
+    )
 
 -- of two greatest values neither is greater
 greatest_one : (net : Net) (s t : ℕ → Bool) (j k : ℕ) → IsGreatest net s t j → IsGreatest net s t k → j ≤ k
@@ -74,9 +73,9 @@ greatest_one net s t j k g h = omega (arith, g.reached.2, h.most g.reached.0 g.r
 -- no other verdict than that it is optimal
 only_optimal : (p : Instance) (w : Written) (k : ℕ) (verdict : Verdict) → IsVerdict p w false (Optimal k)
     → IsVerdict p w false verdict → verdict ≡ Optimal k
-only_optimal p w k (Over src dst flow cap) o v = absurd (omega (arith, v.0.over, o.0.within src dst))
-only_optimal p w k (Unbalanced node into out) o v = absurd (v.1.unbalanced (o.0.balanced node v.1.inner))
-only_optimal p w k (Value given found) o v = absurd (v.2 (ap pos v.3 ∙ o.0.valued ∙ sym v.4))
+only_optimal p w k (Over src dst flow cap) o v = absurd (omega (arith, v.0.over, o.0.0 src dst))
+only_optimal p w k (Unbalanced node into out) o v = absurd (v.1.unbalanced (o.0.1 node v.1.inner))
+only_optimal p w k (Value given found) o v = absurd (v.2 (ap pos v.3 ∙ o.0.2 ∙ sym v.4))
 only_optimal p w k (Feasible value) o v = let never = v.1 in cc
 only_optimal p w k (NotMaximal value) o v =
     absurd (omega (arith, greatest_one p.net (one_of p.sources) (one_of p.sinks) v.3.0 k v.3.1 o.3, v.3.2, v.2, o.2))

@@ -217,10 +217,10 @@ carried_told p w only (Over src dst flow cap) xs n l f c v =
 carried_told p w only (Unbalanced node into out) xs n l f c v =
     ((λ e. cc), λ s. absurd (v.1.unbalanced (feasible_balanced p w n l s node v.1.inner)))
 carried_told p w only (Value given found) xs n l f c v = ((λ e. carried_solution p w.lines xs f c v.1), λ s. refl)
-carried_told p w only (Feasible value) xs n l f c v = ((λ e. carried_solution p w.lines xs f c v.0.balanced), λ s. refl)
+carried_told p w only (Feasible value) xs n l f c v = ((λ e. carried_solution p w.lines xs f c v.0.1), λ s. refl)
 carried_told p w only (NotMaximal value) xs n l f c v =
-    ((λ e. carried_solution p w.lines xs f c v.0.balanced), λ s. refl)
-carried_told p w only (Optimal value) xs n l f c v = ((λ e. carried_solution p w.lines xs f c v.0.balanced), λ s. refl)
+    ((λ e. carried_solution p w.lines xs f c v.0.1), λ s. refl)
+carried_told p w only (Optimal value) xs n l f c v = ((λ e. carried_solution p w.lines xs f c v.0.1), λ s. refl)
 
 -- the same of a result that may be want of memory
 pub result_told : (p : Instance) (w : Written) (feasible_only : Bool) (r : Result Verdict OutOfMemory) (xs : List ℕ)

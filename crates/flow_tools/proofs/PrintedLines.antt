@@ -19,7 +19,8 @@ use Rattle.flow_text.specs.Tests.{first_failed}
 use Rattle.flow_text.specs.Rules.{fault_of, first_fault, whole_fault}
 use Rattle.flow_text.specs.Output.{solution_line, flow_line, arc_flow_line, solve_text}
 use Rattle.flow_text.specs.Reading.{with_line}
-use Rattle.flow_text.specs.Solution.{Stated, stated_of, solution_rules, solution_tests, value_tests, flow_tests}
+use Rattle.flow_text.specs.Solution.{Stated, stated_of, solution_rules, value_tests, flow_tests}
+use Rattle.flow_text.specs.SolutionReading.{solution_tests}
 use Rattle.flow_text.specs.Solution.{solution}
 use Rattle.flow_text.specs.SolutionReading.{given_of, flow_of, with_solution_record}
 use Rattle.flow_text.specs.declared.solutions.FlowLine.{FlowLine}

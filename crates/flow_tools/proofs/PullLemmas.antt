@@ -33,31 +33,19 @@ module _ (early : List ℕ → Option (ℕ × FaultCode)) (fed : List ℕ → Ty
     (so_far : IsReading fed before mid fb fm) where
   -- what was fed so far has no early fault, with a piece that isn't fed yet, and without one
   pass_of : (last : List ℕ) → length last ≤ 4096 → IsOnePass early (so_far.text ++ last)
-  pass_of last short = record {
-    front = so_far.text;
-    last = last;
-    joined = refl;
-    short = short;
-    quiet = quiet so_far.text so_far.has_text;
-  }
+  pass_of last short = (so_far.text, last, refl, short, quiet so_far.text so_far.has_text)
 
   pass_of_all : IsOnePass early so_far.text
-  pass_of_all = record {
-    front = so_far.text;
-    last = [];
-    joined = search append-nil;
-    short = lit≤ tt;
-    quiet = quiet so_far.text so_far.has_text;
-  }
+  pass_of_all = (so_far.text, [], search append-nil, lit≤ tt, quiet so_far.text so_far.has_text)
 
   -- the next piece is fed
   pub goes_on : (fed_more : List ℕ → Type 0) (piece : List ℕ) → Consumes mid after piece → fa ≡ fm
       → ((b : List ℕ) → fed b → fed_more (b ++ piece)) → IsReading fed_more before after fb fa
-  goes_on fed_more piece pulled held feeds = record {
+  goes_on fed_more piece pulled unfailed feeds = record {
     text = so_far.text ++ piece;
     delivered = Consumes-trans before mid after so_far.text piece so_far.delivered pulled;
     has_text = feeds so_far.text so_far.has_text;
-    kept = held ∙ so_far.kept;
+    kept = unfailed ∙ so_far.kept;
   }
 
   -- a pull fails
@@ -78,21 +66,21 @@ module _ (early : List ℕ → Option (ℕ × FaultCode)) (fed : List ℕ → Ty
       → ((b : List ℕ) → fed b → FeedsOn (early (b ++ piece)) (fed_more (b ++ piece)) (Err fault))
       → result ≡ stop_for solution fault
       → IsRead {T = T} early has_fault accepts (stream before after fb fa) solution (Err result)
-  refused has_fault accepts solution (Fault line code) result fed_more piece short pulled held fails e = rw e (record {
+  refused has_fault accepts solution (Fault line code) result fed_more piece short pulled unfailed fails e = rw e (record {
     text = so_far.text ++ piece;
     delivered = Consumes-trans before mid after so_far.text piece so_far.delivered pulled;
     one_pass = pass_of piece short;
-    judged = (held ∙ so_far.kept, refl, inl (fails so_far.text so_far.has_text));
+    judged = (unfailed ∙ so_far.kept, refl, inl (fails so_far.text so_far.has_text));
   })
-  refused has_fault accepts solution OutOfMemory result fed_more piece short pulled held fails e = rw e (record {
+  refused has_fault accepts solution OutOfMemory result fed_more piece short pulled unfailed fails e = rw e (record {
     text = so_far.text ++ piece;
     delivered = Consumes-trans before mid after so_far.text piece so_far.delivered pulled;
     one_pass = pass_of piece short;
-    judged = held ∙ so_far.kept;
+    judged = unfailed ∙ so_far.kept;
   })
 
   module _ {T : Type 0} (has_fault : List ℕ → ℕ × FaultCode → Type 0) (accepts : List ℕ → T → Type 0) (solution : Bool)
-      (pulled : Consumes mid after []) (at_end : IsAtEnd after) (held : fa ≡ fm) where
+      (pulled : Consumes mid after []) (at_end : IsAtEnd after) (unfailed : fa ≡ fm) where
     delivered_all : Consumes before after so_far.text
     delivered_all = rw append-nil at (Consumes-trans before mid after so_far.text [] so_far.delivered pulled)
 
@@ -103,7 +91,7 @@ module _ (early : List ℕ → Option (ℕ × FaultCode)) (fed : List ℕ → Ty
       text = so_far.text;
       delivered = delivered_all;
       one_pass = pass_of_all;
-      judged = ((held ∙ so_far.kept, at_end), finishes so_far.text so_far.has_text);
+      judged = ((unfailed ∙ so_far.kept, at_end), finishes so_far.text so_far.has_text);
     }
 
     -- the input ends, and the text is refused
@@ -114,12 +102,12 @@ module _ (early : List ℕ → Option (ℕ × FaultCode)) (fed : List ℕ → Ty
       text = so_far.text;
       delivered = delivered_all;
       one_pass = pass_of_all;
-      judged = (held ∙ so_far.kept, refl, inr ((held ∙ so_far.kept, at_end), finishes so_far.text so_far.has_text));
+      judged = (unfailed ∙ so_far.kept, refl, inr ((unfailed ∙ so_far.kept, at_end), finishes so_far.text so_far.has_text));
     })
     refused_at_end OutOfMemory result finishes e =
         rw e (record {
           text = so_far.text;
           delivered = delivered_all;
           one_pass = pass_of_all;
-          judged = held ∙ so_far.kept;
+          judged = unfailed ∙ so_far.kept;
         })

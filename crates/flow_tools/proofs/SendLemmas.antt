@@ -13,60 +13,60 @@ pub sends_start : (a : Option (List ℕ)) (text : List ℕ) → Sends a a text t
 sends_start a text = record { sent = []; taken = Appends-nil a; whole = refl }
 
 -- some of what waits is taken
-pub sends_taken : (a b c : Option (List ℕ)) (held text : List ℕ) (n : ℕ) → Sends a b held text
-    → Appends b c (take n held) → Sends a c (drop n held) text
-sends_taken a b c held text n s p = record {
-  sent = s.sent ++ take n held;
-  taken = Appends-trans a b c s.sent (take n held) s.taken p;
+pub sends_taken : (a b c : Option (List ℕ)) (waiting text : List ℕ) (n : ℕ) → Sends a b waiting text
+    → Appends b c (take n waiting) → Sends a c (drop n waiting) text
+sends_taken a b c waiting text n s p = record {
+  sent = s.sent ++ take n waiting;
+  taken = Appends-trans a b c s.sent (take n waiting) s.taken p;
   whole =
-      s.whole ∙ ap (λ l. s.sent ++ l) (sym (take-append-drop n held))
-      ∙ sym (append_assoc s.sent (take n held) (drop n held));
+      s.whole ∙ ap (λ l. s.sent ++ l) (sym (take-append-drop n waiting))
+      ∙ sym (append_assoc s.sent (take n waiting) (drop n waiting));
 }
 
 -- what was taken so far is a beginning of the text
-pub sends_stopped : (a b : Option (List ℕ)) (held text : List ℕ) → Sends a b held text → Stops a b text
-sends_stopped a b held text s = record { sent = s.sent; taken = s.taken; part = (held, s.whole) }
+pub sends_stopped : (a b : Option (List ℕ)) (waiting text : List ℕ) → Sends a b waiting text → Stops a b text
+sends_stopped a b waiting text s = record { sent = s.sent; taken = s.taken; part = (waiting, s.whole) }
 
--- the same, of `&held[n..]`
-pub sends_rest : (a b c : Option (List ℕ)) (held text : List ℕ) (n : ℕ) → Sends a b held text
-    → Appends b c (take n held) → Sends a c (take (length held - n) (drop n held)) text
-sends_rest a b c held text n s p =
-    let e : take (length held - n) (drop n held) ≡ drop n held = between_to_end held n (length held) (omega arith) in
-    rw e (sends_taken a b c held text n s p)
+-- the same, of `&waiting[n..]`
+pub sends_rest : (a b c : Option (List ℕ)) (waiting text : List ℕ) (n : ℕ) → Sends a b waiting text
+    → Appends b c (take n waiting) → Sends a c (take (length waiting - n) (drop n waiting)) text
+sends_rest a b c waiting text n s p =
+    let e : take (length waiting - n) (drop n waiting) ≡ drop n waiting = between_to_end waiting n (length waiting) (omega arith) in
+    rw e (sends_taken a b c waiting text n s p)
 
--- a line more is held
-pub sends_more : (a b c : Option (List ℕ)) (held more text line : List ℕ) → Sends a b held text
-    → Sends b c more (held ++ line) → Sends a c more (text ++ line)
-sends_more a b c held more text line s r = record {
+-- a line more waits
+pub sends_more : (a b c : Option (List ℕ)) (waiting more text line : List ℕ) → Sends a b waiting text
+    → Sends b c more (waiting ++ line) → Sends a c more (text ++ line)
+sends_more a b c waiting more text line s r = record {
   sent = s.sent ++ r.sent;
   taken = Appends-trans a b c s.sent r.sent s.taken r.taken;
   whole =
-      ap (λ l. l ++ line) s.whole ∙ append_assoc s.sent held line ∙ ap (λ l. s.sent ++ l) r.whole
+      ap (λ l. l ++ line) s.whole ∙ append_assoc s.sent waiting line ∙ ap (λ l. s.sent ++ l) r.whole
       ∙ sym (append_assoc s.sent r.sent more);
 }
 
--- all that was held is taken
-pub sends_all : (a b c : Option (List ℕ)) (held text : List ℕ) → Sends a b held text → Appends b c held
+-- all that waited is taken
+pub sends_all : (a b c : Option (List ℕ)) (waiting text : List ℕ) → Sends a b waiting text → Appends b c waiting
     → Appends a c text
-sends_all a b c held text s p = rw s.whole (Appends-trans a b c s.sent held s.taken p)
+sends_all a b c waiting text s p = rw s.whole (Appends-trans a b c s.sent waiting s.taken p)
 
--- a stream fails at some of what was held
-pub stops_in : (a b c : Option (List ℕ)) (held text : List ℕ) → Sends a b held text → Stops b c held → Stops a c text
-stops_in a b c held text s r = record {
+-- a stream fails at some of what waited
+pub stops_in : (a b c : Option (List ℕ)) (waiting text : List ℕ) → Sends a b waiting text → Stops b c waiting → Stops a c text
+stops_in a b c waiting text s r = record {
   sent = s.sent ++ r.sent;
   taken = Appends-trans a b c s.sent r.sent s.taken r.taken;
   part = (r.part.0, s.whole ∙ ap (λ l. s.sent ++ l) r.part.1 ∙ sym (append_assoc s.sent r.sent r.part.0));
 }
 
 -- a stream fails at some of what follows what was taken
-pub stops_at : (a b c : Option (List ℕ)) (held line before : List ℕ) → Sends a b held before → Stops b c (held ++ line)
+pub stops_at : (a b c : Option (List ℕ)) (waiting line before : List ℕ) → Sends a b waiting before → Stops b c (waiting ++ line)
     → Stops a c (before ++ line)
-stops_at a b c held line before s r = record {
+stops_at a b c waiting line before s r = record {
   sent = s.sent ++ r.sent;
   taken = Appends-trans a b c s.sent r.sent s.taken r.taken;
   part = (
     r.part.0,
-    ap (λ l. l ++ line) s.whole ∙ append_assoc s.sent held line ∙ ap (λ l. s.sent ++ l) r.part.1
+    ap (λ l. l ++ line) s.whole ∙ append_assoc s.sent waiting line ∙ ap (λ l. s.sent ++ l) r.part.1
         ∙ sym (append_assoc s.sent r.sent r.part.0),
   );
 }
@@ -85,16 +85,16 @@ pub on_err : {T E : Type 0} {P : Type 0} (r : Result T E) → P → OnErr r P
 on_err (Ok x) p = tt
 on_err (Err e) p = p
 
--- what was held is put: all of the text was taken, or a beginning of it
-put_ok : {E : Type 0} (a b c : Option (List ℕ)) (held text bytes : List ℕ) (r : Result (Unit {0}) E)
-    → Sends a b held text → bytes ≡ held → OnOk r (Appends b c bytes) → OnOk r (Appends a c text)
-put_ok a b c held text bytes (Ok x) s e p = sends_all a b c held text s (rw (← e) p)
-put_ok a b c held text bytes (Err x) s e p = tt
+-- what waited is put: all of the text was taken, or a beginning of it
+put_ok : {E : Type 0} (a b c : Option (List ℕ)) (waiting text bytes : List ℕ) (r : Result (Unit {0}) E)
+    → Sends a b waiting text → bytes ≡ waiting → OnOk r (Appends b c bytes) → OnOk r (Appends a c text)
+put_ok a b c waiting text bytes (Ok x) s e p = sends_all a b c waiting text s (rw (← e) p)
+put_ok a b c waiting text bytes (Err x) s e p = tt
 
-put_err : {E : Type 0} (a b c : Option (List ℕ)) (held text bytes : List ℕ) (r : Result (Unit {0}) E)
-    → Sends a b held text → bytes ≡ held → OnErr r (Stops b c bytes) → OnErr r (Stops a c text)
-put_err a b c held text bytes (Ok x) s e p = tt
-put_err a b c held text bytes (Err x) s e p = stops_in a b c held text s (rw (← e) p)
+put_err : {E : Type 0} (a b c : Option (List ℕ)) (waiting text bytes : List ℕ) (r : Result (Unit {0}) E)
+    → Sends a b waiting text → bytes ≡ waiting → OnErr r (Stops b c bytes) → OnErr r (Stops a c text)
+put_err a b c waiting text bytes (Ok x) s e p = tt
+put_err a b c waiting text bytes (Err x) s e p = stops_in a b c waiting text s (rw (← e) p)
 
 -- a flag over two calls
 pub flags_on : {E : Type 0} (f g h : Bool) (r : Result (Unit {0}) E) → g ≡ f → Flags g h r → Flags f h r

@@ -62,19 +62,13 @@ verdict_status (Feasible value) = 0
 verdict_status (Optimal value) = 0
 verdict_status _ = 1
 
--- What `check` puts for an accepted text of a solution: the verdict on it.
-pub record IsCheckText (p : Instance) (q : List ℕ) (feasible_only : Bool) (text : List ℕ) (status : ℕ) : Type 0 where
-  pub written : Written
-  pub accepted : solution q p.net.nodes ≡ Ok written
-  pub verdict : Verdict
-  pub verdict_is : IsVerdict p written feasible_only verdict
-  pub text_is : text ≡ verdict_line verdict
-  pub status_is : status ≡ verdict_status verdict
-
--- the answer of a job to a problem: a text, and the status of the run; `check` alone has to do with a solution's text q
+-- the answer of a job to a problem: a text, and the status of the run; `check` alone has to do with a solution's text q,
+-- and puts the verdict on what it says
 abbrev pub IsAnswer : Job → Instance → List ℕ → List ℕ → ℕ → Type 0
 IsAnswer (Solve value_only) p q text status = IsSolveText p value_only text × (status ≡ 0)
 IsAnswer (Cut arcs sink) p q text status = IsCutText p arcs sink text × (status ≡ 0)
 IsAnswer (Connect undirected pair) p q text status =
     (value : ℕ) × IsConnectivityOf p undirected pair value × (text ≡ connect_line value) × (status ≡ 0)
-IsAnswer (Check feasible_only) p q text status = IsCheckText p q feasible_only text status
+IsAnswer (Check feasible_only) p q text status =
+    (written : Written) × (verdict : Verdict) × (solution q p.net.nodes ≡ Ok written)
+    × IsVerdict p written feasible_only verdict × (text ≡ verdict_line verdict) × (status ≡ verdict_status verdict)

@@ -37,10 +37,8 @@ pub record IsFirstUnbalanced (p : Instance) (lines : List FlowLine) (node : ℕ)
   pub least : (v : ℕ) → v < node → IsInner p v → IsBalancedAt lines v
 
 -- the flow lines are those of a feasible flow, and VALUE is its value
-pub record IsRight (p : Instance) (w : Written) : Type 0 where
-  pub within : IsWithinCapacities p.net w.lines
-  pub balanced : IsBalanced p w.lines
-  pub valued : pos w.value ≡ net_outflow p w.lines
+abbrev pub IsRight : Instance → Written → Type 0
+IsRight p w = IsWithinCapacities p.net w.lines × IsBalanced p w.lines × (pos w.value ≡ net_outflow p w.lines)
 
 -- the verdict: the first that applies
 abbrev pub IsVerdict : Instance → Written → Bool → Verdict → Type 0

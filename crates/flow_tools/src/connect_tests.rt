@@ -12,7 +12,7 @@ use std::alloc::Global;
 const SETS: [u32; 9] = [1, 2, 4, 8, 16, 32, 64, 128, 256];
 
 /// Whether a node is in a set.
-fn holds(set: u32, node: u32) -> bool {
+fn contains(set: u32, node: u32) -> bool {
     (set >> ((node % 16) as u32)) & 1 == 1
 }
 
@@ -21,7 +21,7 @@ fn leaving(net: &Network, set: u32) -> u64 {
     let mut count = 0u64;
     for i in 0..net.len() {
         let arc = net.arc(i);
-        if holds(set, arc.src) && !holds(set, arc.dst) {
+        if contains(set, arc.src) && !contains(set, arc.dst) {
             count = count.saturating_add(1);
         }
     }

@@ -2,7 +2,8 @@
 ghost use Rattle.std.specs.Prelude.{◌≡◌, ◌≤◌, ◌++◌, [], length, filter};
 ghost use Rattle.std.specs.List.{flat_map, zip};
 ghost use Rattle.flow_net.specs.Cuts.{leaves};
-ghost use Rattle.flow_text.specs.Output.{arc_flow_line, arc_line, node_line, nodes_inside, solution_line, solve_text, cut_text};
+ghost use Rattle.flow_text.specs.Output.{arc_flow_line, arc_line, node_line, solution_line, solve_text, cut_text};
+ghost use Rattle.flow_tools.specs.Sides.{nodes_inside};
 ghost use Rattle.flow_tools.specs.Sides.{side_of};
 ghost use Rattle.flow_tools.specs.Streams.{over};
 ghost use Rattle.flow_tools.specs.Sending.{IsGathered, IsPut};

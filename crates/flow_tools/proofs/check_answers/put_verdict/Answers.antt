@@ -16,14 +16,7 @@ returns-in-Err-put_all g c q accepted =
         (
           verdict_line v,
           verdict_status v,
-          record {
-            written = _;
-            accepted = accepted;
-            verdict = v;
-            verdict_is = c.in-Ok.ensures.verdict;
-            text_is = refl;
-            status_is = refl;
-          },
+          (_, v, accepted, c.in-Ok.ensures.verdict, refl, refl),
           stops.part,
         ),
       );

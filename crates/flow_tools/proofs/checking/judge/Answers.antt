@@ -26,7 +26,7 @@ returns-then-branch c =
     let right = subst
     (λ o. MatchOption o (IsRight p w) (λ verdict. (feasible_only : Bool) → IsVerdict p w feasible_only verdict))
     c.in_default.is c.in_ok-verdict.ensures in
-    let value = carried_value p w.lines c.args.flow.now.flows w.value c.requires.carries right.valued in (
+    let value = carried_value p w.lines c.args.flow.now.flows w.value c.requires.carries right.2 in (
       right,
       c.if-feasible_only.false,
       refl,
@@ -41,6 +41,6 @@ returns-else-branch c =
     let right = subst
     (λ o. MatchOption o (IsRight p w) (λ verdict. (feasible_only : Bool) → IsVerdict p w feasible_only verdict))
     c.in_default.is c.in_ok-verdict.ensures in
-    let value = carried_value p w.lines c.args.flow.now.flows w.value c.requires.carries right.valued in
+    let value = carried_value p w.lines c.args.flow.now.flows w.value c.requires.carries right.2 in
     let less = c.in_ok-is_greatest.ensures.less c.if-branch.false in
     (right, c.if-feasible_only.false, refl, (less.0, less.1, less.2 w.value value))

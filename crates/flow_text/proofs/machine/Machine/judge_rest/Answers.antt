@@ -15,13 +15,13 @@ above n m h = elim (cases_lt m n) [ inl lt ↦ lt | inr le ↦ absurd (true≢fa
 
 pub returns-in-Err : goal.returns-in-Err
 returns-in-Err g c =
-    let long : LONGEST_LINE < length c.self.inside.held.items + length c.args.tail.now =
+    let long : LONGEST_LINE < length c.self.inside.partial.items + length c.args.tail.now =
     above _ LONGEST_LINE c.in-Err.ensures.variant.1 in
     rw (← c.self.view_is) (record {
       plain = c.if-self.false;
       counts = refl;
       tells =
-          of_long g.J.Judge.rules _ _ (comment-append c.self.inside.held.items c.args.tail.now
+          of_long g.J.Judge.rules _ _ (comment-append c.self.inside.partial.items c.args.tail.now
           (some _ c.if-is_empty.ensures) ∙ c.self.invariant.plain)
           (rw length-append long);
     })

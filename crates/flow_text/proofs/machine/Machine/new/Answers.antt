@@ -6,4 +6,4 @@ use Rattle.flow_text.proofs.machine.Machine.new.Goals as goal
 pub returns : goal.returns
 unfolding ended rest early_fault first_fault
 returns g c = λ known_of is.
-    record { going = refl; counts = refl; knows = is; in_comment = refl; holds = c.new.ensures; fine = refl }
+    record { going = refl; counts = refl; knows = is; in_comment = refl; buffered = c.new.ensures; fine = refl }

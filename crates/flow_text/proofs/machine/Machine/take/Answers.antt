@@ -22,11 +22,11 @@ loop-at-preserved g c =
 pub returns-in-Ok-None : goal.returns-in-Ok-None
 returns-in-Ok-None g c = λ known_of adds b r.
     let none = rw (c.in-Ok-None.field-0-is, take_rest c.args.piece.now c.loop-at.start) at c.in-Ok-None.ensures in
-    let held = rw (take_rest c.args.piece.now c.loop-at.start, none.1) at c.hold.ensures in
-    subst (λ (text : List ℕ). Takes g.J.Judge.rules known_of text c.hold.result c.hold.new.self)
+    let kept = rw (take_rest c.args.piece.now c.loop-at.start, none.1) at c.buffer.ensures in
+    subst (λ (text : List ℕ). Takes g.J.Judge.rules known_of text c.buffer.result c.buffer.new.self)
     (text-last b c.args.piece.now c.loop-at.start)
     (Takes-from g.J.Judge.rules known_of c.loop-at.self _ _ _ _ (no_end_left _ none.0)
-    (c.loop-at.invariant.reads known_of adds b r) held)
+    (c.loop-at.invariant.reads known_of adds b r) kept)
 
 pub returns-in-Err : goal.returns-in-Err
 returns-in-Err g c = λ known_of adds b r.

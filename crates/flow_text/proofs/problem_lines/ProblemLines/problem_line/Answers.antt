@@ -15,7 +15,8 @@ returns-in-Ok c = λ kind.
       ap (λ (size : ℕ × ℕ).
           let k : Known = record {
             size = Some size;
-            marks = (known_from None).marks;
+            sources = (known_from None).sources;
+            sinks = (known_from None).sinks;
             arcs = (known_from None).arcs;
           } in
           k) ok.1,

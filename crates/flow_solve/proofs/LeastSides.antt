@@ -1,9 +1,11 @@
 -- What a search from one kind of terminals shows when it is over: whether the flow is greatest, and the least side.
-use Rattle.std.proofs.Common.{◌≡◌, ℕ, ◌↔◌, Bool, true, false, not, List}
+use Rattle.std.proofs.Common.{◌≡◌, ℕ, ◌↔◌, Bool, true, false, not, List, take, sym, subst}
+use Rattle.std.proofs.Math.Path.{fun_ext}
 use Rattle.std.specs.List.{All}
 use Rattle.flow_net.specs.Nets.{Net, IsNode}
 use Rattle.flow_net.specs.Limits.{IsNet, AreTerminals}
 use Rattle.flow_net.specs.NodeSets.{one_of}
+use Rattle.flow_net.specs.MarkedNodes.{marked}
 use Rattle.flow_net.specs.Flows.{IsFeasible}
 use Rattle.flow_net.specs.GreatestFlows.{HasGreatestValue}
 use Rattle.flow_net.specs.Cuts.{capacity}
@@ -61,3 +63,12 @@ greatest_unless Backwards net s t xs dist b n a f route missed =
     let m = missed e in let tight = backward_tight net (one_of s) t (seen dist) xs n f m.whole m.outside in
     (capacity net (λ v. not (seen dist v)), tight.value, tight.greatest))
     (λ e. route_raises net (one_of s) (one_of t) xs (terminals_apart net s t a) f (route e))
+
+-- marks where the first cells have distances
+pub side_marked : (dir : Direction) (net : Net) (s t xs cells : List ℕ) (marks : List Bool) (n : ℕ) → n ≡ net.nodes
+    → ((v : ℕ) → marked marks v ≡ seen (take n cells) v) → IsLeastSide dir net s t xs (seen (take net.nodes cells))
+    → IsLeastSide dir net s t xs (marked marks)
+side_marked dir net s t xs cells marks n e same sees =
+    let all : marked marks ≡ seen (take net.nodes cells) =
+    subst (λ (k : ℕ). marked marks ≡ seen (take k cells)) e (fun_ext same) in
+    subst (IsLeastSide dir net s t xs) (sym all) sees

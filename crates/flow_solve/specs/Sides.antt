@@ -2,13 +2,12 @@
 use Rattle.std.specs.Prelude.{◌↔◌, ℕ, Bool, not, List, IsTrue, take}
 use Rattle.flow_net.specs.Nets.{Net, IsNode}
 use Rattle.flow_net.specs.NodeSets.{one_of}
-use Rattle.flow_net.specs.MarkedNodes.{marked}
 use Rattle.flow_net.specs.Flows.{HasValue}
 use Rattle.flow_net.specs.GreatestFlows.{HasGreatestValue}
 use Rattle.flow_net.specs.Cuts.{capacity, IsMinimumCut, IsInLeastSourceSide, IsInLeastSinkSide}
-use Rattle.flow_solve.specs.declared.reaching.Ends.{Ends}
 use Rattle.flow_solve.specs.declared.searching.Direction.{Direction}
 use Rattle.flow_solve.specs.declared.searching.Direction.TheVariants.{Forwards, Backwards}
+use Rattle.flow_solve.specs.declared.stages.Task.{Task}
 use Rattle.flow_solve.specs.Searches.{seen}
 
 -- The set has exactly the nodes that lie in the source side of every minimum cut. It makes a minimum cut itself, whose
@@ -39,13 +38,11 @@ abbrev pub until_of : Direction → List ℕ → List ℕ → List ℕ
 until_of Forwards s t = t
 until_of Backwards s t = s
 
--- the same words, of terminals as the code has them: the flow's value is the greatest; the nodes that a search has seen,
--- whose distances stand in the first cells, are the least side; the marked nodes are
-abbrev pub IsRaisedIn : Net → Ends → List ℕ → Type 0
-IsRaisedIn net ends xs = HasGreatestValue net (one_of ends.s.now) (one_of ends.t.now) xs
+-- of a task: the flow's value is the greatest; the nodes that a search has seen, whose distances stand in the first
+-- cells, are the least side
+abbrev pub IsRaised : Task → List ℕ → Type 0
+IsRaised task xs = HasGreatestValue task.packed.net.now (one_of task.s.now) (one_of task.t.now) xs
 
-abbrev pub SeesSide : Direction → Net → Ends → List ℕ → List ℕ → Type 0
-SeesSide dir net ends xs cells = IsLeastSide dir net ends.s.now ends.t.now xs (seen (take net.nodes cells))
-
-abbrev pub MarksSide : Direction → Net → Ends → List ℕ → List Bool → Type 0
-MarksSide dir net ends xs cells = IsLeastSide dir net ends.s.now ends.t.now xs (marked cells)
+abbrev pub SeesSide : Direction → Task → List ℕ → List ℕ → Type 0
+SeesSide dir task xs cells =
+    IsLeastSide dir task.packed.net.now task.s.now task.t.now xs (seen (take task.packed.net.now.nodes cells))

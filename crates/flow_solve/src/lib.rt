@@ -39,9 +39,9 @@
 //!
 //! | Cells | What they hold |
 //! |---|---|
-//! | `2·n` | each node's excess, in two cells |
-//! | `n` | its rank in the last search |
+//! | `n` | each node's rank in the last search |
 //! | `n` | the bound of what it can pass on |
+//! | `2·n` | its excess, in two cells |
 //! | `n` | the places of the nodes by rank, which is the search's queue |
 //!
 //! and, where their table is settled, for each node's balance (`2·n` cells) and its role (`n` cells).

@@ -2,9 +2,7 @@
 //!
 //! What the sources reach there is the least source side, and what reaches a sink is the least sink side: whichever
 //! greatest flow it is, and though there may be many minimum cuts.
-ghost use Rattle.std.specs.Prelude.{◌≡◌, ℕ, ◌+◌, ◌*◌, ◌<◌, ◌≤◌, ◌↔◌, true, false, IsTrue, IsFalse, length, take, drop};
-ghost use Rattle.std.specs.List.{All};
-ghost use Rattle.flow_net.specs.Nets.{IsNode};
+ghost use Rattle.std.specs.Prelude.{◌≡◌, ℕ, ◌+◌, ◌*◌, ◌≤◌, ◌↔◌, true, false, IsTrue, IsFalse, length, take, drop};
 ghost use Rattle.flow_net.specs.Limits.{AreTerminals};
 ghost use Rattle.flow_net.specs.NodeSets.{one_of};
 ghost use Rattle.flow_net.specs.MarkedNodes.{marked};
@@ -12,25 +10,19 @@ ghost use Rattle.flow_net.specs.Flows.{Fits, IsFeasible, IsGreatest};
 ghost use Rattle.flow_net.specs.GreatestFlows.{HasGreatestValue};
 ghost use Rattle.flow_net.specs.LeastCuts.{IsLeastCapacity};
 ghost use Rattle.flow_solve.specs.Bounds.{work_cells};
-ghost use Rattle.flow_solve.specs.Packs.{HoldsPacked, IsPacked};
+ghost use Rattle.flow_solve.specs.Packs.{HoldsPacked};
 ghost use Rattle.flow_solve.specs.Raising.{IsFlow};
+ghost use Rattle.flow_solve.specs.Stages.{IsTask};
 ghost use Rattle.flow_solve.specs.Steps.{OnlyLooks};
 ghost use Rattle.flow_solve.specs.Searches.{seen};
-ghost use Rattle.flow_solve.specs.Sides.{starts_of, until_of, IsLeastSinkSide, IsLeastSourceSide, IsRaisedIn, MarksSide, SeesSide};
+ghost use Rattle.flow_solve.specs.Sides.{starts_of, until_of, IsLeastSide, IsLeastSinkSide, IsLeastSourceSide};
+ghost use Rattle.flow_solve.specs.Sides.{IsRaised, SeesSide};
 
 use crate::method::Method;
 use crate::packing::{Packed, halves_in, pack_behind};
 use crate::searching::{Direction, Plan, WANTED, search};
+use crate::stages::Task;
 use flow_net::{FlowTable, Network};
-
-/// The sources and the sinks.
-#[derive(Clone, Copy)]
-pub(crate) struct Ends<'a> {
-    /// The sources.
-    pub s: &'a [u32],
-    /// The sinks.
-    pub t: &'a [u32],
-}
 
 /// Marks the nodes that have a distance.
 fn mark(dist: &[u32], side: &mut [bool])
@@ -43,40 +35,33 @@ fn mark(dist: &[u32], side: &mut [bool])
 }
 
 /// The terminals that a search goes from, and those that it looks out for.
-fn in_order(ends: Ends<'_>, direction: Direction) -> (&[u32], &[u32])
-    ensures starts { result.0.now ≡ starts_of direction ends.entry.s.now ends.entry.t.now }
-    ensures until { result.1.now ≡ until_of direction ends.entry.s.now ends.entry.t.now }
+fn in_order(task: Task<'_>, direction: Direction) -> (&[u32], &[u32])
+    ensures starts { result.0.now ≡ starts_of direction task.entry.s.now task.entry.t.now }
+    ensures until { result.1.now ≡ until_of direction task.entry.s.now task.entry.t.now }
 {
     match direction {
-        Direction::Forwards => (ends.s, ends.t),
-        Direction::Backwards => (ends.t, ends.s),
+        Direction::Forwards => (task.s, task.t),
+        Direction::Backwards => (task.t, task.s),
     }
 }
 
-/// Searches the residual network of a feasible flow in a direction, and answers whether it leads from a source to a sink.
-/// The first `n` cells have the distances.
-fn leads_on(
-    packed: Packed<'_>,
-    ends: Ends<'_>,
-    direction: Direction,
-    flow: &mut FlowTable,
-    cells: &mut [u32],
-) -> bool
-    requires feasible { IsFeasible packed.net.now (one_of ends.s.now) (one_of ends.t.now) flow.old.flows }
-    requires terminals { AreTerminals packed.net.now ends.s.now ends.t.now }
-    requires packed { IsPacked packed.net.now packed.first.now packed.halves.now }
-    requires cells { length cells.old ≡ 5 * packed.net.now.nodes }
-    ensures answer { (result ≡ false) ↔ IsRaisedIn packed.entry.net.now ends.entry flow.old.flows }
-    ensures side { result ≡ false → SeesSide direction packed.entry.net.now ends.entry flow.old.flows cells.new }
-    ensures looks { OnlyLooks flow.old flow.new (2 * length packed.entry.net.now.arcs) }
+/// Searches the residual network of a feasible flow in a direction, and answers whether it leads from a source to a
+/// sink. The first `n` cells have the distances.
+fn leads_on(task: Task<'_>, direction: Direction, flow: &mut FlowTable, cells: &mut [u32]) -> bool
+    requires task { IsTask task }
+    requires feasible { IsFeasible task.packed.net.now (one_of task.s.now) (one_of task.t.now) flow.old.flows }
+    requires cells { length cells.old ≡ 5 * task.packed.net.now.nodes }
+    ensures answer { (result ≡ false) ↔ IsRaised task.entry flow.old.flows }
+    ensures side { result ≡ false → SeesSide direction task.entry flow.old.flows cells.new }
+    ensures looks { OnlyLooks flow.old flow.new (2 * length task.entry.packed.net.now.arcs) }
 {
-    let n = packed.net.nodes() as usize;
+    let n = task.packed.net.nodes() as usize;
     let (dist, rest) = cells.split_at_mut(n);
     let (via, rest) = rest.split_at_mut(n);
     let (queue, _) = rest.split_at_mut(n);
-    let (starts, until) = in_order(ends, direction);
+    let (starts, until) = in_order(task, direction);
     let plan = Plan {
-        packed,
+        packed: task.packed,
         direction,
         starts,
         until,
@@ -86,35 +71,30 @@ fn leads_on(
     progress.wanted > 0
 }
 
-/// The same where the half-arcs stand packed in the cells of a solver. If the answer is no, it marks the least side of
-/// the direction, cell `v - 1` for node `v`.
-fn find_side(
-    net: &Network,
-    ends: Ends<'_>,
+/// The same where the half-arcs stand packed in the cells of a solver.
+fn leads_on_packed<'a>(
+    net: &'a Network,
+    s: &'a [u32],
+    t: &'a [u32],
     direction: Direction,
     flow: &mut FlowTable,
     work: &mut [u32],
-    side: &mut [bool],
 ) -> bool
-    requires feasible { IsFeasible net.now (one_of ends.s.now) (one_of ends.t.now) flow.old.flows }
-    requires terminals { AreTerminals net.now ends.s.now ends.t.now }
+    requires feasible { IsFeasible net.now (one_of s.now) (one_of t.now) flow.old.flows }
+    requires terminals { AreTerminals net.now s.now t.now }
     requires cells { work_cells net.now ≤ length work.old }
     requires packed { HoldsPacked net.now work.old }
-    requires side { length side.old ≡ net.now.nodes }
-    ensures answer { (result ≡ false) ↔ IsRaisedIn net.now ends.entry flow.old.flows }
-    ensures side { result ≡ false → MarksSide direction net.now ends.entry flow.old.flows side.new }
+    ensures answer { (result ≡ false) ↔ HasGreatestValue net.now (one_of s.now) (one_of t.now) flow.old.flows }
+    ensures side { result ≡ false
+        → IsLeastSide direction net.now s.now t.now flow.old.flows (seen (take net.now.nodes work.new)) }
     ensures looks { OnlyLooks flow.old flow.new (2 * length net.now.arcs) }
-    ensures behind { drop (5 * net.now.nodes) work.new ≡ drop (5 * net.now.nodes) work.old }
+    ensures rest { drop (work_cells net.now) work.new ≡ drop (work_cells net.now) work.old }
 {
     let n = net.nodes() as usize;
     let (cells, behind) = work.split_at_mut(5 * n);
     let (first, halves) = halves_in(net, behind);
     let packed = Packed { net, first, halves };
-    if leads_on(packed, ends, direction, flow, cells) {
-        return true;
-    }
-    mark(&cells[..n], side);
-    false
+    leads_on(Task { packed, s, t }, direction, flow, cells)
 }
 
 /// Whether the residual network of a feasible flow leads from a source to a sink, so that a flow of greater value
@@ -138,11 +118,7 @@ pub fn has_augmenting_path(
     ensures rest { drop (work_cells net.now) work.new ≡ drop (work_cells net.now) work.old }
 {
     pack_behind(net, work);
-    let n = net.nodes() as usize;
-    let (cells, behind) = work.split_at_mut(5 * n);
-    let (first, halves) = halves_in(net, behind);
-    let packed = Packed { net, first, halves };
-    leads_on(packed, Ends { s, t }, Direction::Forwards, flow, cells)
+    leads_on_packed(net, s, t, Direction::Forwards, flow, work)
 }
 
 /// As [`has_augmenting_path`]. If it answers false, `side` marks the nodes that lie in the source side of every minimum
@@ -167,7 +143,11 @@ pub fn reach(
     ensures rest { drop (work_cells net.now) work.new ≡ drop (work_cells net.now) work.old }
 {
     pack_behind(net, work);
-    find_side(net, Ends { s, t }, Direction::Forwards, flow, work, side)
+    let rises = leads_on_packed(net, s, t, Direction::Forwards, flow, work);
+    if !rises {
+        mark(&work[..net.nodes() as usize], side);
+    }
+    rises
 }
 
 /// As [`reach`], from the sinks backwards: if it answers false, `side` marks the nodes that lie outside the source
@@ -192,32 +172,36 @@ pub fn reach_back(
     ensures rest { drop (work_cells net.now) work.new ≡ drop (work_cells net.now) work.old }
 {
     pack_behind(net, work);
-    find_side(net, Ends { s, t }, Direction::Backwards, flow, work, side)
+    let rises = leads_on_packed(net, s, t, Direction::Backwards, flow, work);
+    if !rises {
+        mark(&work[..net.nodes() as usize], side);
+    }
+    rises
 }
 
-/// Finds a flow of the greatest value, answers that value, and marks the least side of a direction.
-fn solve_and_mark<M: Method>(
+/// Finds a flow of the greatest value, answers that value, and searches the residual network in a direction. The first
+/// `n` cells have the distances.
+fn solve_and_search<M: Method>(
     net: &Network,
-    ends: Ends<'_>,
+    s: &[u32],
+    t: &[u32],
     direction: Direction,
     flow: &mut FlowTable,
     work: &mut [u32],
-    side: &mut [bool],
 ) -> u128
     requires fits { Fits net.now flow.old.flows }
-    requires terminals { AreTerminals net.now ends.s.now ends.t.now }
+    requires terminals { AreTerminals net.now s.now t.now }
     requires cells { work_cells net.now ≤ length work.old }
-    requires side { length side.old ≡ net.now.nodes }
-    ensures flow { IsFlow net.now ends.entry.s.now ends.entry.t.now flow.new.flows result }
-    ensures greatest { IsGreatest net.now (one_of ends.entry.s.now) (one_of ends.entry.t.now) result }
-    ensures least { IsLeastCapacity net.now (one_of ends.entry.s.now) (one_of ends.entry.t.now) result }
-    ensures side { MarksSide direction net.now ends.entry flow.new.flows side.new }
+    ensures flow { IsFlow net.now s.now t.now flow.new.flows result }
+    ensures greatest { IsGreatest net.now (one_of s.now) (one_of t.now) result }
+    ensures least { IsLeastCapacity net.now (one_of s.now) (one_of t.now) result }
+    ensures side { IsLeastSide direction net.now s.now t.now flow.new.flows (seen (take net.now.nodes work.new)) }
     ensures never_lowered { flow.old.steps ≤ flow.new.steps }
     ensures steps { flow.new.steps ≤ flow.old.steps + M.steps_bound net.now + 2 * length net.now.arcs }
     ensures rest { drop (work_cells net.now) work.new ≡ drop (work_cells net.now) work.old }
 {
-    let value = M::greatest(net, ends.s, ends.t, flow, work);
-    find_side(net, ends, direction, flow, work, side);
+    let value = M::greatest(net, s, t, flow, work);
+    leads_on_packed(net, s, t, direction, flow, work);
     value
 }
 
@@ -243,7 +227,9 @@ pub fn cut_nearest_sources<M: Method>(
     ensures steps { flow.new.steps ≤ flow.old.steps + M.steps_bound net.now + 2 * length net.now.arcs }
     ensures rest { drop (work_cells net.now) work.new ≡ drop (work_cells net.now) work.old }
 {
-    solve_and_mark::<M>(net, Ends { s, t }, Direction::Forwards, flow, work, side)
+    let value = solve_and_search::<M>(net, s, t, Direction::Forwards, flow, work);
+    mark(&work[..net.nodes() as usize], side);
+    value
 }
 
 /// As [`cut_nearest_sources`], but `side` marks the least sink side, as [`reach_back`] does.
@@ -267,5 +253,7 @@ pub fn cut_nearest_sinks<M: Method>(
     ensures steps { flow.new.steps ≤ flow.old.steps + M.steps_bound net.now + 2 * length net.now.arcs }
     ensures rest { drop (work_cells net.now) work.new ≡ drop (work_cells net.now) work.old }
 {
-    solve_and_mark::<M>(net, Ends { s, t }, Direction::Backwards, flow, work, side)
+    let value = solve_and_search::<M>(net, s, t, Direction::Backwards, flow, work);
+    mark(&work[..net.nodes() as usize], side);
+    value
 }

@@ -14,6 +14,7 @@ use crate::packing::{Packed, pack};
 use crate::phases::run_phases;
 use crate::stages::Task;
 use crate::trees::grow_trees;
+use crate::waves::send_waves;
 use flow_net::{Arc, FEWEST_NODES, FlowTable, MOST_ARCS_BOTH_WAYS, MOST_NODES, Network};
 use std::alloc::Global;
 
@@ -270,6 +271,18 @@ fn random_node(random: &mut Random, nodes: u32) -> u32
     1 + random.below(u64::from(nodes)) as u32
 }
 
+/// Four of them, one maybe several times.
+fn four_nodes(random: &mut Random, nodes: u32) -> [u32; 4]
+    requires { 1 ≤ nodes }
+{
+    [
+        random_node(random, nodes),
+        random_node(random, nodes),
+        random_node(random, nodes),
+        random_node(random, nodes),
+    ]
+}
+
 /// Adds arcs between any two nodes, self-loops and parallel arcs among them, small capacities and the largest. Answers
 /// whether all of them were added.
 #[must_use]
@@ -294,12 +307,7 @@ fn all_sets_agree(rt: HostRuntime) {
         let nodes = 2 + random.below(5) as u32;
         let mut net = Network::new(rt.alloc(), nodes);
         assert!(&rt; add_arcs(&mut net, &mut random));
-        let terminals = [
-            random_node(&mut random, nodes),
-            random_node(&mut random, nodes),
-            random_node(&mut random, nodes),
-            random_node(&mut random, nodes),
-        ];
+        let terminals = four_nodes(&mut random, nodes);
         let k = 1 + random.below(2) as usize;
         let end = k + 1 + random.below(2) as usize;
         let terminals = &terminals[..end];
@@ -567,14 +575,23 @@ fn known_answers(rt: HostRuntime) {
     }
 }
 
-/// The values that the trees reach with an allowance, and the phases after them, which lift as long as theirs lasts,
-/// and that of the other method, for a network of at most 6 nodes and 40 arcs, if the terminals are good.
+/// The stage that comes before the phases, and how much it may take.
+#[derive(Clone, Copy)]
+enum First {
+    /// The search trees.
+    Trees(u64),
+    /// The waves.
+    Waves(u64),
+}
+
+/// The values that a first stage reaches, and the phases after it, which lift as long as their allowance lasts, and
+/// that of the other method, for a network of at most 6 nodes and 40 arcs, if the terminals are good.
 fn stages<'a>(
     alloc: Global,
     net: &'a Network,
     terminals: &'a [u32],
     k: usize,
-    allowance: u64,
+    first_stage: First,
     lifting: u64,
 ) -> Option<(u128, u128, u128)> {
     let mut work = [7u32; 120];
@@ -591,7 +608,10 @@ fn stages<'a>(
     pack(net, first, halves);
     let packed = Packed { net, first, halves };
     let task = Task { packed, s, t };
-    let reached = grow_trees(task, &mut flow, cells, 0, allowance);
+    let reached = match first_stage {
+        First::Trees(allowance) => grow_trees(task, &mut flow, cells, 0, allowance),
+        First::Waves(allowance) => send_waves(task, &mut flow, cells, 0, allowance),
+    };
     let greatest = run_phases(task, &mut flow, cells, reached, lifting);
     let mut other = empty_flow(alloc, net)?;
     let mut work = [7u32; 120];
@@ -617,7 +637,7 @@ fn trees_that_end_of_themselves(rt: HostRuntime) {
     for (arcs, value) in GROWN {
         let net = network(rt.alloc(), 6, arcs).expect(&rt, "memory");
         assert_eq!(&rt;
-            stages(rt.alloc(), &net, &[1, 6], 1, 1000, 0),
+            stages(rt.alloc(), &net, &[1, 6], 1, First::Trees(1000), 0),
             Some((*value, *value, *value))
         );
     }
@@ -630,7 +650,7 @@ fn trees_that_are_left(rt: HostRuntime) {
     let mut before = 0u128;
     let mut between = 0u32;
     for allowance in 0u64..200 {
-        let answer = stages(rt.alloc(), &net, &[1, 6], 1, allowance, 0);
+        let answer = stages(rt.alloc(), &net, &[1, 6], 1, First::Trees(allowance), 0);
         let (reached, greatest, other) = answer.expect(&rt, "good terminals");
         assert!(&rt; before <= reached && reached <= value);
         assert_eq!(&rt; (greatest, other), (value, value));
@@ -693,7 +713,7 @@ fn phases_that_lift_until_they_are_left(rt: HostRuntime) {
         let net = network(rt.alloc(), 6, arcs).expect(&rt, "memory");
         for lifting in 0u64..150 {
             assert_eq!(&rt;
-                stages(rt.alloc(), &net, &[1, 6], 1, 0, lifting),
+                stages(rt.alloc(), &net, &[1, 6], 1, First::Trees(0), lifting),
                 Some((0, *value, *value))
             );
         }
@@ -709,21 +729,16 @@ fn methods_agree_on_random_networks(rt: HostRuntime) {
         let nodes = 2 + random.below(5) as u32;
         let mut net = Network::new(rt.alloc(), nodes);
         assert!(&rt; add_arcs(&mut net, &mut random));
-        let terminals = [
-            random_node(&mut random, nodes),
-            random_node(&mut random, nodes),
-            random_node(&mut random, nodes),
-            random_node(&mut random, nodes),
-        ];
+        let terminals = four_nodes(&mut random, nodes);
         let k = 1 + random.below(2) as usize;
         let end = k + 1 + random.below(2) as usize;
-        let allowance = random.below(60);
+        let trees = First::Trees(random.below(60));
         let lifting = random.below(200);
         let terminals = &terminals[..end];
         if !may_be_terminals(&net, terminals, k) {
             continue;
         }
-        let answer = stages(rt.alloc(), &net, terminals, k, allowance, lifting);
+        let answer = stages(rt.alloc(), &net, terminals, k, trees, lifting);
         let (reached, greatest, other) = answer.expect(&rt, "a small network, and memory");
         assert!(&rt; reached <= greatest);
         assert_eq!(&rt; greatest, other);

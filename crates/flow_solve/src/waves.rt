@@ -61,14 +61,19 @@ fn afford(wave: &mut Wave, cost: u64) -> bool
     true
 }
 
-/// Where a place's rank stands, behind all excess: the number of places that the search has ranked before it.
-fn rank_of(nodes: u32, place: u32) -> usize {
-    2 * nodes as usize + place as usize
+/// Where a place's rank stands: the number of places that the search has ranked before it.
+fn rank_of(place: u32) -> usize {
+    place as usize
 }
 
 /// Where the bound of what a place can pass on stands.
 fn bound_of(nodes: u32, place: u32) -> usize {
-    3 * nodes as usize + place as usize
+    nodes as usize + place as usize
+}
+
+/// Which two cells have a place's excess, behind all ranks and bounds. So few nodes there are that nothing wraps.
+fn pair_of(nodes: u32, place: u32) -> u32 {
+    nodes.wrapping_add(place)
 }
 
 /// Where the place of a rank stands.
@@ -80,7 +85,7 @@ fn queue_of(nodes: u32, rank: u32) -> usize {
 fn enter(cells: &mut [u32], nodes: u32, wave: &mut Wave, place: u32)
     ensures left { wave.new.left ≡ wave.old.left }
 {
-    put(cells, rank_of(nodes, place), wave.queued);
+    put(cells, rank_of(place), wave.queued);
     put(cells, queue_of(nodes, wave.queued), place);
     wave.queued = wave.queued.saturating_add(1);
 }
@@ -89,8 +94,8 @@ fn enter(cells: &mut [u32], nodes: u32, wave: &mut Wave, place: u32)
 fn unrank(cells: &mut [u32], nodes: u32) -> u32 {
     let mut count: u32 = 0;
     for place in 0..nodes {
-        put(cells, rank_of(nodes, place), FAR);
-        if get_pair(cells, place) > 0 {
+        put(cells, rank_of(place), FAR);
+        if get_pair(cells, pair_of(nodes, place)) > 0 {
             count = count.saturating_add(1);
         }
     }
@@ -112,14 +117,14 @@ fn meet(
     ensures looks { OnlyLooks flow.old flow.new 1 }
     ensures left { wave.new.left ≡ wave.old.left }
 {
-    let nodes = packed.net.nodes();
-    if get(cells, rank_of(nodes, next)) != FAR || wave.seen >= wave.wanted {
+    if get(cells, rank_of(next)) != FAR || wave.seen >= wave.wanted {
         return;
     }
     let (_, room) = flow.look(packed.net, cross(Direction::Backwards, half));
     if room > 0 {
+        let nodes = packed.net.nodes();
         enter(cells, nodes, wave, next);
-        if get_pair(cells, next) > 0 {
+        if get_pair(cells, pair_of(nodes, next)) > 0 {
             wave.seen = wave.seen.saturating_add(1);
         }
     }
@@ -168,7 +173,7 @@ fn scan(
     for spot in begin..end {
         let half = packed.halves[spot as usize];
         let next = head(packed.net, half) - 1;
-        if get(cells, rank_of(nodes, next)) >= rank {
+        if get(cells, rank_of(next)) >= rank {
             meet(packed, flow, cells, wave, half, next);
         } else if bound < UNLIMITED {
             bound = bound.saturating_add(passed_on(packed, flow, cells, half, next));
@@ -250,7 +255,7 @@ struct Sender {
 fn acceptable(cells: &[u32], sender: Sender, next: u32, amount: u64) -> u64
     ensures { result ≤ amount }
 {
-    let there = get(cells, rank_of(sender.nodes, next));
+    let there = get(cells, rank_of(next));
     if there >= sender.rank {
         return 0;
     }
@@ -263,7 +268,7 @@ fn acceptable(cells: &[u32], sender: Sender, next: u32, amount: u64) -> u64
     let room = if there < sender.roots {
         amount
     } else {
-        u64::MAX - get_pair(cells, next)
+        u64::MAX - get_pair(cells, pair_of(sender.nodes, next))
     };
     amount.min(within).min(room)
 }
@@ -275,9 +280,10 @@ fn receive(cells: &mut [u32], sender: Sender, next: u32, amount: u64) {
         let rest = u64::from(bound).saturating_sub(amount) as u32;
         put(cells, bound_of(sender.nodes, next), rest);
     }
-    if get(cells, rank_of(sender.nodes, next)) >= sender.roots {
-        let sum = get_pair(cells, next).saturating_add(amount);
-        put_pair(cells, next, sum);
+    if get(cells, rank_of(next)) >= sender.roots {
+        let pair = pair_of(sender.nodes, next);
+        let sum = get_pair(cells, pair).saturating_add(amount);
+        put_pair(cells, pair, sum);
     }
 }
 
@@ -326,7 +332,9 @@ fn sweep(
     ensures fits { Fits packed.entry.net.now flow.new.flows }
     ensures paid { PaysSteps flow.old wave.old.left flow.new wave.new.left }
 {
-    let mut amount = get_pair(cells, place);
+    let nodes = packed.net.nodes();
+    let pair = pair_of(nodes, place);
+    let mut amount = get_pair(cells, pair);
     if amount == 0 {
         return true;
     }
@@ -335,11 +343,10 @@ fn sweep(
     if !afford(wave, 2 * u64::from(end - begin)) {
         return false;
     }
-    let nodes = packed.net.nodes();
     let sender = Sender {
         nodes,
         roots: wave.roots,
-        rank: get(cells, rank_of(nodes, place)),
+        rank: get(cells, rank_of(place)),
     };
     let mut spot = begin;
     while spot < end && amount > 0 {
@@ -348,7 +355,7 @@ fn sweep(
         amount -= sent;
         spot += 1;
     }
-    put_pair(cells, place, amount);
+    put_pair(cells, pair, amount);
     true
 }
 
@@ -418,22 +425,21 @@ fn at_rest(allowance: u64) -> Wave
 }
 
 /// Gives some nodes an excess.
-fn supply_with(cells: &mut [u32], nodes: &[u32], amount: u64)
-    requires { All (λ v. 1 ≤ v) nodes.now }
+fn supply_with(cells: &mut [u32], nodes: u32, some: &[u32], amount: u64)
+    requires { All (λ v. 1 ≤ v) some.now }
 {
-    for node in nodes {
-        put_pair(cells, *node - 1, amount);
+    for node in some {
+        put_pair(cells, pair_of(nodes, *node - 1), amount);
     }
 }
 
 /// Whether three quarters of the arcs lead to a lower rank, as all do where nodes lie in layers; of two opposite arcs
 /// only one does.
 fn is_layered(net: &Network, cells: &[u32]) -> bool {
-    let nodes = net.nodes();
     let mut falling: u32 = 0;
     for i in 0..net.len() {
         let arc = net.arc(i);
-        if get(cells, rank_of(nodes, arc.dst - 1)) < get(cells, rank_of(nodes, arc.src - 1)) {
+        if get(cells, rank_of(arc.dst - 1)) < get(cells, rank_of(arc.src - 1)) {
             falling = falling.saturating_add(1);
         }
     }
@@ -509,19 +515,20 @@ pub(crate) fn send_waves(
     ensures steps { TakesSteps flow.old flow.new allowance }
 {
     let Task { packed, s, t } = task;
-    let n = packed.net.nodes() as usize;
+    let nodes = packed.net.nodes();
+    let n = nodes as usize;
     let share = allowance / 4;
     if share < u64::from(packed.net.len()) {
         return value;
     }
-    cells[..2 * n].fill(0);
-    supply_with(cells, s, u64::MAX);
+    cells[2 * n..4 * n].fill(0);
+    supply_with(cells, nodes, s, u64::MAX);
     let mut first = at_rest(share);
     if !search(packed, t, flow, cells, &mut first) || !is_layered(packed.net, cells) {
         return value;
     }
     send(packed, t, flow, cells, share, true);
-    supply_with(cells, s, 0);
+    supply_with(cells, nodes, s, 0);
     send(packed, s, flow, cells, share, false);
     match settle(task, flow, cells) {
         Some(settled) => settled,

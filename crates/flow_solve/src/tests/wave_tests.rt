@@ -1,40 +1,5 @@
 //! Waves: networks in layers of which the greatest value is known, and random ones.
 use super::*;
-use crate::waves::send_waves;
-
-/// The values that waves reach with an allowance, and the phases after them, and that of the other method, for a
-/// network of at most 6 nodes and 40 arcs, if the terminals are good.
-fn waved<'a>(
-    alloc: Global,
-    net: &'a Network,
-    terminals: &'a [u32],
-    k: usize,
-    allowance: u64,
-) -> Option<(u128, u128, u128)> {
-    let mut work = [7u32; 120];
-    let n = net.nodes() as usize;
-    let m = net.len() as usize;
-    if n > 6 || m > 40 || !may_be_terminals(net, terminals, k) {
-        return None;
-    }
-    let mut flow = empty_flow(alloc, net)?;
-    let (s, t) = terminals.split_at(k);
-    let (cells, rest) = work.split_at_mut(5 * n);
-    let (first, rest) = rest.split_at_mut(n + 1);
-    let (halves, _rest) = rest.split_at_mut(2 * m);
-    pack(net, first, halves);
-    let packed = Packed { net, first, halves };
-    let task = Task { packed, s, t };
-    let reached = send_waves(task, &mut flow, cells, 0, allowance);
-    let greatest = run_phases(task, &mut flow, cells, reached, 0);
-    let mut other = empty_flow(alloc, net)?;
-    let mut work = [7u32; 120];
-    Some((
-        reached,
-        greatest,
-        Paths::greatest(net, s, t, &mut other, &mut work),
-    ))
-}
 
 /// A network in layers: its arcs, its terminals, the first `k` of them sources, what waves reach, and the greatest
 /// value.
@@ -136,7 +101,14 @@ fn waves_that_end_of_themselves(rt: HostRuntime) {
         assert_eq!(&rt;
             (
                 layers.name,
-                waved(rt.alloc(), &net, layers.terminals, layers.k, 100_000)
+                stages(
+                    rt.alloc(),
+                    &net,
+                    layers.terminals,
+                    layers.k,
+                    First::Waves(100_000),
+                    0
+                )
             ),
             (
                 layers.name,
@@ -153,7 +125,8 @@ fn waves_that_are_left(rt: HostRuntime) {
     let mut cleared = 0u32;
     let mut last = 0u128;
     for allowance in 0u64..1000 {
-        let answer = waved(rt.alloc(), &net, layers.terminals, layers.k, allowance);
+        let waves = First::Waves(allowance);
+        let answer = stages(rt.alloc(), &net, layers.terminals, layers.k, waves, 0);
         let (reached, greatest, other) = answer.expect(&rt, "good terminals");
         assert!(&rt; reached <= layers.value);
         assert_eq!(&rt; (greatest, other), (layers.value, layers.value));
@@ -176,21 +149,17 @@ fn waves_agree_on_random_networks(rt: HostRuntime) {
         let nodes = 2 + random.below(5) as u32;
         let mut net = Network::new(rt.alloc(), nodes);
         assert!(&rt; add_arcs(&mut net, &mut random));
-        let terminals = [
-            random_node(&mut random, nodes),
-            random_node(&mut random, nodes),
-            random_node(&mut random, nodes),
-            random_node(&mut random, nodes),
-        ];
+        let terminals = four_nodes(&mut random, nodes);
         let k = 1 + random.below(2) as usize;
         let end = k + 1 + random.below(2) as usize;
-        let allowance = random.below(1500);
-        if let Some((reached, greatest, other)) = waved(
+        let waves = First::Waves(random.below(1500));
+        if let Some((reached, greatest, other)) = stages(
             rt.alloc(),
             &net,
             &terminals[..end],
             k,
-            allowance,
+            waves,
+            0,
         ) {
             assert!(&rt; reached <= greatest);
             assert_eq!(&rt; greatest, other);

@@ -1,11 +1,10 @@
-use Rattle.std.proofs.Common.{◌*◌, ◌≤◌, ◌∙◌, arith}
-use Rattle.flow_solve.specs.Bounds.{work_cells}
-use Rattle.flow_solve.proofs.Behind.{drop_farther}
+-- `reach_back`: the nodes that are marked are those that the search has seen.
+use Rattle.std.proofs.Common.{arith}
+use Rattle.flow_solve.specs.declared.searching.Direction.TheVariants.{Backwards}
+use Rattle.flow_solve.proofs.LeastSides.{side_marked}
 use Rattle.flow_solve.proofs.reaching.reach_back.Goals as goal
 
--- the cells past those of a solver stay, as all do behind the first 5·n
-pub returns-clause-rest : goal.returns-clause-rest
-returns-clause-rest c =
-    let net = c.args.net.now in let past : 5 * net.nodes ≤ work_cells net = omega arith in
-    drop_farther (5 * net.nodes) (work_cells net) c.find_side.new.work c.pack_behind.new.work past
-    c.find_side.ensures.behind ∙ c.pack_behind.ensures.rest
+pub returns-then-not-rises-clause-side : goal.returns-then-not-rises-clause-side
+returns-then-not-rises-clause-side c = λ e.
+    side_marked Backwards c.args.net.now c.args.s.now c.args.t.now c.args.flow.now.flows c.leads_on_packed-rises.new.work
+    c.mark.new.side c.nodes.result (omega arith) c.mark.ensures (c.leads_on_packed-rises.ensures.side e)

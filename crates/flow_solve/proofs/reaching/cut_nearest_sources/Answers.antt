@@ -1,0 +1,10 @@
+-- `cut_nearest_sources`: the nodes that are marked are those that the search has seen.
+use Rattle.std.proofs.Common.{arith}
+use Rattle.flow_solve.specs.declared.searching.Direction.TheVariants.{Forwards}
+use Rattle.flow_solve.proofs.LeastSides.{side_marked}
+use Rattle.flow_solve.proofs.reaching.cut_nearest_sources.Goals as goal
+
+pub returns-clause-side : goal.returns-clause-side
+returns-clause-side g c =
+    side_marked Forwards c.args.net.now c.args.s.now c.args.t.now c.solve_and_search-value.new.flow.flows c.solve_and_search-value.new.work
+    c.mark.new.side c.nodes.result (omega arith) c.mark.ensures c.solve_and_search-value.ensures.side

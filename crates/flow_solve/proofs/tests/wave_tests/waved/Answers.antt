@@ -1,9 +1,0 @@
-use Rattle.flow_net.specs.NodeSets.{one_of}
-use Rattle.flow_solve.proofs.tests.wave_tests.waved.Goals as goal
-
-pub send_waves-reached-requires-clause-flow : goal.send_waves-reached-requires-clause-flow
-send_waves-reached-requires-clause-flow c = c.in_ok-flow.ensures.flow c.split_at.result.0.now c.split_at.result.1.now
-
-pub greatest-requires-clause-fits : goal.greatest-requires-clause-fits
-greatest-requires-clause-fits c =
-    (c.in_ok-other.ensures.feasible (one_of c.split_at.result.0.now) (one_of c.split_at.result.1.now)).fits

@@ -45,13 +45,13 @@ pair_connectivity p true k c =
     (pair_of_unit (both_ways p.net) (one_of p.sources) (one_of p.sinks) k c)
 pair_connectivity p false k c = pair_of_unit p.net (one_of p.sources) (one_of p.sinks) k c
 
--- the connectivity that is asked for, with the flags as they are
-pub connectivity_of : (p : Instance) (made : Net) (s t : List ℕ) (b pair : Bool) (k : ℕ) → s ≡ p.sources → t ≡ p.sinks
-    → made ≡ unit (cond b (both_ways p.net) p.net) → (pair ≡ true → IsPairConnectivity made (one_of s) (one_of t) k)
-    → (pair ≡ false → IsConnectivity made k) → IsConnectivityOf p b pair k
-connectivity_of p made s t b true k es et e by_pair whole =
-    pair_connectivity p b k (subst (λ n. IsPairConnectivity n (one_of p.sources) (one_of p.sinks) k) e
-    (subst (λ vs. IsPairConnectivity made (one_of p.sources) (one_of vs) k) et
-    (subst (λ vs. IsPairConnectivity made (one_of vs) (one_of t) k) es (by_pair refl))))
-connectivity_of p made s t b false k es et e by_pair whole =
-    whole_connectivity p b k (subst (λ n. IsConnectivity n k) e (whole refl))
+module _ (p : Instance) (made : Net) (s t : List ℕ) (es : s ≡ p.sources) (et : t ≡ p.sinks) where
+  -- the connectivity that is asked for, with the flags as they are
+  pub connectivity_of : (b pair : Bool) (k : ℕ) → made ≡ unit (cond b (both_ways p.net) p.net)
+      → (pair ≡ true → IsPairConnectivity made (one_of s) (one_of t) k)
+      → (pair ≡ false → IsConnectivity made k) → IsConnectivityOf p b pair k
+  connectivity_of b true k e by_pair whole =
+      pair_connectivity p b k (subst (λ n. IsPairConnectivity n (one_of p.sources) (one_of p.sinks) k) e
+      (subst (λ vs. IsPairConnectivity made (one_of p.sources) (one_of vs) k) et
+      (subst (λ vs. IsPairConnectivity made (one_of vs) (one_of t) k) es (by_pair refl))))
+  connectivity_of b false k e by_pair whole = whole_connectivity p b k (subst (λ n. IsConnectivity n k) e (whole refl))

@@ -111,21 +111,6 @@ loop_stays a X e =
     neither : (p q : Bool) → p ≡ q → (p && not q) ≡ false
     neither p q h = grind arith
 
--- a self-loop adds to no degree
-pub degrees_loop : (nodes : ℕ) (arcs : List Arc) (i : ℕ) (a : Arc) (out into : List ℕ) → i < length arcs
-    → a ≡ get_or arcs i no_arc → a.src ≡ a.dst → AreDegrees nodes (take i arcs) out into
-    → AreDegrees nodes (take (i + 1) arcs) out into
-degrees_loop nodes arcs i a out into l at e d = record {
-  leaving = λ v h.
-      d.leaving v h
-      ∙ sym (count_by_more_no (leaves (just (v + 1))) arcs i no_arc l
-      (ap (leaves (just (v + 1))) (sym at) ∙ (loop_stays a (just (v + 1)) e).0));
-  entering = λ v h.
-      d.entering v h
-      ∙ sym (count_by_more_no (enters (just (v + 1))) arcs i no_arc l
-      (ap (enters (just (v + 1))) (sym at) ∙ (loop_stays a (just (v + 1)) e).1));
-}
-
 -- what one more arc between two nodes adds at a cell
 cell_more : (p : Arc → Bool) (arcs : List Arc) (i v w : ℕ) (cells : List ℕ) → i < length arcs → w < length cells
     → slice_index cells v ≡ count_by p (take i arcs) → (v ≡ w → p (get_or arcs i no_arc) ≡ true)
@@ -159,29 +144,42 @@ enters_just a v ne = (
   λ n. (let p : eqb a.dst v ≡ false = ne_eqb a.dst v (λ f. n (sym f)) in rw p refl),
 )
 
--- any other arc adds 1 to the degree out of its first node and to the degree into its second
-pub degrees_more : (nodes : ℕ) (arcs : List Arc) (i : ℕ) (a : Arc) (out into : List ℕ) → i < length arcs
-    → a ≡ get_or arcs i no_arc → length out ≡ nodes → length into ≡ nodes → IsArcWithin nodes a → a.src ≢ a.dst
-    → AreDegrees nodes (take i arcs) out into
-    → AreDegrees nodes (take (i + 1) arcs) (set out (a.src - 1) (slice_index out (a.src - 1) + 1))
-    (set into (a.dst - 1) (slice_index into (a.dst - 1) + 1))
-degrees_more nodes arcs i a out into l at so si w ne deg =
-    let src_least = w.src_least in
-    let src_most = w.src_most in
-    let dst_least = w.dst_least in
-    let dst_most = w.dst_most in
-    record {
-      leaving = λ v h.
-          (let j = leaves_just a (v + 1) ne in
-          cell_more (leaves (just (v + 1))) arcs i v (a.src - 1) out l (omega arith) (deg.leaving v h)
-          (λ e. ap (leaves (just (v + 1))) (sym at) ∙ j.0 (omega arith))
-          (λ n. ap (leaves (just (v + 1))) (sym at) ∙ j.1 (λ f. n (omega arith))));
-      entering = λ v h.
-          (let j = enters_just a (v + 1) ne in
-          cell_more (enters (just (v + 1))) arcs i v (a.dst - 1) into l (omega arith) (deg.entering v h)
-          (λ e. ap (enters (just (v + 1))) (sym at) ∙ j.0 (omega arith))
-          (λ n. ap (enters (just (v + 1))) (sym at) ∙ j.1 (λ f. n (omega arith))));
-    }
+module _ (nodes : ℕ) (arcs : List Arc) (i : ℕ) (a : Arc) (out into : List ℕ) (l : i < length arcs)
+    (at : a ≡ get_or arcs i no_arc) (deg : AreDegrees nodes (take i arcs) out into) where
+  -- a self-loop adds to no degree
+  pub degrees_loop : a.src ≡ a.dst → AreDegrees nodes (take (i + 1) arcs) out into
+  degrees_loop e = record {
+    leaving = λ v h.
+        deg.leaving v h
+        ∙ sym (count_by_more_no (leaves (just (v + 1))) arcs i no_arc l
+        (ap (leaves (just (v + 1))) (sym at) ∙ (loop_stays a (just (v + 1)) e).0));
+    entering = λ v h.
+        deg.entering v h
+        ∙ sym (count_by_more_no (enters (just (v + 1))) arcs i no_arc l
+        (ap (enters (just (v + 1))) (sym at) ∙ (loop_stays a (just (v + 1)) e).1));
+  }
+
+  -- any other arc adds 1 to the degree out of its first node and to the degree into its second
+  pub degrees_more : length out ≡ nodes → length into ≡ nodes → IsArcWithin nodes a → a.src ≢ a.dst
+      → AreDegrees nodes (take (i + 1) arcs) (set out (a.src - 1) (slice_index out (a.src - 1) + 1))
+      (set into (a.dst - 1) (slice_index into (a.dst - 1) + 1))
+  degrees_more so si w ne =
+      let src_least = w.src_least in
+      let src_most = w.src_most in
+      let dst_least = w.dst_least in
+      let dst_most = w.dst_most in
+      record {
+        leaving = λ v h.
+            (let j = leaves_just a (v + 1) ne in
+            cell_more (leaves (just (v + 1))) arcs i v (a.src - 1) out l (omega arith) (deg.leaving v h)
+            (λ e. ap (leaves (just (v + 1))) (sym at) ∙ j.0 (omega arith))
+            (λ n. ap (leaves (just (v + 1))) (sym at) ∙ j.1 (λ f. n (omega arith))));
+        entering = λ v h.
+            (let j = enters_just a (v + 1) ne in
+            cell_more (enters (just (v + 1))) arcs i v (a.dst - 1) into l (omega arith) (deg.entering v h)
+            (λ e. ap (enters (just (v + 1))) (sym at) ∙ j.0 (omega arith))
+            (λ n. ap (enters (just (v + 1))) (sym at) ∙ j.1 (λ f. n (omega arith))));
+      }
 
 -- a degree is at most the number of arcs so far
 pub degree_bounded : (nodes : ℕ) (arcs : List Arc) (i : ℕ) (out into : List ℕ) (v : ℕ) → i ≤ length arcs → v < nodes

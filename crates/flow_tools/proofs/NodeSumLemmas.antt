@@ -203,33 +203,30 @@ neither true c e = cc
 none_of : (b c : Bool) → b ≡ false → c ≡ false → (b || c) ≡ false
 none_of b c e f = grind arith
 
--- where the cells before a place are equal unless marked, each inner node before it is balanced
-equal_at : (p : Instance) (lines : List FlowLine) (marks : List Bool) (into out : List ℕ) (k v : ℕ)
-    → length marks ≡ p.net.nodes → ((v : ℕ) → marked marks v ≡ (one_of p.sources v || one_of p.sinks v))
-    → AreNodeFlows p.net.nodes lines into out
-    → AreEqualUnless marks into out k → IsInner p v → v - 1 < k → IsBalancedAt lines v
-equal_at p lines marks into out k v n m f h at l =
-    let cell : IsCellOf (length marks) v = (at.0.0, omega (arith, at.0.1)) in
-    let clear = mark_at marks v cell ∙ m v ∙ none_of (one_of p.sources v) (one_of p.sinks v) at.1 at.2 in
-    sym (cell_into p.net.nodes lines into out v f at.0) ∙ h (v - 1) l clear
-    ∙ cell_out p.net.nodes lines into out v f at.0
+module _ (p : Instance) (lines : List FlowLine) (marks : List Bool) (into out : List ℕ)
+    (many : length marks ≡ p.net.nodes) (m : (v : ℕ) → marked marks v ≡ (one_of p.sources v || one_of p.sinks v))
+    (f : AreNodeFlows p.net.nodes lines into out) where
+  -- where the cells before a place are equal unless marked, each inner node before it is balanced
+  equal_at : (k v : ℕ) → AreEqualUnless marks into out k → IsInner p v → v - 1 < k → IsBalancedAt lines v
+  equal_at k v h at l =
+      let cell : IsCellOf (length marks) v = (at.0.0, omega (arith, at.0.1)) in
+      let clear = mark_at marks v cell ∙ m v ∙ none_of (one_of p.sources v) (one_of p.sinks v) at.1 at.2 in
+      sym (cell_into p.net.nodes lines into out v f at.0) ∙ h (v - 1) l clear
+      ∙ cell_out p.net.nodes lines into out v f at.0
 
--- what the cells say of the balance
-pub balance_found : (p : Instance) (lines : List FlowLine) (marks : List Bool) (into out : List ℕ) (found : Option ℕ)
-    → length marks ≡ p.net.nodes → ((v : ℕ) → marked marks v ≡ (one_of p.sources v || one_of p.sinks v))
-    → AreNodeFlows p.net.nodes lines into out
-    → MatchOption found (AreEqualUnless marks into out (length marks)) (IsFirstUnequal marks into out)
-    → MatchOption found (IsBalanced p lines) (IsFirstUnbalanced p lines)
-balance_found p lines marks into out None n m f h = λ v at.
-    equal_at p lines marks into out (length marks) v n m f h at (omega (arith, n, at.0.0, at.0.1))
-balance_found p lines marks into out (Some node) n m f h =
-    let at : IsCellOf p.net.nodes node = (h.cell.0, omega (arith, h.cell.1)) in
-    let clear = neither (one_of p.sources node) (one_of p.sinks node)
-    (sym (m node) ∙ sym (mark_at marks node h.cell) ∙ h.unmarked) in
-    record {
-      inner = (at, clear.0, clear.1);
-      unbalanced = λ e.
-          h.unequal
-          (cell_into p.net.nodes lines into out node f at ∙ e ∙ sym (cell_out p.net.nodes lines into out node f at));
-      least = λ v l inner. equal_at p lines marks into out (node - 1) v n m f h.least inner (omega (arith, inner.0.0));
-    }
+  -- what the cells say of the balance
+  pub balance_found : (found : Option ℕ)
+      → MatchOption found (AreEqualUnless marks into out (length marks)) (IsFirstUnequal marks into out)
+      → MatchOption found (IsBalanced p lines) (IsFirstUnbalanced p lines)
+  balance_found None h = λ v at. equal_at (length marks) v h at (omega (arith, many, at.0.0, at.0.1))
+  balance_found (Some node) h =
+      let at : IsCellOf p.net.nodes node = (h.cell.0, omega (arith, h.cell.1)) in
+      let clear = neither (one_of p.sources node) (one_of p.sinks node)
+      (sym (m node) ∙ sym (mark_at marks node h.cell) ∙ h.unmarked) in
+      record {
+        inner = (at, clear.0, clear.1);
+        unbalanced = λ e.
+            h.unequal
+            (cell_into p.net.nodes lines into out node f at ∙ e ∙ sym (cell_out p.net.nodes lines into out node f at));
+        least = λ v l inner. equal_at (node - 1) v h.least inner (omega (arith, inner.0.0));
+      }

@@ -59,25 +59,26 @@ module _ (early : List ℕ → Option (ℕ × FaultCode)) (fed : List ℕ → Ty
     judged = (failed, quiet so_far.text so_far.has_text);
   }
 
-  -- the next piece is refused
-  pub refused : {T : Type 0} (has_fault : List ℕ → ℕ × FaultCode → Type 0) (accepts : List ℕ → T → Type 0)
-      (solution : Bool) (fault : ReadFault) (result : Stop) (fed_more : List ℕ → Type 0) (piece : List ℕ)
-      → length piece ≤ 4096 → Consumes mid after piece → fa ≡ fm
-      → ((b : List ℕ) → fed b → FeedsOn (early (b ++ piece)) (fed_more (b ++ piece)) (Err fault))
-      → result ≡ stop_for solution fault
-      → IsRead {T = T} early has_fault accepts (stream before after fb fa) solution (Err result)
-  refused has_fault accepts solution (Fault line code) result fed_more piece short pulled unfailed fails e = rw e (record {
-    text = so_far.text ++ piece;
-    delivered = Consumes-trans before mid after so_far.text piece so_far.delivered pulled;
-    one_pass = pass_of piece short;
-    judged = (unfailed ∙ so_far.kept, refl, inl (fails so_far.text so_far.has_text));
-  })
-  refused has_fault accepts solution OutOfMemory result fed_more piece short pulled unfailed fails e = rw e (record {
-    text = so_far.text ++ piece;
-    delivered = Consumes-trans before mid after so_far.text piece so_far.delivered pulled;
-    one_pass = pass_of piece short;
-    judged = unfailed ∙ so_far.kept;
-  })
+  module _ {T : Type 0} (has_fault : List ℕ → ℕ × FaultCode → Type 0) (accepts : List ℕ → T → Type 0) (solution : Bool)
+      (fed_more : List ℕ → Type 0) (piece : List ℕ) (short : length piece ≤ 4096) (pulled : Consumes mid after piece)
+      (unfailed : fa ≡ fm) where
+    -- the next piece is refused
+    pub refused : (fault : ReadFault) (result : Stop)
+        → ((b : List ℕ) → fed b → FeedsOn (early (b ++ piece)) (fed_more (b ++ piece)) (Err fault))
+        → result ≡ stop_for solution fault
+        → IsRead {T = T} early has_fault accepts (stream before after fb fa) solution (Err result)
+    refused (Fault line code) result fails e = rw e (record {
+      text = so_far.text ++ piece;
+      delivered = Consumes-trans before mid after so_far.text piece so_far.delivered pulled;
+      one_pass = pass_of piece short;
+      judged = (unfailed ∙ so_far.kept, refl, inl (fails so_far.text so_far.has_text));
+    })
+    refused OutOfMemory result fails e = rw e (record {
+      text = so_far.text ++ piece;
+      delivered = Consumes-trans before mid after so_far.text piece so_far.delivered pulled;
+      one_pass = pass_of piece short;
+      judged = unfailed ∙ so_far.kept;
+    })
 
   module _ {T : Type 0} (has_fault : List ℕ → ℕ × FaultCode → Type 0) (accepts : List ℕ → T → Type 0) (solution : Bool)
       (pulled : Consumes mid after []) (at_end : IsAtEnd after) (unfailed : fa ≡ fm) where

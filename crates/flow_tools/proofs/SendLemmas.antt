@@ -85,31 +85,30 @@ pub on_err : {T E : Type 0} {P : Type 0} (r : Result T E) → P → OnErr r P
 on_err (Ok x) p = tt
 on_err (Err e) p = p
 
--- what waited is put: all of the text was taken, or a beginning of it
-put_ok : {E : Type 0} (a b c : Option (List ℕ)) (waiting text bytes : List ℕ) (r : Result (Unit {0}) E)
-    → Sends a b waiting text → bytes ≡ waiting → OnOk r (Appends b c bytes) → OnOk r (Appends a c text)
-put_ok a b c waiting text bytes (Ok x) s e p = sends_all a b c waiting text s (rw (← e) p)
-put_ok a b c waiting text bytes (Err x) s e p = tt
-
-put_err : {E : Type 0} (a b c : Option (List ℕ)) (waiting text bytes : List ℕ) (r : Result (Unit {0}) E)
-    → Sends a b waiting text → bytes ≡ waiting → OnErr r (Stops b c bytes) → OnErr r (Stops a c text)
-put_err a b c waiting text bytes (Ok x) s e p = tt
-put_err a b c waiting text bytes (Err x) s e p = stops_in a b c waiting text s (rw (← e) p)
-
 -- a flag over two calls
 pub flags_on : {E : Type 0} (f g h : Bool) (r : Result (Unit {0}) E) → g ≡ f → Flags g h r → Flags f h r
 flags_on f g h (Ok x) e p = p ∙ e
 flags_on f g h (Err x) e p = p
 
--- a text of which some waits is put once what waits is put
-pub waiting_put : {E : Type 0} (a b c : Option (List ℕ)) (f g h : Bool) (waiting text bytes : List ℕ)
-    (r : Result (Unit {0}) E) → Sends a b waiting text → g ≡ f → bytes ≡ waiting
-    → IsPut bytes (stream b c g h) r → IsPut text (stream a c f h) r
-waiting_put a b c f g h waiting text bytes r sent kept e put = record {
-  ok = put_ok a b c waiting text bytes r sent e put.ok;
-  err = put_err a b c waiting text bytes r sent e put.err;
-  flag = flags_on f g h r kept put.flag;
-}
+module _ {E : Type 0} (a b c : Option (List ℕ)) (waiting text bytes : List ℕ) (sent : Sends a b waiting text)
+    (same : bytes ≡ waiting) where
+  -- what waited is put: all of the text was taken, or a beginning of it
+  put_ok : (r : Result (Unit {0}) E) → OnOk r (Appends b c bytes) → OnOk r (Appends a c text)
+  put_ok (Ok x) p = sends_all a b c waiting text sent (rw (← same) p)
+  put_ok (Err x) p = tt
+
+  put_err : (r : Result (Unit {0}) E) → OnErr r (Stops b c bytes) → OnErr r (Stops a c text)
+  put_err (Ok x) p = tt
+  put_err (Err x) p = stops_in a b c waiting text sent (rw (← same) p)
+
+  -- so a text of which some waits is put once what waits is put
+  pub waiting_put : (f g h : Bool) (r : Result (Unit {0}) E) → g ≡ f → IsPut bytes (stream b c g h) r
+      → IsPut text (stream a c f h) r
+  waiting_put f g h r kept put = record {
+    ok = put_ok r put.ok;
+    err = put_err r put.err;
+    flag = flags_on f g h r kept put.flag;
+  }
 
 -- a line more waits, and none more is taken
 pub sends_with : (a b : Option (List ℕ)) (waiting text line : List ℕ) → Sends a b waiting text

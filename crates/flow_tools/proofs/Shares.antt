@@ -143,79 +143,92 @@ same_pair : (u v src dst : ℕ) → v < 4294967296 → dst < 4294967296 → pair
 same_pair u v src dst l k e = let first : u ≡ src = omega arith in (first, omega arith)
 
 -- What holds while the flow of a line is put on the arcs of its pair: what is left of it, and the flow then.
-pub record IsPouring (net : Net) (places : List ArcPlace) (at : ℕ) (before : List ℕ) (src dst amount left : ℕ)
+pub record IsPouring (net : Net) (places : List ArcPlace) (before : List ℕ) (line : FlowLine) (at left : ℕ)
     (xs : List ℕ) : Type 0 where
   pub fits : Fits net xs
-  pub at_most : left ≤ amount
-  pub more : HasMore net before src dst (amount - left) xs
-  pub passed : ArePassed net places at (pair_rank src dst) xs
+  pub at_most : left ≤ line.flow
+  pub more : HasMore net before line.src line.dst (line.flow - left) xs
+  pub passed : ArePassed net places at (line_rank line) xs
 
--- before the first place
-pub poured_none : (net : Net) (places : List ArcPlace) (at : ℕ) (before : List ℕ) (src dst amount : ℕ) → Fits net before
-    → ArePassed net places at (pair_rank src dst) before → IsPouring net places at before src dst amount amount before
-poured_none net places at before src dst amount f p = record {
-  fits = f;
-  at_most = omega arith;
-  more = subst (λ n. HasMore net before src dst n before) (omega arith) (more_none net before src dst);
-  passed = p;
-}
+-- the place is of the line's pair
+pub record IsOfPair (places : List ArcPlace) (line : FlowLine) (at : ℕ) : Type 0 where
+  pub within : at < length places
+  pub line_below : line.dst < 4294967296
+  pub place_below : (get_or places at no_place).dst < 4294967296
+  pub same : place_rank (get_or places at no_place) ≡ line_rank line
 
--- a place of a lesser pair
-pub poured_past : (net : Net) (places : List ArcPlace) (at : ℕ) (before : List ℕ) (src dst amount left : ℕ)
-    (xs : List ℕ) → at < length places → place_rank (get_or places at no_place) < pair_rank src dst
-    → IsPouring net places at before src dst amount left xs
-    → IsPouring net places (at + 1) before src dst amount left xs
-poured_past net places at before src dst amount left xs l less h = record {
-  fits = h.fits;
-  at_most = h.at_most;
-  more = h.more;
-  passed =
-      passed_more net places at (pair_rank src dst) xs h.passed
-      (λ d. inl (let same = ap place_rank (get_or_default places at d no_place l) in omega arith));
-}
+-- an arc takes all of an amount but the rest, and the flow was xs and is ys
+pub record TakesUp (net : Net) (arc left rest : ℕ) (xs ys : List ℕ) : Type 0 where
+  pub at_most : rest ≤ left
+  pub put : ys ≡ set xs arc (get_or xs arc 0 + (left - rest))
+  pub fits : Fits net ys
 
--- a place of the pair, whose arc takes all but r
-pub poured_here : (net : Net) (places : List ArcPlace) (at : ℕ) (before : List ℕ) (src dst amount left r : ℕ)
-    (xs ys : List ℕ) → AreOrderedArcs net places → at < length places → dst < 4294967296
-    → (get_or places at no_place).dst < 4294967296 → place_rank (get_or places at no_place) ≡ pair_rank src dst
-    → r ≤ left → ys ≡ set xs (get_or places at no_place).arc (get_or xs (get_or places at no_place).arc 0 + (left - r))
-    → Fits net ys → IsPouring net places at before src dst amount left xs
-    → IsPouring net places at before src dst amount r ys
-poured_here net places at before src dst amount left r xs ys o l low low' e k w f h =
-    let place = get_or places at no_place in
-    let ends = same_pair place.src place.dst src dst low' low e in
-    let known = All-get_or (λ p. (p.arc < length net.arcs) × (p ≡ place_of net p.arc)) places at no_place l
-    o.listed.sound in
-    let arc = place.arc in
-    let first : (arc_at net arc).src ≡ src = sym (ap (λ p. p.src) known.1) ∙ ends.0 in
-    let second : (arc_at net arc).dst ≡ dst = sym (ap (λ p. p.dst) known.1) ∙ ends.1 in
-    let put = set_more net xs arc (left - r) src dst h.fits.count known.0 first second in
-    let after : HasMore net xs src dst (left - r) ys = subst (λ zs. HasMore net xs src dst (left - r) zs) (sym w) put in
-    let both = more_twice net before xs ys src dst (amount - left) (left - r) h.more after in
-    let all : (amount - left) + (left - r) ≡ amount - r = omega (arith, h.at_most) in
-    record {
-      fits = f;
-      at_most = omega (arith, h.at_most);
-      more = subst (λ n. HasMore net before src dst n ys) all both;
-      passed =
-          subst (λ zs. ArePassed net places at (pair_rank src dst) zs) (sym w)
-          (passed_kept net places at (pair_rank src dst) xs arc (left - r) h.fits.count known.0 (subst (Fits net) w f)
-          h.passed);
-    }
+module _ (net : Net) (places : List ArcPlace) (before : List ℕ) (line : FlowLine) (at : ℕ) where
+  -- before the first place
+  pub poured_none : Fits net before → ArePassed net places at (line_rank line) before
+      → IsPouring net places before line at line.flow before
+  poured_none f p = record {
+    fits = f;
+    at_most = omega arith;
+    more =
+        subst (λ n. HasMore net before line.src line.dst n before) (omega arith)
+        (more_none net before line.src line.dst);
+    passed = p;
+  }
 
--- which is full then
-pub poured_full : (net : Net) (places : List ArcPlace) (at : ℕ) (before : List ℕ) (src dst amount left : ℕ)
-    (xs : List ℕ) → at < length places → IsFull net xs (get_or places at no_place).arc
-    → IsPouring net places at before src dst amount left xs
-    → IsPouring net places (at + 1) before src dst amount left xs
-poured_full net places at before src dst amount left xs l full h = record {
-  fits = h.fits;
-  at_most = h.at_most;
-  more = h.more;
-  passed =
-      passed_more net places at (pair_rank src dst) xs h.passed
-      (λ d. inr (subst (λ (p : ArcPlace). IsFull net xs p.arc) (get_or_default places at no_place d l) full));
-}
+  -- a place of a lesser pair
+  pub poured_past : (left : ℕ) (xs : List ℕ) → at < length places
+      → place_rank (get_or places at no_place) < line_rank line → IsPouring net places before line at left xs
+      → IsPouring net places before line (at + 1) left xs
+  poured_past left xs l less h = record {
+    fits = h.fits;
+    at_most = h.at_most;
+    more = h.more;
+    passed =
+        passed_more net places at (line_rank line) xs h.passed
+        (λ d. inl (let same = ap place_rank (get_or_default places at d no_place l) in omega arith));
+  }
+
+  -- a place of the pair
+  pub poured_here : (left rest : ℕ) (xs ys : List ℕ) → AreOrderedArcs net places → IsOfPair places line at
+      → TakesUp net (get_or places at no_place).arc left rest xs ys → IsPouring net places before line at left xs
+      → IsPouring net places before line at rest ys
+  poured_here left rest xs ys o own t h =
+      let src = line.src in
+      let dst = line.dst in
+      let place = get_or places at no_place in
+      let ends = same_pair place.src place.dst src dst own.place_below own.line_below own.same in
+      let known = All-get_or (λ p. (p.arc < length net.arcs) × (p ≡ place_of net p.arc)) places at no_place own.within
+      o.listed.sound in
+      let arc = place.arc in
+      let first : (arc_at net arc).src ≡ src = sym (ap (λ p. p.src) known.1) ∙ ends.0 in
+      let second : (arc_at net arc).dst ≡ dst = sym (ap (λ p. p.dst) known.1) ∙ ends.1 in
+      let put = set_more net xs arc (left - rest) src dst h.fits.count known.0 first second in
+      let after : HasMore net xs src dst (left - rest) ys =
+      subst (λ zs. HasMore net xs src dst (left - rest) zs) (sym t.put) put in
+      let both = more_twice net before xs ys src dst (line.flow - left) (left - rest) h.more after in
+      let all : (line.flow - left) + (left - rest) ≡ line.flow - rest = omega (arith, h.at_most, t.at_most) in
+      record {
+        fits = t.fits;
+        at_most = omega (arith, h.at_most, t.at_most);
+        more = subst (λ n. HasMore net before src dst n ys) all both;
+        passed =
+            subst (λ zs. ArePassed net places at (line_rank line) zs) (sym t.put)
+            (passed_kept net places at (line_rank line) xs arc (left - rest) h.fits.count known.0
+            (subst (Fits net) t.put t.fits) h.passed);
+      }
+
+  -- which is full then
+  pub poured_full : (left : ℕ) (xs : List ℕ) → at < length places → IsFull net xs (get_or places at no_place).arc
+      → IsPouring net places before line at left xs → IsPouring net places before line (at + 1) left xs
+  poured_full left xs l full h = record {
+    fits = h.fits;
+    at_most = h.at_most;
+    more = h.more;
+    passed =
+        passed_more net places at (line_rank line) xs h.passed
+        (λ d. inr (subst (λ (p : ArcPlace). IsFull net xs p.arc) (get_or_default places at no_place d l) full));
+  }
 
 -- ---- all lines
 
@@ -268,16 +281,23 @@ yes_step b x m k e h = grind arith
 no_step : (b : Bool) (x m k : ℕ) → b ≡ false → m ≡ k + cond b x 0 → m ≡ k
 no_step b x m k e h = grind arith
 
+-- A line at which some flow is left though the arcs of its pair are full: the flow was xs, and is ys with the line.
+pub record IsLeftOver (net : Net) (lines : List FlowLine) (i left : ℕ) (xs ys : List ℕ) (line : FlowLine)
+    : Type 0 where
+  pub within : i < length lines
+  pub carries : Carries net (take i lines) xs
+  pub more : HasMore net xs line.src line.dst (line.flow - left) ys
+  pub some : 0 < left
+  pub at_most : left ≤ line.flow
+  pub full : arc_flow net (is_pair line.src line.dst) ys ≡ pair_cap net line.src line.dst
+  pub fits : Fits net ys
+
 -- the first line that finds no room is of the least pair whose flow passes its capacity
 pub first_over : (net : Net) (lines : List FlowLine) (i left : ℕ) (xs ys : List ℕ) → IsNet net
-    → All (IsLineWithin net.nodes) lines → IsNonDecreasingBy line_rank lines → i < length lines
-    → Carries net (take i lines) xs
-    → HasMore net xs (get_or lines i no_line).src (get_or lines i no_line).dst ((get_or lines i no_line).flow - left) ys
-    → 0 < left → left ≤ (get_or lines i no_line).flow
-    → arc_flow net (is_pair (get_or lines i no_line).src (get_or lines i no_line).dst) ys
-    ≡ pair_cap net (get_or lines i no_line).src (get_or lines i no_line).dst → Fits net ys
+    → All (IsLineWithin net.nodes) lines → IsNonDecreasingBy line_rank lines
+    → IsLeftOver net lines i left xs ys (get_or lines i no_line)
     → IsFirstOver net lines (get_or lines i no_line).src (get_or lines i no_line).dst
-first_over net lines i left xs ys n w o l c m some part full f = record { over = over; least = least }
+first_over net lines i left xs ys n w o h = record { over = over; least = least }
   where
     s : ℕ
     s = (get_or lines i no_line).src
@@ -291,24 +311,33 @@ first_over net lines i left xs ys n w o l c m some part full f = record { over =
     over : pair_cap net s t < pair_flow lines s t
     over =
         let own : arc_flow net (is_pair s t) ys ≡ arc_flow net (is_pair s t) xs + (x - left) =
-        yes_step (is_pair s t s t) (x - left) _ _ (own_pair s t) (m (is_pair s t)) in
+        yes_step (is_pair s t s t) (x - left) _ _ (own_pair s t) (h.more (is_pair s t)) in
         let next : line_flow (is_pair s t) (take (i + 1) lines) ≡ line_flow (is_pair s t) (take i lines) + x =
-        yes_step (is_pair s t s t) x _ _ (own_pair s t) (line_flow_more (is_pair s t) lines i no_line l) in
-        omega (arith, own, next, c (is_pair s t), line_flow-take-drop (is_pair s t) lines (i + 1), full, some, part)
+        yes_step (is_pair s t s t) x _ _ (own_pair s t) (line_flow_more (is_pair s t) lines i no_line h.within) in
+        omega (
+          arith,
+          own,
+          next,
+          h.carries (is_pair s t),
+          line_flow-take-drop (is_pair s t) lines (i + 1),
+          h.full,
+          h.some,
+          h.at_most,
+        )
 
     least : (u v : ℕ) → IsBefore u v s t → pair_flow lines u v ≤ pair_cap net u v
     least u v b = elim (cases_lt v 4294967296) [
       | inl low ↦
           let rank : pair_rank u v < pair_rank s t = before_rank u v s t low b in
           let own : arc_flow net (is_pair u v) ys ≡ arc_flow net (is_pair u v) xs =
-          no_step (is_pair u v s t) (x - left) _ _ (other_pair u v s t rank) (m (is_pair u v)) in
+          no_step (is_pair u v s t) (x - left) _ _ (other_pair u v s t rank) (h.more (is_pair u v)) in
           omega (
             arith,
             own,
-            c (is_pair u v),
+            h.carries (is_pair u v),
             none_further lines i u v o rank,
             line_flow-take-drop (is_pair u v) lines i,
-            flow_over-le-cap_over (λ a. is_pair u v a.src a.dst) net.arcs ys (zip_from_fits net ys f),
+            flow_over-le-cap_over (λ a. is_pair u v a.src a.dst) net.arcs ys (zip_from_fits net ys h.fits),
           )
       | inr high ↦ omega (arith, none_past net.nodes lines u v (omega (arith, n.nodes_most)) w)
     ]

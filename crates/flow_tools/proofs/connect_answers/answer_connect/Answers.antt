@@ -17,9 +17,9 @@ returns-in-Ok-put_all g c =
     let parts = c.into_parts-net.ensures in
     let made = rw parts.net at c.in-Ok.ensures in
     let e = c.in-Ok-solve_connectivity.ensures in
-    let is = connectivity_of p c.in-Ok.net c.deref.result.now c.deref-2.result.now c.args.form.undirected
-    c.args.form.pair value (c.deref.ensures.value ∙ parts.sources) (c.deref-2.ensures.value ∙ parts.sinks) made e.pair
-    e.whole in
+    let is = connectivity_of p c.in-Ok.net c.deref.result.now c.deref-2.result.now
+    (c.deref.ensures.value ∙ parts.sources) (c.deref-2.ensures.value ∙ parts.sinks) c.args.form.undirected
+    c.args.form.pair value made e.pair e.whole in
     puts_all (Connect c.args.form.undirected c.args.form.pair) p _ _ _ _ (connect_line value) (value, is, refl, refl)
     (rw (c.as_slice.ensures.value, c.connect_line.ensures) at c.in-Ok-put_all.ensures.ok) c.in-Ok-put_all.ensures.flag
 
@@ -30,9 +30,9 @@ returns g c =
     let parts = c.into_parts-net.ensures in
     let made = rw parts.net at c.in-Ok.ensures in
     let e = c.in-Ok-solve_connectivity.ensures in
-    let is = connectivity_of p c.in-Ok.net c.deref.result.now c.deref-2.result.now c.args.form.undirected
-    c.args.form.pair value (c.deref.ensures.value ∙ parts.sources) (c.deref-2.ensures.value ∙ parts.sinks) made e.pair
-    e.whole in
+    let is = connectivity_of p c.in-Ok.net c.deref.result.now c.deref-2.result.now
+    (c.deref.ensures.value ∙ parts.sources) (c.deref-2.ensures.value ∙ parts.sinks) c.args.form.undirected
+    c.args.form.pair value made e.pair e.whole in
     puts_some (Connect c.args.form.undirected c.args.form.pair) p _ _ _ _ (connect_line value) (value, is, refl, refl)
     (rw (c.as_slice.ensures.value, c.connect_line.ensures) at c.in-Err-put_all.ensures.err)
     c.in-Err-put_all.ensures.flag

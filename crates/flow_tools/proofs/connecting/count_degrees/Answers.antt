@@ -17,9 +17,9 @@ loop-i-preserved c =
         degrees =
             rw (w.out-is, w.into-is)
             (degrees_more c.args.net.now.nodes c.args.net.now.arcs c.loop-i.i c.arc-arc.result c.loop-i.out
-            c.loop-i.into (omega arith) c.arc-arc.ensures.arc j.out_size j.into_size
+            c.loop-i.into (omega arith) c.arc-arc.ensures.arc j.degrees j.out_size j.into_size
             (rw c.arc-arc.ensures.arc (arc_within c.args.net.now c.loop-i.i c.nodes.ensures.is_net (omega arith)))
-            w.if-arc.true j.degrees);
+            w.if-arc.true);
       }
       | else-arc w ↦ record {
         end = j.end;
@@ -28,6 +28,6 @@ loop-i-preserved c =
         degrees =
             rw (w.out-is, w.into-is)
             (degrees_loop c.args.net.now.nodes c.args.net.now.arcs c.loop-i.i c.arc-arc.result c.loop-i.out
-            c.loop-i.into (omega arith) c.arc-arc.ensures.arc w.if-arc.false j.degrees);
+            c.loop-i.into (omega arith) c.arc-arc.ensures.arc j.degrees w.if-arc.false);
       }
     ]

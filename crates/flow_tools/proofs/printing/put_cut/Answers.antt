@@ -22,8 +22,8 @@ returns-then-not-form g c =
     let X = side_of c.args.form.sink c.args.side.now in
     rw (← without_arcs_is c.args.net.now c.args.value _ c.gather_value.ensures X c.args.form.arcs
     (false_of_not c.args.form.arcs c.if-not-form.true))
-    (waiting_put _ _ _ _ _ _ _ _ _ c.put_all.result c.in_ok-gather_nodes.ensures.ok c.in_ok-gather_nodes.ensures.flag
-    c.as_slice.ensures.value c.put_all.ensures)
+    (waiting_put _ _ _ _ _ _ c.in_ok-gather_nodes.ensures.ok c.as_slice.ensures.value _ _ _ c.put_all.result
+    c.in_ok-gather_nodes.ensures.flag c.put_all.ensures)
 
 pub returns-in_err-gather_arcs : goal.returns-in_err-gather_arcs
 returns-in_err-gather_arcs g c =
@@ -43,7 +43,6 @@ returns g c =
     let X = side_of c.args.form.sink c.args.side.now in
     rw (← with_arcs_is c.args.net.now c.args.value _ c.gather_value.ensures X c.args.form.arcs
     (true_of_not c.args.form.arcs c.if-not-form.false))
-    (waiting_put _ _ _ _ _ _ _ _ _ c.put_all-2.result
-    (sends_more _ _ _ _ _ _ _ c.in_ok-gather_nodes.ensures.ok c.in_ok-gather_arcs.ensures.ok)
-    (c.in_ok-gather_arcs.ensures.flag ∙ c.in_ok-gather_nodes.ensures.flag) c.as_slice-2.ensures.value
-    c.put_all-2.ensures)
+    (waiting_put _ _ _ _ _ _ (sends_more _ _ _ _ _ _ _ c.in_ok-gather_nodes.ensures.ok c.in_ok-gather_arcs.ensures.ok)
+    c.as_slice-2.ensures.value _ _ _ c.put_all-2.result
+    (c.in_ok-gather_arcs.ensures.flag ∙ c.in_ok-gather_nodes.ensures.flag) c.put_all-2.ensures)

@@ -26,5 +26,5 @@ returns-in_err-gather_flows g c = record {
 pub returns : goal.returns
 returns g c =
     rw (← solution_text_is c.args.net.now c.args.value _ c.gather_value.ensures c.args.flows.now c.args.value_only
-    c.if-value_only.false) (waiting_put _ _ _ _ _ _ _ _ _ c.put_all-2.result c.in_ok-gather_flows.ensures.ok
-    c.in_ok-gather_flows.ensures.flag c.as_slice-2.ensures.value c.put_all-2.ensures)
+    c.if-value_only.false) (waiting_put _ _ _ _ _ _ c.in_ok-gather_flows.ensures.ok c.as_slice-2.ensures.value _ _ _
+    c.put_all-2.result c.in_ok-gather_flows.ensures.flag c.put_all-2.ensures)

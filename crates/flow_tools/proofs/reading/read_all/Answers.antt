@@ -11,6 +11,5 @@ loop-reader-preserved g c n h =
 pub returns-in-Err-feed : goal.returns-in-Err-feed
 returns-in-Err-feed g c n h =
     refused (g.R.Reader.early n) (g.R.Reader.reads c.loop-reader.reader n) (g.met.R.Reader.quiet _ n) _ _ _ _ _ _
-    (c.loop-reader.invariant n h) _ _ _ c.in-Err-feed.fault _ (g.R.Reader.reads c.feed.new.self n) _
-    (piece_fits _ _ c.in-Ok.ensures.fits) c.in-Ok.ensures.bytes.0 c.in-Ok.ensures.flag (c.in-Err-feed.ensures n)
-    c.stop_of.ensures
+    (c.loop-reader.invariant n h) _ _ _ (g.R.Reader.reads c.feed.new.self n) _ (piece_fits _ _ c.in-Ok.ensures.fits)
+    c.in-Ok.ensures.bytes.0 c.in-Ok.ensures.flag c.in-Err-feed.fault _ (c.in-Err-feed.ensures n) c.stop_of.ensures

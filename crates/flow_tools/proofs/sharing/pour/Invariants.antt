@@ -6,5 +6,5 @@ use Rattle.flow_tools.proofs.sharing.pour.Given as goal
 
 abbrev pub invariant-loop-at : goal.invariant-loop-at
 invariant-loop-at l =
-    IsPouring l.net l.places l.at l.initial.flow.flows l.fn.line.src l.fn.line.dst l.fn.line.flow l.left l.flow.flows
+    IsPouring l.net l.places l.initial.flow.flows l.fn.line l.at l.left l.flow.flows
     × (l.rank_of_line ≡ line_rank l.fn.line)

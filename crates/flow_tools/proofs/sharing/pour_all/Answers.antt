@@ -9,9 +9,15 @@ use Rattle.flow_tools.proofs.sharing.pour_all.Goals as goal
 pub returns-then-left-gt0-clause-answer : goal.returns-then-left-gt0-clause-answer
 returns-then-left-gt0-clause-answer c =
     first_over c.args.net.now c.args.lines.now c.loop-line.line-index c.pour-next.result.1 c.loop-line.flow.flows
-    c.pour-next.new.flow.flows c.requires.places.listed.limits c.requires.within c.requires.ordered
-    c.loop-line-test.true c.loop-line.invariant.carries c.pour-next.ensures.more c.if-left-gt0.true
-    c.pour-next.ensures.left (c.pour-next.ensures.full c.if-left-gt0.true) c.pour-next.ensures.fits
+    c.pour-next.new.flow.flows c.requires.places.listed.limits c.requires.within c.requires.ordered (record {
+      within = c.loop-line-test.true;
+      carries = c.loop-line.invariant.carries;
+      more = c.pour-next.ensures.more;
+      some = c.if-left-gt0.true;
+      at_most = c.pour-next.ensures.left;
+      full = c.pour-next.ensures.full c.if-left-gt0.true;
+      fits = c.pour-next.ensures.fits;
+    })
 
 pub loop-line-preserved : goal.loop-line-preserved
 loop-line-preserved c =

@@ -111,19 +111,20 @@ loop_stays a X e =
     neither : (p q : Bool) → p ≡ q → (p && not q) ≡ false
     neither p q h = grind arith
 
--- what one more arc between two nodes adds at a cell
-cell_more : (p : Arc → Bool) (arcs : List Arc) (i v w : ℕ) (cells : List ℕ) → i < length arcs → w < length cells
-    → slice_index cells v ≡ count_by p (take i arcs) → (v ≡ w → p (get_or arcs i no_arc) ≡ true)
-    → (v ≢ w → p (get_or arcs i no_arc) ≡ false)
-    → slice_index (set cells w (slice_index cells w + 1)) v ≡ count_by p (take (i + 1) arcs)
-cell_more p arcs i v w cells l k e on off = elim (cases_eq v w) [
-  | inl h ↦
-      let here : get_or (set cells w (get_or cells w 0 + 1)) w 0 ≡ get_or cells w 0 + 1 =
-      get_or-set_same cells w (get_or cells w 0 + 1) 0 k in
-      let at : get_or (set cells w (get_or cells w 0 + 1)) v 0 ≡ get_or cells v 0 + 1 = rw h here in
-      omega (arith, at, e, count_by_more_yes p arcs i no_arc l (on h))
-  | inr n ↦ get_or-set_other cells w v (get_or cells w 0 + 1) 0 n ∙ e ∙ sym (count_by_more_no p arcs i no_arc l (off n))
-]
+module _ (p : Arc → Bool) (arcs : List Arc) (i : ℕ) (l : i < length arcs) where
+  -- what one more arc between two nodes adds at a cell
+  cell_more : (v w : ℕ) (cells : List ℕ) → w < length cells → slice_index cells v ≡ count_by p (take i arcs)
+      → (v ≡ w → p (get_or arcs i no_arc) ≡ true) → (v ≢ w → p (get_or arcs i no_arc) ≡ false)
+      → slice_index (set cells w (slice_index cells w + 1)) v ≡ count_by p (take (i + 1) arcs)
+  cell_more v w cells k e on off = elim (cases_eq v w) [
+    | inl h ↦
+        let here : get_or (set cells w (get_or cells w 0 + 1)) w 0 ≡ get_or cells w 0 + 1 =
+        get_or-set_same cells w (get_or cells w 0 + 1) 0 k in
+        let at : get_or (set cells w (get_or cells w 0 + 1)) v 0 ≡ get_or cells v 0 + 1 = rw h here in
+        omega (arith, at, e, count_by_more_yes p arcs i no_arc l (on h))
+    | inr n ↦
+        get_or-set_other cells w v (get_or cells w 0 + 1) 0 n ∙ e ∙ sym (count_by_more_no p arcs i no_arc l (off n))
+  ]
 
 -- an arc leaves the set of its first node alone, and enters that of its second
 leaves_just : (a : Arc) (v : ℕ) → a.src ≢ a.dst
@@ -171,12 +172,12 @@ module _ (nodes : ℕ) (arcs : List Arc) (i : ℕ) (a : Arc) (out into : List �
       record {
         leaving = λ v h.
             (let j = leaves_just a (v + 1) ne in
-            cell_more (leaves (just (v + 1))) arcs i v (a.src - 1) out l (omega arith) (deg.leaving v h)
+            cell_more (leaves (just (v + 1))) arcs i l v (a.src - 1) out (omega arith) (deg.leaving v h)
             (λ e. ap (leaves (just (v + 1))) (sym at) ∙ j.0 (omega arith))
             (λ n. ap (leaves (just (v + 1))) (sym at) ∙ j.1 (λ f. n (omega arith))));
         entering = λ v h.
             (let j = enters_just a (v + 1) ne in
-            cell_more (enters (just (v + 1))) arcs i v (a.dst - 1) into l (omega arith) (deg.entering v h)
+            cell_more (enters (just (v + 1))) arcs i l v (a.dst - 1) into (omega arith) (deg.entering v h)
             (λ e. ap (enters (just (v + 1))) (sym at) ∙ j.0 (omega arith))
             (λ n. ap (enters (just (v + 1))) (sym at) ∙ j.1 (λ f. n (omega arith))));
       }

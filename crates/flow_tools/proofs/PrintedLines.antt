@@ -200,36 +200,36 @@ none_fine : (before : List (List ℕ)) (nodes : ℕ) → first_fault solution_ru
 unfolding first_fault
 none_fine before nodes = refl
 
--- so no line has a fault, and all flow lines are kept
-flows_fine : (nodes value : ℕ) (before : List (List ℕ)) (done : List FlowLine) (arcs : List Arc) (xs : List ℕ)
-    → nodes ≤ MOST_NODES → stated_of nodes before ≡ known nodes value done → length done + length arcs ≤ MOST_FLOW_LINES
-    → AllByRecursion (IsArcWithin nodes) arcs → AllZip (λ a x. x ≤ a.cap) arcs xs
-    → (first_fault solution_rules (stated_of nodes) before (map body_of (zip arcs xs)) ≡ None)
-    × (stated_of nodes (before ++ map body_of (zip arcs xs))
-    ≡ known nodes value (done ++ map carried_line (zip arcs xs)))
-flows_fine nodes value before done [] [] n e few w f = (
-  none_fine before nodes,
-  ap (stated_of nodes) (append-nil before) ∙ e ∙ ap (known nodes value) (sym (append-nil done)),
-)
-flows_fine nodes value before done [] (x ∷ xs) n e few w f = absurd f
-flows_fine nodes value before done (a ∷ arcs) [] n e few w f = absurd f
-flows_fine nodes value before done (a ∷ arcs) (x ∷ xs) n e few w f =
-    let line : FlowLine = carried_line (a, x) in
-    let body = flow_body a.src a.dst x in
-    let cap = w.0.cap_fits in
-    let at_most = f.0 in
-    let added = flow_added (known nodes value done) line n refl (omega arith) w.0.src_least w.0.src_most w.0.dst_least
-    w.0.dst_most (omega arith) in
-    let fine : fault_of solution_rules (stated_of nodes before) body ≡ None =
-    ap (λ k. fault_of solution_rules k body) e ∙ added.0 in
-    let next : stated_of nodes (before ++ body ∷ []) ≡ known nodes value (done ++ line ∷ []) =
-    Adds-solution nodes before body fine ∙ ap (λ k. with_line with_solution_record k body) e ∙ added.1 in
-    let rest = flows_fine nodes value (before ++ body ∷ []) (done ++ line ∷ []) arcs xs n next
-    (omega (arith, length-append done (line ∷ []))) w.1 f.1 in (
-      one_fine before (map body_of (zip arcs xs)) body nodes fine rest.0,
-      ap (stated_of nodes) (sym (append_assoc before (body ∷ []) (map body_of (zip arcs xs)))) ∙ rest.1
-          ∙ ap (known nodes value) (append_assoc done (line ∷ []) (map carried_line (zip arcs xs))),
-    )
+module _ (nodes value : ℕ) (n : nodes ≤ MOST_NODES) where
+  -- so no line has a fault, and all flow lines are kept
+  flows_fine : (before : List (List ℕ)) (done : List FlowLine) (arcs : List Arc) (xs : List ℕ) → stated_of nodes before ≡ known nodes value done → length done + length arcs ≤ MOST_FLOW_LINES
+      → AllByRecursion (IsArcWithin nodes) arcs → AllZip (λ a x. x ≤ a.cap) arcs xs
+      → (first_fault solution_rules (stated_of nodes) before (map body_of (zip arcs xs)) ≡ None)
+      × (stated_of nodes (before ++ map body_of (zip arcs xs))
+      ≡ known nodes value (done ++ map carried_line (zip arcs xs)))
+  flows_fine before done [] [] e few w f = (
+    none_fine before nodes,
+    ap (stated_of nodes) (append-nil before) ∙ e ∙ ap (known nodes value) (sym (append-nil done)),
+  )
+  flows_fine before done [] (x ∷ xs) e few w f = absurd f
+  flows_fine before done (a ∷ arcs) [] e few w f = absurd f
+  flows_fine before done (a ∷ arcs) (x ∷ xs) e few w f =
+      let line : FlowLine = carried_line (a, x) in
+      let body = flow_body a.src a.dst x in
+      let cap = w.0.cap_fits in
+      let at_most = f.0 in
+      let added = flow_added (known nodes value done) line n refl (omega arith) w.0.src_least w.0.src_most w.0.dst_least
+      w.0.dst_most (omega arith) in
+      let fine : fault_of solution_rules (stated_of nodes before) body ≡ None =
+      ap (λ k. fault_of solution_rules k body) e ∙ added.0 in
+      let next : stated_of nodes (before ++ body ∷ []) ≡ known nodes value (done ++ line ∷ []) =
+      Adds-solution nodes before body fine ∙ ap (λ k. with_line with_solution_record k body) e ∙ added.1 in
+      let rest = flows_fine (before ++ body ∷ []) (done ++ line ∷ []) arcs xs next
+      (omega (arith, length-append done (line ∷ []))) w.1 f.1 in (
+        one_fine before (map body_of (zip arcs xs)) body nodes fine rest.0,
+        ap (stated_of nodes) (sym (append_assoc before (body ∷ []) (map body_of (zip arcs xs)))) ∙ rest.1
+            ∙ ap (known nodes value) (append_assoc done (line ∷ []) (map carried_line (zip arcs xs))),
+      )
 
 -- nor has any line byte 10
 flows_no_end : (nodes : ℕ) (arcs : List Arc) (xs : List ℕ) → nodes ≤ MOST_NODES
@@ -269,7 +269,7 @@ solved_is_accepted net value flows n few small f =
     let arcs = recursion_from_All (IsArcWithin net.nodes) net.arcs n.arcs_within in
     let fits = zip_from_fits net flows f in
     let first = value_added net.nodes value small in
-    let rest = flows_fine net.nodes value (value_body value ∷ []) [] net.arcs flows n.nodes_most first.1 (omega arith)
+    let rest = flows_fine net.nodes value n.nodes_most (value_body value ∷ []) [] net.arcs flows first.1 (omega arith)
     arcs fits in
     let bodies = map body_of (zip net.arcs flows) in
     let none = All-cons HasNoEnd (value_body value) bodies

@@ -54,29 +54,29 @@ places_moved net xs ys m a = record {
 
 -- ---- places passed
 
--- an arc that is full stays full
-full_kept : (net : Net) (xs : List ℕ) (i d j : ℕ) → length xs ≡ length net.arcs → i < length net.arcs
-    → Fits net (set xs i (get_or xs i 0 + d)) → IsFull net xs j → IsFull net (set xs i (get_or xs i 0 + d)) j
-full_kept net xs i d j n l f e = elim (cases_eq j i) [
-  | inl at ↦
-      let same : get_or (set xs i (get_or xs i 0 + d)) i 0 ≡ get_or xs i 0 + d =
-      get_or-set_same xs i (get_or xs i 0 + d) 0 (omega arith) in
-      let low : get_or (set xs i (get_or xs i 0 + d)) i 0 ≤ (arc_at net i).cap = f.within i l in
-      let P : ℕ → Type 0 = λ k. get_or (set xs i (get_or xs i 0 + d)) k 0 ≡ (arc_at net k).cap in
-      let Q : ℕ → Type 0 = λ k. get_or xs k 0 ≡ (arc_at net k).cap in
-      let there : get_or xs i 0 ≡ (arc_at net i).cap = subst Q at e in
-      subst P (sym at) (omega arith)
-  | inr other ↦ get_or-set_other xs i j (get_or xs i 0 + d) 0 other ∙ e
-]
+module _ (net : Net) (xs : List ℕ) (i d : ℕ) (n : length xs ≡ length net.arcs) (l : i < length net.arcs)
+    (f : Fits net (set xs i (get_or xs i 0 + d))) where
+  -- an arc that is full stays full
+  full_kept : (j : ℕ) → IsFull net xs j → IsFull net (set xs i (get_or xs i 0 + d)) j
+  full_kept j e = elim (cases_eq j i) [
+    | inl at ↦
+        let same : get_or (set xs i (get_or xs i 0 + d)) i 0 ≡ get_or xs i 0 + d =
+        get_or-set_same xs i (get_or xs i 0 + d) 0 (omega arith) in
+        let low : get_or (set xs i (get_or xs i 0 + d)) i 0 ≤ (arc_at net i).cap = f.within i l in
+        let P : ℕ → Type 0 = λ k. get_or (set xs i (get_or xs i 0 + d)) k 0 ≡ (arc_at net k).cap in
+        let Q : ℕ → Type 0 = λ k. get_or xs k 0 ≡ (arc_at net k).cap in
+        let there : get_or xs i 0 ≡ (arc_at net i).cap = subst Q at e in
+        subst P (sym at) (omega arith)
+    | inr other ↦ get_or-set_other xs i j (get_or xs i 0 + d) 0 other ∙ e
+  ]
 
--- more flow leaves them passed
-pub passed_kept : (net : Net) (places : List ArcPlace) (at rank : ℕ) (xs : List ℕ) (i d : ℕ)
-    → length xs ≡ length net.arcs → i < length net.arcs → Fits net (set xs i (get_or xs i 0 + d))
-    → ArePassed net places at rank xs → ArePassed net places at rank (set xs i (get_or xs i 0 + d))
-passed_kept net places at rank xs i d n l f h k e b = elim (h k e b) [
-  | inl less ↦ inl less
-  | inr full ↦ inr (full_kept net xs i d (get_or places k e).arc n l f full)
-]
+  -- more flow leaves them passed
+  pub passed_kept : (places : List ArcPlace) (at rank : ℕ) → ArePassed net places at rank xs
+      → ArePassed net places at rank (set xs i (get_or xs i 0 + d))
+  passed_kept places at rank h k e b = elim (h k e b) [
+    | inl less ↦ inl less
+    | inr full ↦ inr (full_kept (get_or places k e).arc full)
+  ]
 
 -- one place more
 pub passed_more : (net : Net) (places : List ArcPlace) (at rank : ℕ) (xs : List ℕ) → ArePassed net places at rank xs
@@ -214,8 +214,8 @@ module _ (net : Net) (places : List ArcPlace) (before : List ℕ) (line : FlowLi
         more = subst (λ n. HasMore net before src dst n ys) all both;
         passed =
             subst (λ zs. ArePassed net places at (line_rank line) zs) (sym t.put)
-            (passed_kept net places at (line_rank line) xs arc (left - rest) h.fits.count known.0
-            (subst (Fits net) t.put t.fits) h.passed);
+            (passed_kept net xs arc (left - rest) h.fits.count known.0 (subst (Fits net) t.put t.fits) places at
+            (line_rank line) h.passed);
       }
 
   -- which is full then

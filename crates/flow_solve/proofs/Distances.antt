@@ -17,7 +17,7 @@ use Rattle.flow_solve.specs.Searches.{seen, IsSearched, IsMarked}
 use Rattle.flow_solve.specs.Levels.{cell_of, IsDead, IsBlocked, IsOrdered, IsGentle, IsFar, Descends}
 use Rattle.flow_solve.proofs.Falls.{opposite}
 use Rattle.flow_solve.proofs.Places.{cell_at}
-use Rattle.flow_solve.proofs.Found.{marked_seen}
+use Rattle.flow_solve.proofs.Searched.{marked_seen}
 
 -- a push over a half-arc that doesn't rise keeps the slope gentle
 gentle_pushed : (net : Net) (xs : List ℕ) (level : ℕ → ℕ) (h d : ℕ) → h < 2 * length net.arcs → 1 ≤ residual net xs h

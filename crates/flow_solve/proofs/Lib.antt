@@ -1,6 +1,6 @@
 pub mod Counting
 pub mod Crossings
-pub mod Found
+pub mod Searched
 pub mod Marks
 pub mod Outcomes
 pub mod Packed

@@ -16,7 +16,7 @@ use Rattle.flow_solve.specs.Searches.{near_end, far_end, IsWhole}
 pub whole_same : (dir : Direction) (net : Net) (xs starts : List ℕ) (X Y : ℕ → Bool) → ((v : ℕ) → Y v ≡ X v)
     → IsWhole dir net xs starts X → IsWhole dir net xs starts Y
 whole_same dir net xs starts X Y e w = record {
-  holds = λ v i. e v ∙ w.holds v i;
+  contains = λ v i. e v ∙ w.contains v i;
   closed = λ h l n r. e (far_end dir net h) ∙ w.closed h l (sym (e (near_end dir net h)) ∙ n) r;
   least = λ Z all c v i. w.least Z all c v (sym (e v) ∙ i);
 }
@@ -39,13 +39,13 @@ tight net s t X xs n f cut closed = record {
 pub forward_tight : (net : Net) (s : List ℕ) (t X : ℕ → Bool) (xs : List ℕ) → IsNet net → IsFeasible net (one_of s) t xs
     → IsWhole Forwards net xs s X → ((v : ℕ) → t v ≡ true → X v ≡ false) → IsTight net (one_of s) t xs X
 forward_tight net s t X xs n f w out =
-    tight net (one_of s) t X xs n f (record { sources = w.holds; sinks = out }) w.closed
+    tight net (one_of s) t X xs n f (record { sources = w.contains; sinks = out }) w.closed
 
 pub forward_side : (net : Net) (s : List ℕ) (t X : ℕ → Bool) (xs : List ℕ) → IsNet net → IsFeasible net (one_of s) t xs
     → IsWhole Forwards net xs s X → ((v : ℕ) → t v ≡ true → X v ≡ false) → (v : ℕ)
     → (X v ≡ true) ↔ IsInLeastSourceSide net (one_of s) t v
 forward_side net s t X xs n f w out =
-    least_source_side net (one_of s) t X xs n f (record { sources = w.holds; closed = w.closed; least = w.least }) out
+    least_source_side net (one_of s) t X xs n f (record { sources = w.contains; closed = w.closed; least = w.least }) out
 
 -- backwards
 turn : (b c : Bool) → (b ≡ true → c ≡ true) → not c ≡ true → not b ≡ true
@@ -55,7 +55,7 @@ turn false c f e = refl
 reaching : (net : Net) (t : List ℕ) (X : ℕ → Bool) (xs : List ℕ) → IsWhole Backwards net xs t X
     → IsReaching net (one_of t) xs X
 reaching net t X xs w = record {
-  sinks = w.holds;
+  sinks = w.contains;
   closed = w.closed;
   least = λ Y out closed v i.
       not_true (Y v) (w.least (λ u. not (Y u)) (λ u k. ap not (out u k))
@@ -71,7 +71,7 @@ pub backward_tight : (net : Net) (s : ℕ → Bool) (t : List ℕ) (X : ℕ → 
     → IsTight net s (one_of t) xs (λ v. not (X v))
 backward_tight net s t X xs n f w out =
     tight net s (one_of t) (λ v. not (X v)) xs n f
-    (record { sources = λ v i. ap not (out v i); sinks = λ v i. ap not (w.holds v i) })
+    (record { sources = λ v i. ap not (out v i); sinks = λ v i. ap not (w.contains v i) })
     (outside_closed net (one_of t) xs X (reaching net t X xs w))
 
 pub backward_side : (net : Net) (s : ℕ → Bool) (t : List ℕ) (X : ℕ → Bool) (xs : List ℕ) → IsNet net

@@ -1,5 +1,6 @@
 -- The method by levels (Dinitz 1970): the ranks that a search gives, places that only move on, and what a phase leaves.
-use Rattle.std.specs.Prelude.{◌≡◌, ◌≢◌, ℕ, zero, suc, ◌+◌, ◌-◌, ◌*◌, ◌≤◌, ◌<◌, ◌==◌, ◌⊎◌, ◌&&◌, min, nat_lt, Bool, true, false, not, IsTrue, IsFalse, List, [], ◌∷◌, length, slice_index, if◌then◌else◌}
+use Rattle.std.specs.Prelude.{◌≡◌, ◌≢◌, ℕ, zero, suc, ◌+◌, ◌-◌, ◌*◌, ◌≤◌, ◌<◌, ◌==◌, ◌⊎◌, ◌&&◌, min, nat_lt, Bool}
+use Rattle.std.specs.Prelude.{true, false, not, IsTrue, IsFalse, List, [], ◌∷◌, length, slice_index, if◌then◌else◌}
 use Rattle.std.specs.List.{AllByRecursion}
 use Rattle.flow_net.specs.Nets.{Net, IsNode}
 use Rattle.flow_net.specs.Limits.{AreTerminals}
@@ -55,9 +56,9 @@ abbrev pub weight_below : ℕ → (ℕ → Bool) → (ℕ → ℕ) → ℕ
 weight_below zero p w = 0
 weight_below (suc n) p w = weight_below n p w + (if p n then w n else 0)
 
--- What the augmentation costs that fills a half-arc: a look and a push for each half-arc of its path, and a look for each
--- half-arc that the walk goes along anew. The walk goes on where the filled one begins, and ranks fall along its path, so
--- these are no more than that node's rank.
+-- What the augmentation costs that fills a half-arc: a look and a push for each half-arc of its path, and a look for
+-- each half-arc that the walk goes along anew. The walk goes on where the filled one begins, and ranks fall along its
+-- path, so these are no more than that node's rank.
 abbrev pub fill_cost : Net → (ℕ → ℕ) → ℕ → ℕ
 fill_cost net rank h = 2 * (net.nodes - 1) + min (rank (tail_of net h)) (net.nodes - 1)
 
@@ -79,11 +80,14 @@ pub record IsDead (net : Net) (sink : ℕ → Bool) (place current : ℕ → ℕ
 
 -- on what was passed and falls nothing remains, or it leads to a dead node
 abbrev pub IsBlocked : Net → (ℕ → Bool) → (ℕ → ℕ) → (ℕ → ℕ) → (ℕ → ℕ) → List ℕ → Type 0
-IsBlocked net sink rank place current xs = (h : ℕ) → h < 2 * length net.arcs → place h < current (tail_of net h) → rank (head_of net h) < rank (tail_of net h) → (residual net xs h ≡ 0) ⊎ IsDead net sink place current (head_of net h)
+IsBlocked net sink rank place current xs = (h : ℕ) → h < 2 * length net.arcs → place h < current (tail_of net h)
+    → rank (head_of net h) < rank (tail_of net h) → (residual net xs h ≡ 0)
+    ⊎ IsDead net sink place current (head_of net h)
 
 -- each node's current place lies among its half-arcs, or behind them
 abbrev pub AreWithin : Net → List ℕ → (ℕ → ℕ) → Type 0
-AreWithin net first current = (v : ℕ) → IsNode net v → (slice_index first (v - 1) ≤ current v) × (current v ≤ slice_index first v)
+AreWithin net first current = (v : ℕ) → IsNode net v → (slice_index first (v - 1) ≤ current v)
+    × (current v ≤ slice_index first v)
 
 -- only one node's place has moved, and not back
 pub record HasMoved (now next : ℕ → ℕ) (x : ℕ) : Type 0 where
@@ -100,7 +104,8 @@ pub record IsLooked (net : Net) (first halves rank now next xs : List ℕ) (x : 
   pub size : length next ≡ net.nodes
   pub places : AreWithin net first (cell_of next)
   pub moved : HasMoved (cell_of now) (cell_of next) x
-  pub blocked : (t : ℕ → Bool) → IsBlocked net t (cell_of rank) (place_of halves) (cell_of now) xs → IsBlocked net t (cell_of rank) (place_of halves) (cell_of next) xs
+  pub blocked : (t : ℕ → Bool) → IsBlocked net t (cell_of rank) (place_of halves) (cell_of now) xs
+      → IsBlocked net t (cell_of rank) (place_of halves) (cell_of next) xs
 
 -- of the half-arcs of a path, the e-th is the first on which the least remains, and that is b
 pub record IsFilling (net : Net) (xs hs : List ℕ) (e b : ℕ) : Type 0 where
@@ -128,7 +133,8 @@ pub record IsInPhase (net : Net) (s t first halves rank current xs : List ℕ) (
 
 -- the sinks are the nodes of distance 0
 abbrev pub AreSinks : Net → List ℕ → List ℕ → Type 0
-AreSinks net t dist = (v : ℕ) → IsNode net v → (IsTrue (one_of t v) → cell_of dist v ≡ 0) × (cell_of dist v ≡ 0 → IsTrue (one_of t v))
+AreSinks net t dist = (v : ℕ) → IsNode net v → (IsTrue (one_of t v) → cell_of dist v ≡ 0)
+    × (cell_of dist v ≡ 0 → IsTrue (one_of t v))
 
 -- of two nodes the one at the lower level has the lower rank
 abbrev pub IsOrdered : Net → (ℕ → ℕ) → (ℕ → ℕ) → Type 0
@@ -136,7 +142,8 @@ IsOrdered net level rank = (v w : ℕ) → IsNode net v → IsNode net w → lev
 
 -- no half-arc with a residual capacity leads down by more than one level
 abbrev pub IsGentle : Net → List ℕ → (ℕ → ℕ) → Type 0
-IsGentle net xs level = (h : ℕ) → h < 2 * length net.arcs → 1 ≤ residual net xs h → level (tail_of net h) ≤ level (head_of net h) + 1
+IsGentle net xs level = (h : ℕ) → h < 2 * length net.arcs → 1 ≤ residual net xs h
+    → level (tail_of net h) ≤ level (head_of net h) + 1
 
 -- levels after a search: a node that it saw is at its distance, and a source that it didn't see is far above
 pub record IsLevelled (net : Net) (s t xs dist rank : List ℕ) (level : ℕ → ℕ) : Type 0 where
@@ -165,7 +172,8 @@ pub record IsPhase (phase : Phase) : Type 0 where
 
 -- after j phases: whatever a search backwards finds, it sees a source only at a distance above j
 abbrev pub IsFar : Net → List ℕ → List ℕ → List ℕ → ℕ → Type 0
-IsFar net s t xs j = (dist via : List ℕ) → IsSearched net xs Backwards t dist via → (v : ℕ) → IsTrue (one_of s v) → IsTrue (seen dist v) → j + 1 ≤ cell_of dist v
+IsFar net s t xs j = (dist via : List ℕ) → IsSearched net xs Backwards t dist via → (v : ℕ) → IsTrue (one_of s v)
+    → IsTrue (seen dist v) → j + 1 ≤ cell_of dist v
 
 -- the ranks fall along a list of half-arcs
 abbrev pub Descends : Net → (ℕ → ℕ) → List ℕ → Type 0
@@ -174,17 +182,20 @@ Descends net rank hs = AllByRecursion (λ h. rank (head_of net h) < rank (tail_o
 -- the same words, of a phase and of packed half-arcs as the code has them
 abbrev pub IsAt : Phase → List ℕ → List ℕ → ℕ → Type 0
 IsAt phase current xs k =
-    IsInPhase phase.packed.net.now phase.s.now phase.t.now phase.packed.first.now phase.packed.halves.now phase.rank.now current xs k
+    IsInPhase phase.packed.net.now phase.s.now phase.t.now phase.packed.first.now phase.packed.halves.now
+    phase.rank.now current xs k
 
 abbrev pub owes : Phase → List ℕ → Table → ℕ
 owes phase current table = owed phase.packed.net.now phase.packed.halves.now phase.rank.now current table.flows
 
 abbrev pub IsDeadIn : Phase → List ℕ → ℕ → Type 0
-IsDeadIn phase current v = IsDead phase.packed.net.now (one_of phase.t.now) (place_of phase.packed.halves.now) (cell_of current) v
+IsDeadIn phase current v =
+    IsDead phase.packed.net.now (one_of phase.t.now) (place_of phase.packed.halves.now) (cell_of current) v
 
 abbrev pub KeepsGentle : Phase → List ℕ → List ℕ → Type 0
 KeepsGentle phase xs ys =
-    (level : ℕ → ℕ) → IsOrdered phase.packed.net.now level (cell_of phase.rank.now) → IsGentle phase.packed.net.now xs level → IsGentle phase.packed.net.now ys level
+    (level : ℕ → ℕ) → IsOrdered phase.packed.net.now level (cell_of phase.rank.now)
+    → IsGentle phase.packed.net.now xs level → IsGentle phase.packed.net.now ys level
 
 abbrev pub AreLevelsOf : Phase → List ℕ → Type 0
 AreLevelsOf phase xs = AreLevels phase.packed.net.now phase.s.now phase.t.now xs phase.dist.now phase.rank.now
@@ -196,19 +207,22 @@ abbrev pub HasLooked : Packed → List ℕ → List ℕ → List ℕ → List �
 HasLooked packed rank now next xs v = IsLooked packed.net.now packed.first.now packed.halves.now rank now next xs v
 
 abbrev pub IsNext : Packed → List ℕ → List ℕ → List ℕ → ℕ → ℕ → Type 0
-IsNext packed rank current xs v h = IsAdmissible packed.net.now (cell_of rank) (place_of packed.halves.now) (cell_of current) xs v h
+IsNext packed rank current xs v h =
+    IsAdmissible packed.net.now (cell_of rank) (place_of packed.halves.now) (cell_of current) xs v h
 
 -- the looks for a node's next half-arc, but some, are paid by the half-arcs that they pass
 abbrev pub Looks : Packed → List ℕ → List ℕ → Table → List ℕ → Table → ℕ → Type 0
 Looks packed rank now before next after some =
-    after.steps + left packed.net.now (cell_of rank) (place_of packed.halves.now) (cell_of next) any ≤ before.steps + left packed.net.now (cell_of rank) (place_of packed.halves.now) (cell_of now) any + some
+    after.steps + left packed.net.now (cell_of rank) (place_of packed.halves.now) (cell_of next) any
+    ≤ before.steps + left packed.net.now (cell_of rank) (place_of packed.halves.now) (cell_of now) any + some
 
 abbrev pub AreLevelsBy : Plan → List ℕ → List ℕ → List ℕ → Type 0
 AreLevelsBy plan xs dist rank = AreLevels plan.packed.net.now plan.until.now plan.starts.now xs dist rank
 
 -- each source that was seen is dead; each node that was seen has a rank
 abbrev pub AreDead : Phase → List ℕ → Type 0
-AreDead phase current = (v : ℕ) → IsTrue (one_of phase.s.now v) → IsTrue (seen phase.dist.now v) → IsDeadIn phase current v
+AreDead phase current = (v : ℕ) → IsTrue (one_of phase.s.now v) → IsTrue (seen phase.dist.now v)
+    → IsDeadIn phase current v
 
 abbrev pub AreRankedIn : Phase → Type 0
 AreRankedIn phase = (v : ℕ) → IsTrue (seen phase.dist.now v) → cell_of phase.rank.now v < phase.packed.net.now.nodes

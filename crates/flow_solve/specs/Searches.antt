@@ -1,6 +1,7 @@
--- Breadth-first searches over the residual network, forwards from sources or backwards from sinks. Lists of cells have a
--- cell for each node, that of node 1 first; the place of a node is the number of its cell.
-use Rattle.std.specs.Prelude.{◌⊎◌, ◌≡◌, ℕ, zero, suc, ◌+◌, ◌-◌, ◌*◌, ◌%◌, ◌<◌, ◌≤◌, ◌==◌, nat_lt, if◌then◌else◌, Bool, false, IsTrue, IsFalse, List, length, slice_index, slice_index_or}
+-- Breadth-first searches over the residual network, forwards from sources or backwards from sinks. Lists of cells have
+-- a cell for each node, that of node 1 first; the place of a node is the number of its cell.
+use Rattle.std.specs.Prelude.{◌⊎◌, ◌≡◌, ℕ, zero, suc, ◌+◌, ◌-◌, ◌*◌, ◌%◌, ◌<◌, ◌≤◌, ◌==◌, nat_lt, if◌then◌else◌, Bool}
+use Rattle.std.specs.Prelude.{false, IsTrue, IsFalse, List, length, slice_index, slice_index_or}
 use Rattle.flow_net.specs.Nets.{Net}
 use Rattle.flow_net.specs.NodeSets.{one_of}
 use Rattle.flow_net.specs.Paths.{IsPath, IsApart, HasRoom}
@@ -34,11 +35,12 @@ crossed Backwards h = twin_of h
 
 -- no half-arc with a residual capacity has its near end in the set and its far end outside
 abbrev pub IsClosedFor : Direction → Net → List ℕ → (ℕ → Bool) → Type 0
-IsClosedFor dir net xs X = (h : ℕ) → h < 2 * length net.arcs → IsTrue (X (near_end dir net h)) → 1 ≤ residual net xs h → IsTrue (X (far_end dir net h))
+IsClosedFor dir net xs X = (h : ℕ) → h < 2 * length net.arcs → IsTrue (X (near_end dir net h)) → 1 ≤ residual net xs h
+    → IsTrue (X (far_end dir net h))
 
--- the set holds each node of a list
-abbrev pub HoldsAll : List ℕ → (ℕ → Bool) → Type 0
-HoldsAll nodes X = (v : ℕ) → IsTrue (one_of nodes v) → IsTrue (X v)
+-- the set contains each node of a list
+abbrev pub ContainsAll : List ℕ → (ℕ → Bool) → Type 0
+ContainsAll nodes X = (v : ℕ) → IsTrue (one_of nodes v) → IsTrue (X v)
 
 -- The search has seen the node at a place: its cell has a distance, and neither of the two numbers for an unseen node,
 -- FAR and, for one that the search looks out for, WANTED.
@@ -54,9 +56,9 @@ seen dist (suc p) = nat_lt (slice_index_or dist p FAR) WANTED
 abbrev pub IsNear : List ℕ → ℕ → Type 0
 IsNear dist level = (p : ℕ) → IsMarked dist p → slice_index dist p ≤ level
 
--- the set holds the node at each marked place
-abbrev pub HoldsMarked : ℕ → List ℕ → (ℕ → Bool) → Type 0
-HoldsMarked n dist X = (p : ℕ) → p < n → IsMarked dist p → IsTrue (X (p + 1))
+-- the set contains the node at each marked place
+abbrev pub ContainsMarked : ℕ → List ℕ → (ℕ → Bool) → Type 0
+ContainsMarked n dist X = (p : ℕ) → p < n → IsMarked dist p → IsTrue (X (p + 1))
 
 -- a sum over the marked places among the first
 abbrev pub spread : (ℕ → ℕ) → List ℕ → ℕ → ℕ
@@ -68,14 +70,15 @@ abbrev pub queued : (ℕ → ℕ) → List ℕ → ℕ → ℕ
 queued w queue zero = 0
 queued w queue (suc k) = queued w queue k + w (slice_index queue k)
 
--- the queue holds each marked place once, in its first cells, the nearest first
+-- the queue has each marked place once, in its first cells, the nearest first
 pub record IsQueue (dist queue : List ℕ) (tail : ℕ) : Type 0 where
   pub sums : (w : ℕ → ℕ) → spread w dist (length dist) ≡ queued w queue tail
   pub places : (i : ℕ) → i < tail → slice_index queue i < length dist
   pub marks : (i : ℕ) → i < tail → IsMarked dist (slice_index queue i)
   pub waits : (p : ℕ) → p < length dist → IsMarked dist p → (i : ℕ) × (i < tail) × (slice_index queue i ≡ p)
   pub levels : (p : ℕ) → p < length dist → IsMarked dist p → slice_index dist p < tail
-  pub rises : (i j : ℕ) → i ≤ j → j < tail → slice_index dist (slice_index queue i) ≤ slice_index dist (slice_index queue j)
+  pub rises : (i j : ℕ) → i ≤ j → j < tail
+      → slice_index dist (slice_index queue i) ≤ slice_index dist (slice_index queue j)
 
 -- what an unseen node's cell has, by whether the search looks out for the node; and 1 where it does
 abbrev pub unseen_cell : List ℕ → ℕ → ℕ
@@ -90,8 +93,10 @@ pub record IsCount (until dist : List ℕ) (wanted : ℕ) : Type 0 where
   pub count : wanted ≡ spread (wanted_at until) dist (length dist)
 
 -- a search that goes on: what it has seen stays as it was, and it counts each node that it looks out for
-pub record HasGrown (dist via queue : List ℕ) (before : Progress) (dist' via' queue' : List ℕ) (after : Progress) : Type 0 where
-  pub kept : (p : ℕ) → IsMarked dist p → (slice_index dist' p ≡ slice_index dist p) × (slice_index via' p ≡ slice_index via p)
+pub record HasGrown (dist via queue : List ℕ) (before : Progress) (dist' via' queue' : List ℕ) (after : Progress)
+    : Type 0 where
+  pub kept : (p : ℕ) → IsMarked dist p → (slice_index dist' p ≡ slice_index dist p)
+      × (slice_index via' p ≡ slice_index via p)
   pub ahead : (i : ℕ) → i < before.seen → slice_index queue' i ≡ slice_index queue i
   pub more : before.seen ≤ after.seen
   pub count : (until : List ℕ) → IsCount until dist before.wanted → IsCount until dist' after.wanted
@@ -147,34 +152,41 @@ pub record IsCome (net : Net) (flows : List ℕ) (dir : Direction) (dist via : L
 
 -- each half-arc with a residual capacity whose near end is at the place has a marked far end, farther by one at most
 abbrev pub IsDone : Net → List ℕ → Direction → List ℕ → ℕ → Type 0
-IsDone net flows dir dist p = (h : ℕ) → h < 2 * length net.arcs → group_of net h ≡ p → 1 ≤ residual net flows (crossed dir h)
+IsDone net flows dir dist p = (h : ℕ) → h < 2 * length net.arcs → group_of net h ≡ p
+    → 1 ≤ residual net flows (crossed dir h)
     → IsMarked dist (head_of net h - 1) × (slice_index dist (head_of net h - 1) ≤ slice_index dist p + 1)
 
 -- each half-arc that leaves a place was followed, and nothing else came in
-pub record IsFollowed (net : Net) (flows : List ℕ) (dir : Direction) (place : ℕ) (dist dist' via' : List ℕ) : Type 0 where
+pub record IsFollowed (net : Net) (flows : List ℕ) (dir : Direction) (place : ℕ) (dist dist' via' : List ℕ)
+    : Type 0 where
   pub near : IsNear dist' (slice_index dist place + 1)
   pub come : (p : ℕ) → IsMarked dist' p → IsMarked dist p ⊎ IsCome net flows dir dist' via' p
   pub next_level : (p : ℕ) → IsMarked dist' p → IsMarked dist p ⊎ (slice_index dist' p ≡ slice_index dist place + 1)
-  pub done : (h : ℕ) → h < 2 * length net.arcs → group_of net h ≡ place → 1 ≤ residual net flows (crossed dir h) → IsMarked dist' (head_of net h - 1)
-  pub only : (side : ℕ → Bool) → IsClosedFor dir net flows side → IsTrue (side (place + 1)) → HoldsMarked net.nodes dist side → HoldsMarked net.nodes dist' side
+  pub done : (h : ℕ) → h < 2 * length net.arcs → group_of net h ≡ place → 1 ≤ residual net flows (crossed dir h)
+      → IsMarked dist' (head_of net h - 1)
+  pub only : (side : ℕ → Bool) → IsClosedFor dir net flows side → IsTrue (side (place + 1))
+      → ContainsMarked net.nodes dist side → ContainsMarked net.nodes dist' side
 
--- What a search has found, also where it has stopped early: the starts are marked with 0; a marked place was come to;
--- a place is done, or else no marked place is farther than it by more than one; each closed set that holds the starts
--- holds what is marked.
+-- What a search has found, also where it has stopped early: the starts are marked with 0; a marked place was come to; a
+-- place is done, or else no marked place is farther than it by more than one; each closed set that contains the starts
+-- contains what is marked.
 pub record IsSearched (net : Net) (flows : List ℕ) (dir : Direction) (starts dist via : List ℕ) : Type 0 where
   pub size : length dist ≡ net.nodes
   pub begun : (i : ℕ) → i < length starts → IsMarked dist (slice_index starts i - 1)
   pub zeros : (i : ℕ) → i < length starts → slice_index dist (slice_index starts i - 1) ≡ 0
-  pub come : (p : ℕ) → p < net.nodes → IsMarked dist p → ((slice_index dist p ≡ 0) × IsTrue (one_of starts (p + 1))) ⊎ IsCome net flows dir dist via p
+  pub come : (p : ℕ) → p < net.nodes → IsMarked dist p → ((slice_index dist p ≡ 0) × IsTrue (one_of starts (p + 1)))
+      ⊎ IsCome net flows dir dist via p
   pub levels : (p : ℕ) → p < net.nodes → IsMarked dist p → slice_index dist p < net.nodes
-  pub even : (p : ℕ) → p < net.nodes → IsMarked dist p → IsDone net flows dir dist p ⊎ IsNear dist (slice_index dist p + 1)
-  pub least : (X : ℕ → Bool) → HoldsAll starts X → IsClosedFor dir net flows X → HoldsMarked net.nodes dist X
+  pub even : (p : ℕ) → p < net.nodes → IsMarked dist p → IsDone net flows dir dist p
+      ⊎ IsNear dist (slice_index dist p + 1)
+  pub least : (X : ℕ → Bool) → ContainsAll starts X → IsClosedFor dir net flows X → ContainsMarked net.nodes dist X
 
--- the least closed set that holds the starts: all that a search can come to
+-- the least closed set that contains the starts: all that a search can come to
 pub record IsWhole (dir : Direction) (net : Net) (flows starts : List ℕ) (X : ℕ → Bool) : Type 0 where
-  pub holds : HoldsAll starts X
+  pub contains : ContainsAll starts X
   pub closed : IsClosedFor dir net flows X
-  pub least : (Y : ℕ → Bool) → HoldsAll starts Y → IsClosedFor dir net flows Y → (v : ℕ) → IsTrue (X v) → IsTrue (Y v)
+  pub least : (Y : ℕ → Bool) → ContainsAll starts Y → IsClosedFor dir net flows Y → (v : ℕ) → IsTrue (X v)
+      → IsTrue (Y v)
 
 -- the search comes to none of the nodes that it looks out for, and has seen all that it can come to
 pub record Misses (dir : Direction) (net : Net) (flows starts until dist : List ℕ) : Type 0 where

@@ -30,7 +30,8 @@ IsSeenOf nodes dist v = IsTrue (one_of nodes v) × (1 ≤ v) × (v ≤ length di
 
 abbrev pub IsFirstSeen : List ℕ → List ℕ → ℕ → Type 0
 IsFirstSeen nodes dist v =
-    (i : ℕ) × (i < length nodes) × (slice_index nodes i ≡ v) × ((j : ℕ) → j < i → IsFalse (seen dist (slice_index nodes j)))
+    (i : ℕ) × (i < length nodes) × (slice_index nodes i ≡ v)
+    × ((j : ℕ) → j < i → IsFalse (seen dist (slice_index nodes j)))
 
 -- no amount that a table can hold and that has room on the half-arcs is greater
 abbrev pub IsMost : Net → List ℕ → List ℕ → ℕ → Type 0

@@ -1,4 +1,5 @@
--- Two search trees: the paths that are tested before flow is pushed along them. Nothing is claimed of the trees themselves.
+-- Two search trees: the paths that are tested before flow is pushed along them. Nothing is claimed of the trees
+-- themselves.
 use Rattle.std.specs.Prelude.{ℕ, ◌-◌, ◌%◌, ◌<◌, ◌==◌, if◌then◌else◌, List, IsTrue}
 use Rattle.std.specs.List.{AllByRecursion}
 use Rattle.flow_net.specs.Nets.{Net}

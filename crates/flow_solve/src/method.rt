@@ -6,7 +6,7 @@ ghost use Rattle.flow_net.specs.NodeSets.{one_of};
 ghost use Rattle.flow_net.specs.Flows.{Fits, IsFeasible, HasValue, IsGreatest, HasNoLoops};
 ghost use Rattle.flow_net.specs.LeastCuts.{IsLeastCapacity};
 ghost use Rattle.flow_solve.specs.Bounds.{work_cells};
-ghost use Rattle.flow_solve.specs.Packs.{HoldsPacked};
+ghost use Rattle.flow_solve.specs.Packs.{ArePackedBehind};
 
 use flow_net::{FlowTable, Network};
 
@@ -27,8 +27,8 @@ pub trait Method {
         ensures { result ≤ steps_bound net.now };
 
     /// Leaves a feasible flow of the greatest value in the table, with nothing on self-loops, and answers that value.
-    /// Whatever flow the table held is cleared first. `s` has the sources and `t` the sinks. The half-arcs stand packed in
-    /// `work` afterwards.
+    /// Whatever flow the table carries is cleared first. `s` has the sources and `t` the sinks. The half-arcs stand
+    /// packed in `work` afterwards.
     fn greatest(net: &Network, s: &[u32], t: &[u32], flow: &mut FlowTable, work: &mut [u32]) -> u128
         requires fits { Fits net.now flow.old.flows }
         requires terminals { AreTerminals net.now s.now t.now }
@@ -40,6 +40,6 @@ pub trait Method {
         ensures loops { HasNoLoops net.now flow.new.flows }
         ensures never_lowered { flow.old.steps ≤ flow.new.steps }
         ensures steps { flow.new.steps ≤ flow.old.steps + steps_bound net.now }
-        ensures packed { HoldsPacked net.now work.new }
+        ensures packed { ArePackedBehind net.now work.new }
         ensures rest { drop (work_cells net.now) work.new ≡ drop (work_cells net.now) work.old };
 }

@@ -1,6 +1,7 @@
-//! Phases of the method by levels, as in Dinic's algorithm: the ranks that a search backwards gives, a refinement of the
-//! levels of the layered network, and the walks from all sources, which push a blocking flow.
-ghost use Rattle.std.specs.Prelude.{◌≡◌, ◌⊎◌, ℕ, List, true, false, ◌+◌, ◌-◌, ◌*◌, ◌<◌, ◌≤◌, min, IsTrue, IsFalse, length, slice_index};
+//! Phases of the method by levels, as in Dinic's algorithm: the ranks that a search backwards gives, a refinement of
+//! the levels of the layered network, and the walks from all sources, which push a blocking flow.
+ghost use Rattle.std.specs.Prelude.{◌≡◌, ◌⊎◌, ℕ, List, true, false, ◌+◌, ◌-◌, ◌*◌, ◌<◌, ◌≤◌, min, IsTrue, IsFalse};
+ghost use Rattle.std.specs.Prelude.{length, slice_index};
 ghost use Rattle.std.specs.List.{All};
 ghost use Rattle.flow_net.specs.Nets.{Net, IsNode};
 ghost use Rattle.flow_net.specs.Limits.{AreTerminals};
@@ -13,7 +14,8 @@ ghost use Rattle.flow_solve.specs.Raising.{IsFlow};
 ghost use Rattle.flow_solve.specs.Searches.{AreCells, HasMissed};
 ghost use Rattle.flow_solve.specs.Stages.{HasFlow, IsTask};
 ghost use Rattle.flow_solve.specs.Steps.{OnlyLooks, TakesSteps};
-ghost use Rattle.flow_solve.specs.Levels.{AreDead, AreLevelsBy, AreLevelsOf, AreRankedIn, HasRank, IsAt, IsFarIn, IsPhase, KeepsGentle, Pays};
+ghost use Rattle.flow_solve.specs.Levels.{AreDead, AreLevelsBy, AreLevelsOf, AreRankedIn, HasRank, IsAt, IsFarIn};
+ghost use Rattle.flow_solve.specs.Levels.{IsPhase, KeepsGentle, Pays};
 
 use crate::lifting::{Ranked, Supply, run_lifted};
 use crate::packing::Packed;
@@ -139,7 +141,8 @@ pub(crate) fn run_phases(
     requires flow { HasFlow task flow.old.flows value }
     ensures flow { HasFlow task.entry flow.new.flows result }
     ensures greatest { IsGreatest task.entry.packed.net.now (one_of task.entry.s.now) (one_of task.entry.t.now) result }
-    ensures least { IsLeastCapacity task.entry.packed.net.now (one_of task.entry.s.now) (one_of task.entry.t.now) result }
+    ensures least { IsLeastCapacity task.entry.packed.net.now (one_of task.entry.s.now) (one_of task.entry.t.now)
+        result }
     ensures never_lowered { flow.old.steps ≤ flow.new.steps }
     ensures steps { flow.new.steps ≤ flow.old.steps + allowance + phases_bound task.entry.packed.net.now }
 {

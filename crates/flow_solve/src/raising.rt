@@ -6,7 +6,7 @@ ghost use Rattle.flow_net.specs.NodeSets.{one_of};
 ghost use Rattle.flow_net.specs.Flows.{Fits, IsFeasible, HasValue, IsGreatest, HasNoLoops};
 ghost use Rattle.flow_net.specs.LeastCuts.{IsLeastCapacity};
 ghost use Rattle.flow_solve.specs.Bounds.{work_cells};
-ghost use Rattle.flow_solve.specs.Packs.{HoldsPacked, IsPacked};
+ghost use Rattle.flow_solve.specs.Packs.{ArePackedBehind, IsPacked};
 ghost use Rattle.flow_solve.specs.Raising.{IsFlow};
 
 use crate::packing::{Packed, halves_in, pack_behind};
@@ -48,7 +48,7 @@ fn raise_from_zero<R: Raise>(
 ) -> u128
     requires terminals { AreTerminals net.now s.now t.now }
     requires cells { work_cells net.now ≤ length work.old }
-    requires packed { HoldsPacked net.now work.old }
+    requires packed { ArePackedBehind net.now work.old }
     requires flow { IsFlow net.now s.now t.now flow.old.flows 0 }
     ensures flow { IsFlow net.now s.now t.now flow.new.flows result }
     ensures greatest { IsGreatest net.now (one_of s.now) (one_of t.now) result }
@@ -81,7 +81,7 @@ pub(crate) fn solve<R: Raise>(
     ensures loops { HasNoLoops net.now flow.new.flows }
     ensures never_lowered { flow.old.steps ≤ flow.new.steps }
     ensures steps { flow.new.steps ≤ flow.old.steps + R.steps_bound net.now }
-    ensures packed { HoldsPacked net.now work.new }
+    ensures packed { ArePackedBehind net.now work.new }
     ensures rest { drop (work_cells net.now) work.new ≡ drop (work_cells net.now) work.old }
 {
     flow.clear();

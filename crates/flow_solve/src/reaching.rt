@@ -10,7 +10,7 @@ ghost use Rattle.flow_net.specs.Flows.{Fits, IsFeasible, IsGreatest};
 ghost use Rattle.flow_net.specs.GreatestFlows.{HasGreatestValue};
 ghost use Rattle.flow_net.specs.LeastCuts.{IsLeastCapacity};
 ghost use Rattle.flow_solve.specs.Bounds.{work_cells};
-ghost use Rattle.flow_solve.specs.Packs.{HoldsPacked};
+ghost use Rattle.flow_solve.specs.Packs.{ArePackedBehind};
 ghost use Rattle.flow_solve.specs.Raising.{IsFlow};
 ghost use Rattle.flow_solve.specs.Stages.{IsTask};
 ghost use Rattle.flow_solve.specs.Steps.{OnlyLooks};
@@ -83,7 +83,7 @@ fn leads_on_packed<'a>(
     requires feasible { IsFeasible net.now (one_of s.now) (one_of t.now) flow.old.flows }
     requires terminals { AreTerminals net.now s.now t.now }
     requires cells { work_cells net.now ≤ length work.old }
-    requires packed { HoldsPacked net.now work.old }
+    requires packed { ArePackedBehind net.now work.old }
     ensures answer { (result ≡ false) ↔ HasGreatestValue net.now (one_of s.now) (one_of t.now) flow.old.flows }
     ensures side { result ≡ false
         → IsLeastSide direction net.now s.now t.now flow.old.flows (seen (take net.now.nodes work.new)) }

@@ -6,7 +6,8 @@
 //!
 //! A search can stop early: the nodes that it looks out for have a distance of their own while they are unseen, so
 //! that it counts them as it enters them. The distances are the levels of a layered network (Dinitz 1970).
-ghost use Rattle.std.specs.Prelude.{◌⊎◌, ◌≡◌, ℕ, List, IsTrue, IfSome, IfNone, ◌+◌, ◌-◌, ◌*◌, ◌<◌, ◌≤◌, length, slice_index};
+ghost use Rattle.std.specs.Prelude.{◌⊎◌, ◌≡◌, ℕ, List, IsTrue, IfSome, IfNone, ◌+◌, ◌-◌, ◌*◌, ◌<◌, ◌≤◌, length};
+ghost use Rattle.std.specs.Prelude.{slice_index};
 ghost use Rattle.std.specs.List.{All};
 ghost use Rattle.flow_net.specs.Nets.{Net, IsNode};
 ghost use Rattle.flow_net.specs.NodeSets.{one_of};
@@ -14,7 +15,10 @@ ghost use Rattle.flow_net.specs.Flows.{Fits};
 ghost use Rattle.flow_net.specs.Residual.{head_of};
 ghost use Rattle.flow_solve.specs.Packs.{IsPacked, halves_of};
 ghost use Rattle.flow_solve.specs.Steps.{OnlyLooks};
-ghost use Rattle.flow_solve.specs.Searches.{twin_of, crossed, AreCells, Brings, EndsSoon, HasArrived, HasDone, HasFollowed, HasGrown, HasMissed, HasSearched, IsArrival, IsCount, IsMarked, IsNear, IsNoArrival, IsQueue, IsSearch, next_in, place_over, unseen_cell};
+ghost use Rattle.flow_solve.specs.Searches.{twin_of, crossed, AreCells, Brings, EndsSoon, HasArrived, HasDone};
+ghost use Rattle.flow_solve.specs.Searches.{HasFollowed, HasGrown, HasMissed, HasSearched, IsArrival, IsCount};
+ghost use Rattle.flow_solve.specs.Searches.{IsMarked, IsNear, IsNoArrival, IsQueue, IsSearch, next_in, place_over};
+ghost use Rattle.flow_solve.specs.Searches.{unseen_cell};
 
 use crate::packing::Packed;
 use flow_net::{FlowTable, MOST_NODES, Network};

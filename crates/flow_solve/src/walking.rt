@@ -1,5 +1,6 @@
 //! Walks from a source to sinks, along half-arcs that lead to lower ranks (Dinitz 1970).
-ghost use Rattle.std.specs.Prelude.{◌≡◌, ℕ, Bool, List, ◌+◌, ◌-◌, ◌*◌, ◌<◌, ◌≤◌, IsTrue, IfSome, IfNone, length, slice_index};
+ghost use Rattle.std.specs.Prelude.{◌≡◌, ℕ, Bool, List, ◌+◌, ◌-◌, ◌*◌, ◌<◌, ◌≤◌, IsTrue, IfSome, IfNone, length};
+ghost use Rattle.std.specs.Prelude.{slice_index};
 ghost use Rattle.std.specs.List.{All};
 ghost use Rattle.flow_net.specs.Nets.{Net, IsNode};
 ghost use Rattle.flow_net.specs.Limits.{AreTerminals};
@@ -8,7 +9,8 @@ ghost use Rattle.flow_net.specs.Flows.{Fits};
 ghost use Rattle.flow_net.specs.Residual.{tail_of, head_of, residual};
 ghost use Rattle.flow_net.specs.Paths.{IsApart, push_all};
 ghost use Rattle.flow_solve.specs.Packs.{IsPacked};
-ghost use Rattle.flow_solve.specs.Levels.{cell_of, HasLooked, IsAt, IsCurrent, IsDeadIn, IsFilling, IsNext, IsPhase, KeepsGentle, Looks, Pays};
+ghost use Rattle.flow_solve.specs.Levels.{cell_of, HasLooked, IsAt, IsCurrent, IsDeadIn, IsFilling, IsNext, IsPhase};
+ghost use Rattle.flow_solve.specs.Levels.{KeepsGentle, Looks, Pays};
 
 use crate::packing::Packed;
 use crate::searching::head;

@@ -1,5 +1,5 @@
 use Rattle.std.proofs.Common.{arith}
-use Rattle.flow_solve.proofs.Found.{none_wanted, if_none}
+use Rattle.flow_solve.proofs.Searched.{none_wanted, if_none}
 use Rattle.flow_solve.proofs.paths.find_trail.Goals as goal
 
 pub returns-clause-missed : goal.returns-clause-missed

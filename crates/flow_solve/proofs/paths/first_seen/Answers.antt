@@ -1,7 +1,7 @@
 use Rattle.std.proofs.Common.{◌≡◌, false, get_or, subst, refl, arith}
 use Rattle.flow_solve.specs.Searches.{seen}
 use Rattle.flow_solve.proofs.Marks.{one_of-at, place_in}
-use Rattle.flow_solve.proofs.Found.{unmarked_unseen}
+use Rattle.flow_solve.proofs.Searched.{unmarked_unseen}
 use Rattle.flow_solve.proofs.paths.first_seen.Goals as goal
 
 pub returns-then-dist-node-lt-WANTED-clause-some : goal.returns-then-dist-node-lt-WANTED-clause-some

@@ -4,7 +4,7 @@ use Rattle.std.proofs.lemmas.Bool.{ltb-true, ltb-false}
 use Rattle.flow_solve.specs.Searches.{seen}
 use Rattle.flow_solve.specs.Sides.{IsLeastSide}
 use Rattle.flow_solve.proofs.Behind.{take_front}
-use Rattle.flow_solve.proofs.Found.{some_seen}
+use Rattle.flow_solve.proofs.Searched.{some_seen}
 use Rattle.flow_solve.proofs.LeastSides.{least_side, greatest_unless}
 use Rattle.flow_solve.proofs.Routes.{has_route}
 use Rattle.flow_solve.proofs.reaching.leads_on.Goals as goal

@@ -2,7 +2,7 @@ use Rattle.std.proofs.Common.{◌⊎◌, ◌≡◌, ℕ, ◌+◌, ◌-◌, ◌<�
 use Rattle.std.specs.Prelude.{slice_index}
 use Rattle.flow_net.specs.Flows.{Fits}
 use Rattle.flow_net.specs.Residual.{head_of, residual}
-use Rattle.flow_solve.specs.Searches.{crossed, IsMarked, IsClosedFor, HoldsMarked, IsNear, IsSearch, HasGrown, IsCome}
+use Rattle.flow_solve.specs.Searches.{crossed, IsMarked, IsClosedFor, ContainsMarked, IsNear, IsSearch, HasGrown, IsCome}
 use Rattle.flow_solve.proofs.searching.follow_all.Given as goal
 
 abbrev pub invariant-loop-spot : goal.invariant-loop-spot
@@ -26,8 +26,8 @@ invariant-loop-spot l = record {
       → IsMarked l.fn.dist p ⊎ IsCome l.plan.packed.net.now l.fn.flow.flows l.plan.direction l.dist l.via p;
   next_level : (p : ℕ) → IsMarked l.dist p → IsMarked l.fn.dist p ⊎ (slice_index l.dist p ≡ l.level);
   only : (side : ℕ → Bool) → IsClosedFor l.plan.direction l.plan.packed.net.now l.fn.flow.flows side
-      → IsTrue (side (l.place + 1)) → HoldsMarked l.plan.packed.net.now.nodes l.fn.dist side
-      → HoldsMarked l.plan.packed.net.now.nodes l.dist side;
+      → IsTrue (side (l.place + 1)) → ContainsMarked l.plan.packed.net.now.nodes l.fn.dist side
+      → ContainsMarked l.plan.packed.net.now.nodes l.dist side;
   never_lowered : l.fn.flow.steps ≤ l.flow.steps;
   steps : l.flow.steps ≤ l.fn.flow.steps + (l.spot - slice_index l.plan.packed.first.now l.place);
 }

@@ -14,7 +14,7 @@ use Rattle.flow_net.specs.Residual.{tail_of, head_of, residual}
 use Rattle.flow_net.proofs.Zips.{head_is_node}
 use Rattle.flow_solve.specs.declared.searching.TheConstants.{FAR, WANTED}
 use Rattle.flow_solve.specs.declared.searching.Direction.{Direction}
-use Rattle.flow_solve.specs.Searches.{near_end, far_end, crossed, IsClosedFor, HoldsAll, IsMarked, seen, spread}
+use Rattle.flow_solve.specs.Searches.{near_end, far_end, crossed, IsClosedFor, ContainsAll, IsMarked, seen, spread}
 use Rattle.flow_solve.specs.Searches.{IsCount, wanted_at, IsDone, IsSearched, IsWhole}
 use Rattle.flow_solve.proofs.Marks.{place_in}
 use Rattle.flow_solve.proofs.Queues.{spread_zero, spread_some, spread_more}
@@ -65,7 +65,7 @@ cells_seen dist side size e (suc p) = elim (cases_lt p (length dist)) [
 
 -- the starts are seen
 pub starts_seen : (net : Net) (flows : List ℕ) (dir : Direction) (starts dist via : List ℕ) → All (IsNode net) starts
-    → IsSearched net flows dir starts dist via → HoldsAll starts (seen dist)
+    → IsSearched net flows dir starts dist via → ContainsAll starts (seen dist)
 starts_seen net flows dir starts dist via nodes s v e =
     let p = place_in starts v e in let node = nodes p.0 0 p.1 in
     subst (λ w. seen dist w ≡ true) p.2
@@ -100,7 +100,7 @@ seen_closed net flows dir starts dist via is_net s done h l near r =
     ]
 
 pub seen_least : (net : Net) (flows : List ℕ) (dir : Direction) (starts dist via : List ℕ)
-    → IsSearched net flows dir starts dist via → (X : ℕ → Bool) → HoldsAll starts X → IsClosedFor dir net flows X
+    → IsSearched net flows dir starts dist via → (X : ℕ → Bool) → ContainsAll starts X → IsClosedFor dir net flows X
     → (v : ℕ) → IsTrue (seen dist v) → IsTrue (X v)
 seen_least net flows dir starts dist via s X all closed v e =
     let at = marked_seen dist v e in let node : v - 1 + 1 ≡ v = omega (arith, at.0) in
@@ -111,7 +111,7 @@ pub whole_seen : (net : Net) (flows : List ℕ) (dir : Direction) (starts dist v
     → ((p : ℕ) → p < net.nodes → IsMarked dist p → IsDone net flows dir dist p)
     → IsWhole dir net flows starts (seen dist)
 whole_seen net flows dir starts dist via is_net nodes s done = record {
-  holds = starts_seen net flows dir starts dist via nodes s;
+  contains = starts_seen net flows dir starts dist via nodes s;
   closed = seen_closed net flows dir starts dist via is_net s done;
   least = seen_least net flows dir starts dist via s;
 }

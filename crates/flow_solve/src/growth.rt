@@ -6,10 +6,11 @@
 //! the whole network at a turn: a search puts back the cells that it has changed, and whether a node is a terminal is one
 //! comparison of its place in the order.
 //!
-//! A turn goes by phases with current places, as [`Levels`](crate::Levels) does. Its paths are found by search and walk, of
-//! which nothing is proved but that they stay within the cells. What they find is tested as it is used: each half-arc of a
-//! path when a unit is pushed over it, and each half-arc that leaves the set of the nodes that were seen when no more can be
-//! raised. All looks and pushes are counted against a number that the caller sets; where it is used up the answer is none.
+//! A turn sends units straight to earlier nodes, then along the ways of one search by branches, and then goes by phases with
+//! current places, as [`Levels`](crate::Levels) does. Its paths are found by search and walk, of which nothing is proved but
+//! that they stay within the cells. What they find is tested as it is used: each half-arc of a path when a unit is pushed
+//! over it, and each half-arc that leaves the set of the nodes that were seen when no more can be raised. All looks and
+//! pushes are counted against a number that the caller sets; where it is used up the answer is none.
 ghost use Rattle.std.specs.Prelude.{◌≡◌, ℕ, Bool, ◌+◌, ◌*◌, ◌<◌, ◌≤◌, MatchOption, IfSome, IsTrue, length};
 ghost use Rattle.std.specs.List.{All};
 ghost use Rattle.flow_net.specs.Flows.{Fits};
@@ -20,6 +21,7 @@ ghost use Rattle.flow_solve.specs.Packs.{IsPacked};
 ghost use Rattle.flow_solve.specs.Bounds.{work_cells};
 ghost use Rattle.flow_solve.specs.Growth.{ArePlaces, IsClean, IsBelow};
 
+mod branches;
 mod direct;
 mod frontier;
 mod mirrors;
@@ -68,8 +70,6 @@ fn grow(
     ensures steps { MatchOption result (flow.new.steps ≤ flow.old.steps + least.left) (λ r. flow.new.steps + r.left ≤ flow.old.steps + least.left) }
 {
     let n = packed.net.nodes();
-    let (current, rest) = rest.split_at_mut(n as usize);
-    let (queue, path) = rest.split_at_mut(n as usize);
     flow.clear();
     let mut least = least;
     for place in 1..n {
@@ -82,16 +82,7 @@ fn grow(
             direction,
             place,
         };
-        least = raise(
-            turn,
-            flow,
-            cells,
-            current,
-            queue,
-            path,
-            least.value,
-            least.left,
-        )?;
+        least = raise(turn, flow, cells, rest, least.value, least.left)?;
     }
     Some(least)
 }

@@ -6,6 +6,7 @@ ghost use Rattle.flow_net.specs.Flows.{Fits};
 ghost use Rattle.flow_net.specs.Orders.{before};
 ghost use Rattle.flow_solve.specs.Growth.{IsTurn, IsRaised, IsParted, ArePlaces, IsClean, IsQueued};
 
+use crate::growth::branches::send_by_branches;
 use crate::growth::direct::send_directly;
 use crate::growth::frontier::{above, forget, is_closed, search};
 use crate::growth::turns::{Raised, Turn, augment, far, near};
@@ -246,18 +247,14 @@ pub(crate) fn raise(
     turn: Turn<'_>,
     flow: &mut FlowTable,
     cells: &mut [u32],
-    current: &mut [u32],
-    queue: &mut [u32],
-    path: &mut [u32],
+    rest: &mut [u32],
     wanted: u64,
     left: u64,
 ) -> Option<Raised>
     requires unit { All (λ a. a.cap ≡ 1) turn.packed.net.now.arcs }
     requires turn { IsTurn turn.packed.net.now turn.packed.first.now turn.packed.halves.now turn.order.now turn.place }
     requires size { length cells.old ≡ turn.packed.net.now.nodes }
-    requires current_size { length current.old ≡ turn.packed.net.now.nodes }
-    requires queue_size { length queue.old ≡ turn.packed.net.now.nodes }
-    requires path_size { length path.old ≡ turn.packed.net.now.nodes }
+    requires rest_size { length rest.old ≡ 3 * turn.packed.net.now.nodes }
     requires places { ArePlaces turn.packed.net.now.nodes turn.order.now cells.old }
     requires clean { IsClean turn.packed.net.now.nodes cells.old }
     requires raised { IsRaised turn.direction turn.packed.net.now turn.order.now turn.place flow.old.flows 0 }
@@ -270,8 +267,14 @@ pub(crate) fn raise(
     ensures never_lowered { flow.old.steps ≤ flow.new.steps }
     ensures steps { MatchOption result (flow.new.steps ≤ flow.old.steps + left) (λ r. flow.new.steps + r.left ≤ flow.old.steps + left) }
 {
-    let _ = turn.packed.net.nodes();
+    let n = turn.packed.net.nodes() as usize;
     let mut raised = send_directly(turn, flow, cells, wanted, left)?;
+    if raised.value >= wanted {
+        return Some(raised);
+    }
+    raised = send_by_branches(turn, flow, cells, rest, raised, wanted)?;
+    let (current, rest) = rest.split_at_mut(n);
+    let (queue, path) = rest.split_at_mut(n);
     while raised.value < wanted {
         if raised.left == 0 {
             return None;

@@ -7,7 +7,7 @@ ghost use Rattle.flow_solve.specs.Growth.{IsTurn, IsRaised, ArePlaces};
 
 use crate::packing::Packed;
 use crate::searching::{Direction, head};
-use flow_net::{FlowTable, Network};
+use flow_net::{FlowTable, GREATEST_CAPACITY, Network};
 
 /// What the searches and walks of a turn go by.
 #[derive(Clone, Copy)]
@@ -79,4 +79,34 @@ pub(crate) fn augment(turn: Turn<'_>, flow: &mut FlowTable, cells: &[u32], path:
         node = far(net, turn.direction, *half);
     }
     cells[node as usize - 1] < turn.place
+}
+
+/// Pushes one unit along a path. Answers nothing where it can't be, or the looks and pushes are used up.
+pub(crate) fn send_along(
+    turn: Turn<'_>,
+    flow: &mut FlowTable,
+    cells: &[u32],
+    path: &[u32],
+    sent: Raised,
+) -> Option<Raised>
+    requires fits { Fits turn.packed.net.now flow.old.flows }
+    requires turn { IsTurn turn.packed.net.now turn.packed.first.now turn.packed.halves.now turn.order.now turn.place }
+    requires size { length cells.now ≡ turn.packed.net.now.nodes }
+    requires places { ArePlaces turn.packed.net.now.nodes turn.order.now cells.now }
+    requires raised { IsRaised turn.direction turn.packed.net.now turn.order.now turn.place flow.old.flows sent.value }
+    requires small { sent.value < GREATEST_CAPACITY }
+    ensures fits { Fits turn.entry.packed.net.now flow.new.flows }
+    ensures raised { IfSome result (λ r. IsRaised turn.entry.direction turn.entry.packed.net.now turn.entry.order.now turn.entry.place flow.new.flows r.value) }
+    ensures value { IfSome result (λ r. r.value ≡ sent.value + 1) }
+    ensures never_lowered { flow.old.steps ≤ flow.new.steps }
+    ensures fewer { IfSome result (λ r. r.left ≤ sent.left) }
+    ensures steps { MatchOption result (flow.new.steps ≤ flow.old.steps + sent.left) (λ r. flow.new.steps + r.left ≤ flow.old.steps + sent.left) }
+{
+    let cost = 2 * path.len() as u64;
+    if sent.left < cost || !augment(turn, flow, cells, path) {
+        return None;
+    }
+    let value = sent.value + 1;
+    let left = sent.left - cost;
+    Some(Raised { value, left })
 }

@@ -13,16 +13,7 @@ loop-place-init c =
       begun = omega arith;
       fits = c.clear.ensures.still_fits c.args.packed.net.now c.requires.fits;
       size = c.requires.size;
-      current_size = omega (arith, c.split_at_mut-current.ensures.front_len, c.nodes-n.ensures.nodes);
-      queue_size = omega (arith, c.split_at_mut-queue.ensures.front_len, c.nodes-n.ensures.nodes);
-      path_size =
-          omega (
-            arith,
-            c.split_at_mut-queue.ensures.back_len,
-            c.split_at_mut-current.ensures.back_len,
-            c.requires.rest_size,
-            c.nodes-n.ensures.nodes,
-          );
+      rest_size = c.requires.rest_size;
       places = c.requires.places;
       clean = c.requires.clean;
       balanced =
@@ -59,9 +50,7 @@ loop-place-preserved c =
       begun = omega (arith, j.begun);
       fits = c.raise.ensures.fits;
       size = omega (arith, c.raise.auto.cells, j.size);
-      current_size = omega (arith, c.raise.auto.current, j.current_size);
-      queue_size = omega (arith, c.raise.auto.queue, j.queue_size);
-      path_size = omega (arith, c.raise.auto.path, j.path_size);
+      rest_size = omega (arith, c.raise.auto.rest, j.rest_size);
       places = now.places;
       clean = now.clean;
       balanced = balanced_next dir net order k c.raise.new.flow.flows new inside now.raised;

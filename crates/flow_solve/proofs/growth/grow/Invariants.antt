@@ -1,4 +1,4 @@
-use Rattle.std.proofs.Common.{◌≡◌, ℕ, ◌+◌, ◌<◌, ◌≤◌, Bool, length}
+use Rattle.std.proofs.Common.{◌≡◌, ℕ, ◌+◌, ◌*◌, ◌<◌, ◌≤◌, Bool, length}
 use Rattle.flow_net.specs.Flows.{Fits}
 use Rattle.flow_net.specs.Connectivity.{leaving, IsProper}
 use Rattle.flow_solve.specs.Growth.{IsBalanced, IsBelow, ArePlaces, IsClean}
@@ -10,9 +10,7 @@ invariant-loop-place l = record {
   begun : 1 ≤ l.place;
   fits : Fits l.packed.net.now l.flow.flows;
   size : length l.cells ≡ l.packed.net.now.nodes;
-  current_size : length l.current ≡ l.packed.net.now.nodes;
-  queue_size : length l.queue ≡ l.packed.net.now.nodes;
-  path_size : length l.path ≡ l.packed.net.now.nodes;
+  rest_size : length l.rest ≡ 3 * l.packed.net.now.nodes;
   places : ArePlaces l.packed.net.now.nodes l.order l.cells;
   clean : IsClean l.packed.net.now.nodes l.cells;
   balanced : IsBalanced l.packed.net.now l.order l.place l.flow.flows;

@@ -31,7 +31,8 @@ pub record HasFiles (rows : List Row) (files : Files) : Type 0 where
   pub problem : text_of files.problem ≡ first_of (codes "problem") rows
   pub solution : text_of files.solution ≡ first_of (codes "solution") rows
 
--- the answer for the command that was matched, if one was: its job and its files, or none where it isn't one of the program's
+-- the answer for the command that was matched, if one was: its job and its files, or none where it isn't one of the
+-- program's
 abbrev pub IsJobOf : Option (Text × List Row) → Option (Job × Files) → Type 0
 IsJobOf None answer = answer ≡ None
 IsJobOf (Some (name, rows)) None = job_for name rows ≡ None

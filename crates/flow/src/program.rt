@@ -18,13 +18,13 @@ pub trait Source {
     /// An input that was opened.
     type In: Input + Drop;
 
-    /// The input of the named file, or of standard input where no name is given. `None` only where a named file can't be
-    /// opened.
+    /// The input of the named file, or of standard input where no name is given. `None` only where a named file can't
+    /// be opened.
     fn input(&mut self, name: Option<&str>) -> Option<Self::In>;
 }
 
-/// Reads the words of a command line, opens the files that they name and runs the job. The answer is the status: that of
-/// the run, 2 where the words are refused, 0 after help, 4 where a file can't be opened or memory was refused.
+/// Reads the words of a command line, opens the files that they name and runs the job. The answer is the status: that
+/// of the run, 2 where the words are refused, 0 after help, 4 where a file can't be opened or memory was refused.
 pub fn program<S: Source, O: Output, E: Output>(
     alloc: Global,
     words: &[&str],

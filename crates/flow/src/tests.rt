@@ -362,8 +362,8 @@ fn numbers_and_lines_that_go_on(rt: HostRuntime) -> Result<(), Fail> {
     Ok(())
 }
 
-/// A comment of a million bytes 255 counts as one line, and nothing of it is kept. Without an end it is a file without a
-/// problem line.
+/// A comment of a million bytes 255 counts as one line, and nothing of it is kept. Without an end it is a file without
+/// a problem line.
 #[test]
 fn a_comment_of_a_million_bytes(rt: HostRuntime) -> Result<(), Fail> {
     let mut text = b"c".to_vec(rt.alloc())?;
@@ -471,8 +471,8 @@ fn a_source_is_asked_for_what_the_job_reads(rt: HostRuntime) -> Result<(), Fail>
     Ok(())
 }
 
-/// Both inputs of a check are opened before anything is read: a problem with a fault isn't told of where the solution is
-/// missing.
+/// Both inputs of a check are opened before anything is read: a problem with a fault isn't told of where the solution
+/// is missing.
 #[test]
 fn a_missing_solution_comes_before_a_fault(rt: HostRuntime) -> Result<(), Fail> {
     let mut source = Asked::new(b"p min 2 0\n");

@@ -42,8 +42,8 @@ pub fn connectivity_by_pairs()
     ensures { ConnectivityByPairs }
 {}
 
-/// The connectivity is the least, over every node but the first of an order, of the connectivities of the nodes before it
-/// with it, to it and from it.
+/// The connectivity is the least, over every node but the first of an order, of the connectivities of the nodes before
+/// it with it, to it and from it.
 pub fn connectivity_by_growth()
     ensures { ConnectivityByGrowth }
 {}
@@ -58,8 +58,9 @@ pub fn undirected_by_both_ways()
     ensures { UndirectedByBothWays }
 {}
 
-/// More capacity on one arc alone raises the greatest value just where the arc begins in the least source side and ends in
-/// the least sink side: these are the arcs that leave both the minimum cut nearest the sources and the one nearest the sinks.
+/// More capacity on one arc alone raises the greatest value just where the arc begins in the least source side and ends
+/// in the least sink side: these are the arcs that leave both the minimum cut nearest the sources and the one nearest
+/// the sinks.
 pub fn single_upgrade()
     ensures { SingleUpgrade }
 {}

@@ -5,9 +5,9 @@
 //! the code through which every other crate touches a network or a flow.
 //!
 //! A solver gets at flows by the calls of [`FlowTable`] alone. They speak of *half-arcs*: half-arc `2·i` runs along
-//! arc `i`, and half-arc `2·i + 1` runs against it, which is where flow can be taken back: the reverse arc of the residual
-//! network. Each look and each push is one step, and the table counts its steps for contracts: the count takes no bytes, and
-//! no running program can read it.
+//! arc `i`, and half-arc `2·i + 1` runs against it, which is where flow can be taken back: the reverse arc of the
+//! residual network. Each look and each push is one step, and the table counts its steps for contracts: the count takes
+//! no bytes, and no running program can read it.
 #![tactic(auto)]
 
 pub mod laws;

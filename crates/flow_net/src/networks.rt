@@ -23,7 +23,8 @@ pub struct Arc {
 #[derive(Clone, Copy, Debug, PartialEq, Eq)]
 pub struct OutOfMemory;
 
-/// Nodes 1 to `nodes()`, and a list of arcs between them: parallel arcs, opposite arcs and self-loops may be among them.
+/// Nodes 1 to `nodes()`, and a list of arcs between them: parallel arcs, opposite arcs and self-loops may be among
+/// them.
 ///
 /// A network has [`FEWEST_NODES`] to [`MOST_NODES`] nodes and at most [`MOST_ARCS_BOTH_WAYS`] arcs. So a sum of
 /// capacities is below 2^87.

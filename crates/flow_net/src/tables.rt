@@ -13,8 +13,8 @@ use steps::Steps;
 
 /// The flow on each arc of a network, and a count of steps that contracts alone read.
 ///
-/// One look or one push is one step. The table doesn't hold its network: each call is handed the network, and the caller
-/// ensures that the table *fits* it, with as many numbers as arcs, each at most its capacity.
+/// One look or one push is one step. The table doesn't hold its network: each call is handed the network, and the
+/// caller ensures that the table *fits* it, with as many numbers as arcs, each at most its capacity.
 #[derive(Drop)]
 pub struct FlowTable {
     flows: Vec<u64>,

@@ -51,12 +51,14 @@ fault_line solution line code = (if solution then codes "flow: solution line " e
 abbrev pub arc_flow_line : Arc × ℕ → List ℕ
 arc_flow_line (arc, flow) = flow_line arc.src arc.dst flow
 
--- A solve: the value, then, unless it is asked for alone, the flow of every arc in order. Parallel arcs have a line each.
+-- A solve: the value, then, unless it is asked for alone, the flow of every arc in order. Parallel arcs have a line
+-- each.
 unfoldable pub solve_text : Bool → Net → ℕ → List ℕ → List ℕ
 solve_text value_only net value flows =
     solution_line value ++ (if value_only then [] else flat_map arc_flow_line (zip net.arcs flows))
 
--- A cut: the value, the nodes of its source side, rising, and where they are asked for the arcs that leave it, in order.
+-- A cut: the value, the nodes of its source side, rising, and where they are asked for the arcs that leave it, in
+-- order.
 unfoldable pub cut_text : Bool → Net → ℕ → (ℕ → Bool) → List ℕ
 cut_text arcs net value X =
     solution_line value ++ flat_map node_line (filter X (range_with_len 1 net.nodes))

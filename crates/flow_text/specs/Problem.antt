@@ -26,8 +26,8 @@ pub record Known : Type 0 where
   pub sinks : List ℕ
   pub arcs : List Arc
 
--- NODES and ARCS of the first line `p max NODES ARCS`, the sources of the lines `n ID s` and the sinks of the lines `n ID t`,
--- and the arcs of the lines `a SRC DST CAP`, in order
+-- NODES and ARCS of the first line `p max NODES ARCS`, the sources of the lines `n ID s` and the sinks of the lines
+-- `n ID t`, and the arcs of the lines `a SRC DST CAP`, in order
 unfoldable pub known_of : List (List ℕ) → Known
 known_of before = record {
   size = option_map (λ line. (number_at line 2, number_at line 3)) (find (is_kind (codes "p")) before);

@@ -21,8 +21,8 @@ told k = min k GREATEST_LINE_NUMBER
 abbrev pub accepted : {A : Type 0} → A → Option (ℕ × FaultCode) → Result A (ℕ × FaultCode)
 accepted said fault = option_map_or Err fault (Ok said)
 
--- what a reader keeps: its refusal, how many lines have ended, what they say, whether the line that goes on is a comment, and
--- the bytes of that line
+-- what a reader keeps: its refusal, how many lines have ended, what they say, whether the line that goes on is a
+-- comment, and the bytes of that line
 pub record State (K : Type 0) : Type 0 where
   pub refused : Option ReadFault
   pub count : ℕ

@@ -8,8 +8,8 @@ use Rattle.flow_text.specs.declared.faults.FaultCode.{FaultCode}
 use Rattle.flow_text.specs.declared.faults.FaultCode.TheVariants.{LineTooLong}
 use Rattle.flow_text.specs.declared.limits.TheConstants.{LONGEST_LINE, GREATEST_LINE_NUMBER}
 
--- The rules of a kind of file: the fault of a line with these fields by what the lines before it say, and the fault of the
--- end of input by what all lines say.
+-- The rules of a kind of file: the fault of a line with these fields by what the lines before it say, and the fault of
+-- the end of input by what all lines say.
 pub record Rules (K : Type 0) : Type 0 where
   pub record_fault : K → List (List ℕ) → Option FaultCode
   pub end_fault : K → Option FaultCode
@@ -39,7 +39,8 @@ fault_of rules known line =
 abbrev pub at_line : ℕ → Option FaultCode → Option (ℕ × FaultCode)
 at_line k fault = option_map (λ code. (min k GREATEST_LINE_NUMBER, code)) fault
 
--- the fault of the first of these lines that has one, where other lines stand before them; `known_of` tells what lines say
+-- the fault of the first of these lines that has one, where other lines stand before them; `known_of` tells what lines
+-- say
 unfoldable pub first_fault : {K : Type 0} → Rules K → (List (List ℕ) → K) → List (List ℕ) → List (List ℕ)
     → Option (ℕ × FaultCode)
 first_fault rules known_of before [] = None

@@ -28,7 +28,8 @@ abbrev pub EarlySolutionFaultStays : Type 0
 EarlySolutionFaultStays = (b x : List ℕ) (nodes : ℕ) (fault : ℕ × FaultCode) → early_solution b nodes ≡ Some fault
     → solution (b ++ x) nodes ≡ Err fault
 
--- an accepted problem text says a network within the limits, and terminals that are proper: sources and sinks, all nodes, none twice
+-- an accepted problem text says a network within the limits, and terminals that are proper: sources and sinks, all
+-- nodes, none twice
 abbrev pub AcceptedProblemIsWithin : Type 0
 AcceptedProblemIsWithin = (b : List ℕ) (p : Instance) → problem b ≡ Ok p → IsNet p.net × IsProblem p
 

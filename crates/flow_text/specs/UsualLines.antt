@@ -1,4 +1,5 @@
--- The usual form of an arc line and of a flow line: the letter, one blank, and three numbers with one blank between them.
+-- The usual form of an arc line and of a flow line: the letter, one blank, and three numbers with one blank between
+-- them.
 use Rattle.std.specs.Prelude.{◌≡◌, ℕ, ◌^◌, ◌<◌, ◌≤◌, true, false, List, [], ◌∷◌, length, take, slice_index, Some}
 use Rattle.std.specs.Str.{all_ascii_digits}
 use Rattle.memchr.specs.Find.{IsFirstByte, is_byte}

@@ -1,5 +1,5 @@
-//! The machine under both readers. It cuts a text that comes in pieces into lines and has each line judged. Of a line whose
-//! end hasn't come yet it keeps the bytes so far, at most as many as a line may have; of a comment it keeps none.
+//! The machine under both readers. It cuts a text that comes in pieces into lines and has each line judged. Of a line
+//! whose end hasn't come yet it keeps the bytes so far, at most as many as a line may have; of a comment it keeps none.
 ghost use Rattle.std.specs.Prelude.{◌≡◌, ◌+◌, ◌++◌, ◌∷◌, [], List, ℕ, None, Some, Err, false, IsErrOf, IfOk, is_some, true, MatchOption};
 ghost use Rattle.flow_text.specs.Rules.{Rules, is_comment, fault_of};
 ghost use Rattle.flow_text.specs.Reading.{told, Adds, HasRead, Refuses, FeedsBy, ClosesBy, Judges, JudgesFirst, with_line, EndsLine, EndsFirst, BuffersTail, Takes, Finals, fault_from};
@@ -33,8 +33,8 @@ pub(crate) trait Judge: Drop {
         ensures { Judges (rules.record_fault self.old (letter.now ∷ others.entry))
             (with_record self.old (letter.now ∷ others.entry)) result self.new };
 
-    /// Judges the first line of a text in one pass and keeps what it says, where it has the usual form and no fault, and
-    /// answers the place of its byte 10. Any other line is left to `judge`.
+    /// Judges the first line of a text in one pass and keeps what it says, where it has the usual form and no fault,
+    /// and answers the place of its byte 10. Any other line is left to `judge`.
     fn judge_usual(&mut self, text: &[u8]) -> Result<Option<usize>, Refusal>
         ensures { JudgesFirst rules with_record self.old text.now result self.new };
 

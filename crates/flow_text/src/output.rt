@@ -1,7 +1,7 @@
 //! The lines that the program writes, each with its byte 10.
 //!
-//! They follow the DIMACS maximum flow format (1990) where it has them: `s` and `f` lines are those of its solution files,
-//! `n` and `a` lines name nodes and arcs as its problem files do.
+//! They follow the DIMACS maximum flow format (1990) where it has them: `s` and `f` lines are those of its solution
+//! files, `n` and `a` lines name nodes and arcs as its problem files do.
 ghost use Rattle.std.specs.Prelude.{◌≡◌, ◌+◌, ◌<◌, ◌≤◌, ◌∷◌, ◌++◌, length, drop, codes, decimal};
 ghost use Rattle.arrayvec.specs.ArrayVec.{array_vec_len};
 ghost use Rattle.flow_text.specs.FaultTexts.{fault_text};
@@ -145,8 +145,9 @@ fn number_line<I: Integer>(word: &[u8], n: I) -> Line
     line
 }
 
-/// Appends a letter, two nodes and an amount, which take 45 bytes at most. A solve has a line of this form for every arc,
-/// so it is written backwards into bytes of its own, in front of the last, which is the line's end, and copied once.
+/// Appends a letter, two nodes and an amount, which take 45 bytes at most. A solve has a line of this form for every
+/// arc, so it is written backwards into bytes of its own, in front of the last, which is the line's end, and copied
+/// once.
 #[tactic(auto, using(crate::proofs::OutputLemmas::decimal_10, crate::proofs::OutputLemmas::decimal_20))]
 #[inline(always)]
 fn push_pair<const N: usize>(

@@ -15,8 +15,8 @@ use std::marker::Model;
 
 /// Reads a maximum flow problem of the DIMACS format (1990) from the pieces of its text, however it is cut.
 ///
-/// Of the line that goes on it keeps at most `LONGEST_LINE` bytes, of a comment none. It keeps one arc for each arc line and at most two
-/// records for each node line. What a problem line declares takes no memory.
+/// Of the line that goes on it keeps at most `LONGEST_LINE` bytes, of a comment none. It keeps one arc for each arc
+/// line and at most two records for each node line. What a problem line declares takes no memory.
 #[derive(Drop)]
 pub struct ProblemReader {
     machine: Machine<ProblemLines>,
@@ -45,9 +45,9 @@ impl ProblemReader {
     ///
     /// # Errors
     ///
-    /// The early fault of the pieces so far, where they have one: the first fault of a line that has ended, or `LineTooLong`
-    /// of the line that goes on. Or `OutOfMemory`, where the memory for a line was refused. After an error every later call
-    /// answers the same.
+    /// The early fault of the pieces so far, where they have one: the first fault of a line that has ended, or
+    /// `LineTooLong` of the line that goes on. Or `OutOfMemory`, where the memory for a line was refused. After an
+    /// error every later call answers the same.
     pub fn feed(&mut self, piece: &[u8]) -> Result<(), ReadFault>
         ensures fed { (b : List ℕ) → Reads self.old b → Feeds (b ++ piece.now) result self.new }
         ensures refused { (fault : ReadFault) → Refuses self.old fault → (result ≡ Err fault) × Refuses self.new fault }
@@ -70,8 +70,9 @@ impl ProblemReader {
         }
     }
 
-    /// The network so far: the nodes that the problem line declares, and the arcs of the arc lines that have ended. There is
-    /// none before a problem line has ended, and none after an error. It has at most `MOST_ARCS` arcs, and takes no memory.
+    /// The network so far: the nodes that the problem line declares, and the arcs of the arc lines that have ended.
+    /// There is none before a problem line has ended, and none after an error. It has at most `MOST_ARCS` arcs, and
+    /// takes no memory.
     pub fn net(&self) -> Option<&Network>
         ensures lent { MatchOption result (lent_net self.now ≡ None) (λ net. lent_net self.now ≡ Some net.now) }
         ensures most { IfSome result (λ net. length net.now.arcs ≤ MOST_ARCS) }

@@ -15,7 +15,8 @@ const PROBLEMS: [&str; 4] = [
     "p\u{9}max\u{9}2\u{9}0\nn\u{9}1\u{9}s\nn\u{9}2\u{9}t\n",
 ];
 
-/// Solutions to a problem of two nodes, with their values, and the flow of their flow line from node 1 to node 2 if they have one.
+/// Solutions to a problem of two nodes, with their values, and the flow of their flow line from node 1 to node 2 if
+/// they have one.
 const SOLUTIONS: [(&str, u128, Option<u64>); 3] = [
     (
         "s 73786976294838206460000000\n",

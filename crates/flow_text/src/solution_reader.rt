@@ -16,7 +16,8 @@ use std::marker::Model;
 
 /// Reads a solution of the DIMACS maximum flow format (1990) from the pieces of its text, however it is cut.
 ///
-/// Of the line that goes on it keeps at most `LONGEST_LINE` bytes, of a comment none. It keeps one record for each flow line.
+/// Of the line that goes on it keeps at most `LONGEST_LINE` bytes, of a comment none. It keeps one record for each flow
+/// line.
 #[derive(Drop)]
 pub struct SolutionReader {
     machine: Machine<SolutionLines>,
@@ -45,9 +46,9 @@ impl SolutionReader {
     ///
     /// # Errors
     ///
-    /// The early fault of the pieces so far, where they have one: the first fault of a line that has ended, or `LineTooLong`
-    /// of the line that goes on. Or `OutOfMemory`, where the memory for a line was refused. After an error every later call
-    /// answers the same.
+    /// The early fault of the pieces so far, where they have one: the first fault of a line that has ended, or
+    /// `LineTooLong` of the line that goes on. Or `OutOfMemory`, where the memory for a line was refused. After an
+    /// error every later call answers the same.
     pub fn feed(&mut self, piece: &[u8]) -> Result<(), ReadFault>
         ensures fed { (nodes : ℕ) (b : List ℕ) → ReadsSolution nodes self.old b
             → FeedsSolution nodes (b ++ piece.now) result self.new }

@@ -83,7 +83,8 @@ const NUMBERS: [(&[u8], u128, Number); 10] = [
     (&[b'0'; 150], 0, Number::Value(0)),
 ];
 
-/// Reads a problem whose first piece is so long and whose other pieces are at most so long, and checks that a refusal stays.
+/// Reads a problem whose first piece is so long and whose other pieces are at most so long, and checks that a refusal
+/// stays.
 pub(crate) fn read_problem(
     rt: &impl Abort,
     alloc: Global,
@@ -146,7 +147,8 @@ fn told<T: Drop>(rt: &impl Abort, answer: Result<T, ReadFault>) -> Option<(u64, 
     }
 }
 
-/// Reads a problem whole, cut in two at each place, and one byte at a time, and checks what each reading is refused with.
+/// Reads a problem whole, cut in two at each place, and one byte at a time, and checks what each reading is refused
+/// with.
 fn check_problem_fault(rt: &impl Abort, alloc: Global, text: &str, line: u64, words: &str) {
     let bytes = text.as_bytes();
     for first in 0..bytes.len() + 1 {
@@ -211,8 +213,8 @@ fn too_long_solution(alloc: Global) -> Result<Vec<u8>, Fail> {
     Ok(text)
 }
 
-/// Feeds a solution to a problem of two nodes in pieces of so many bytes: how many were taken and how many flow lines were
-/// kept before the first that was refused, and its refusal, which stays.
+/// Feeds a solution to a problem of two nodes in pieces of so many bytes: how many were taken and how many flow lines
+/// were kept before the first that was refused, and its refusal, which stays.
 fn first_refused(
     rt: &impl Abort,
     alloc: Global,
@@ -262,8 +264,8 @@ fn too_many_flow_lines_byte_by_byte(rt: HostRuntime) -> Result<(), Fail> {
     Ok(())
 }
 
-/// Pieces of 7 bytes cut lines of 8 bytes at each of their places: of the whole pieces and 2 bytes, these 2 are refused.
-/// Two pieces cut at every place of the text would be 32 million readings of it, which is out of reach.
+/// Pieces of 7 bytes cut lines of 8 bytes at each of their places: of the whole pieces and 2 bytes, these 2 are
+/// refused. Two pieces cut at every place of the text would be 32 million readings of it, which is out of reach.
 #[test]
 fn too_many_flow_lines_in_pieces(rt: HostRuntime) -> Result<(), Fail> {
     let text = too_long_solution(rt.alloc())?;

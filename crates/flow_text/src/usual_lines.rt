@@ -1,6 +1,7 @@
-//! The usual form of an arc line and of a flow line, read in one pass: the letter, one blank, and three numbers of at most
-//! `SHORT_DIGITS` digits with one blank between them. A text that ends sooner than the longest such line is read the general
-//! way, so that no byte needs a test of its own for the text's end, and the loops over digits have a fixed length.
+//! The usual form of an arc line and of a flow line, read in one pass: the letter, one blank, and three numbers of at
+//! most `SHORT_DIGITS` digits with one blank between them. A text that ends sooner than the longest such line is read
+//! the general way, so that no byte needs a test of its own for the text's end, and the loops over digits have a fixed
+//! length.
 ghost use Rattle.std.specs.Prelude.{◌+◌, ◌-◌, ◌≤◌, length, drop, IfSome};
 ghost use Rattle.flow_text.specs.UsualLines.{IsLeading, IsNumberUntil, IsLetter, IsUsual};
 
@@ -28,8 +29,8 @@ fn leading_digits(text: &[u8], start: usize) -> (u64, usize)
     (value, start + SHORT_DIGITS)
 }
 
-/// The value of the number that begins at `start`, where it has at most `SHORT_DIGITS` digits and this byte is behind it, and the place of
-/// that byte.
+/// The value of the number that begins at `start`, where it has at most `SHORT_DIGITS` digits and this byte is behind
+/// it, and the place of that byte.
 #[inline(always)]
 fn number_until(text: &[u8], start: usize, end: u8) -> Option<(u64, usize)>
     requires { start + SHORT_DIGITS + 1 ≤ length text.now }

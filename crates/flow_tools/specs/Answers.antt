@@ -48,8 +48,9 @@ pub record IsCutText (p : Instance) (arcs sink : Bool) (text : List ℕ) : Type 
   pub cut_is : IsCutOf p value sink X
   pub text_is : text ≡ cut_text arcs p.net value X
 
--- the connectivity that is asked for: the least number of arcs that leave a set or, undirected, that have exactly one end
--- in it; over all proper sets of nodes or, with the pair, over those with every source inside and every sink outside
+-- the connectivity that is asked for: the least number of arcs that leave a set or, undirected, that have exactly one
+-- end in it; over all proper sets of nodes or, with the pair, over those with every source inside and every sink
+-- outside
 abbrev pub IsConnectivityOf : Instance → Bool → Bool → ℕ → Type 0
 IsConnectivityOf p false false k = IsLeastOver (IsProper p.net) (leaving p.net) k
 IsConnectivityOf p true false k = IsLeastOver (IsProper p.net) (crossing p.net) k
@@ -62,8 +63,8 @@ verdict_status (Feasible value) = 0
 verdict_status (Optimal value) = 0
 verdict_status _ = 1
 
--- the answer of a job to a problem: a text, and the status of the run; `check` alone has to do with a solution's text q,
--- and puts the verdict on what it says
+-- the answer of a job to a problem: a text, and the status of the run; `check` alone has to do with a solution's text
+-- q, and puts the verdict on what it says
 abbrev pub IsAnswer : Job → Instance → List ℕ → List ℕ → ℕ → Type 0
 IsAnswer (Solve value_only) p q text status = IsSolveText p value_only text × (status ≡ 0)
 IsAnswer (Cut arcs sink) p q text status = IsCutText p arcs sink text × (status ≡ 0)

@@ -1,4 +1,5 @@
--- The law that joins solving and checking: what `solve` puts is a solution, and the verdict on it is that it is optimal.
+-- The law that joins solving and checking: what `solve` puts is a solution, and the verdict on it is that it is
+-- optimal.
 use Rattle.std.specs.Prelude.{◌≡◌, ◌↔◌, ℕ, false, List, map, Ok}
 use Rattle.std.specs.List.{zip}
 use Rattle.flow_net.specs.declared.networks.Arc.{Arc}
@@ -21,8 +22,8 @@ carried_line (arc, flow) = record { src = arc.src; dst = arc.dst; flow = flow }
 abbrev pub written_flow : Net → ℕ → List ℕ → Written
 written_flow net value flows = record { value = value; lines = map carried_line (zip net.arcs flows) }
 
--- for every text that is accepted as a problem: each text that `solve` may print for it, whichever greatest flow it has, is
--- accepted as a solution of it, and the one verdict on it is that it is optimal, with the greatest value
+-- for every text that is accepted as a problem: each text that `solve` may print for it, whichever greatest flow it
+-- has, is accepted as a solution of it, and the one verdict on it is that it is optimal, with the greatest value
 abbrev pub SolvedIsOptimal : Type 0
 SolvedIsOptimal = (b : List ℕ) (p : Instance) (text : List ℕ) → problem b ≡ Ok p → IsSolveText p false text
     → (w : Written) × (k : ℕ) × (solution text p.net.nodes ≡ Ok w)

@@ -2,8 +2,8 @@
 use Rattle.std.specs.Prelude.{◌≡◌, ℕ, Bool, true, List, ◌++◌, MatchResult, Result, Option}
 use Rattle.std.specs.Io.KnownBytes.{IsAtEnd}
 
--- What contracts see of a stream: its bytes, those left of an input or those taken by an output, where anyone can know them,
--- and whether a call has failed.
+-- What contracts see of a stream: its bytes, those left of an input or those taken by an output, where anyone can know
+-- them, and whether a call has failed.
 pub record State : Type 0 where
   pub bytes : Option (List ℕ)
   pub failed : Bool

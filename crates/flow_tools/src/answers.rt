@@ -53,8 +53,8 @@ pub fn answer_solve<M: Method, O: Output>(
     }
 }
 
-/// Puts the capacity of a minimum cut and its source side, and where `form.arcs` is true the arcs that leave that side. It
-/// is the cut nearest the sources, or where `form.sink` is true the cut nearest the sinks.
+/// Puts the capacity of a minimum cut and its source side, and where `form.arcs` is true the arcs that leave that side.
+/// It is the cut nearest the sources, or where `form.sink` is true the cut nearest the sinks.
 ///
 /// # Errors
 ///

@@ -120,13 +120,13 @@ fn judge(
     }
 }
 
-/// Checks a solution of a problem (solution files of the DIMACS format, 1990). The verdict is the first of [`Verdict`]'s that
-/// applies; with `feasible_only` nobody asks whether a flow of greater value exists.
+/// Checks a solution of a problem (solution files of the DIMACS format, 1990). The verdict is the first of
+/// [`Verdict`]'s that applies; with `feasible_only` nobody asks whether a flow of greater value exists.
 ///
-/// The caller ensures what an accepted solution keeps: both nodes of every line are nodes of the problem, and the lines, the
-/// flows and the value are within the limits. The flow lines of a pair of nodes are added up, and so are its arcs; the order
-/// of neither matters. No flow is searched for: the flow of the lines is put on the arcs, and one search tells whether its
-/// value is the greatest.
+/// The caller ensures what an accepted solution keeps: both nodes of every line are nodes of the problem, and the
+/// lines, the flows and the value are within the limits. The flow lines of a pair of nodes are added up, and so are its
+/// arcs; the order of neither matters. No flow is searched for: the flow of the lines is put on the arcs, and one
+/// search tells whether its value is the greatest.
 ///
 /// # Errors
 ///

@@ -18,7 +18,8 @@ use flow_solve::{Method, work_len};
 use flow_text::connect_line;
 use std::alloc::Global;
 
-/// The network in which a flow counts arcs: every capacity is 1, and where `undirected` is true each arc is there both ways.
+/// The network in which a flow counts arcs: every capacity is 1, and where `undirected` is true each arc is there both
+/// ways.
 fn counting_network(mut net: Network, undirected: bool) -> Result<Network, OutOfMemory>
     requires room { length net.arcs ≤ MOST_ARCS }
     ensures { IfOk result (λ made. made ≡ unit (if undirected then both_ways net else net)) }

@@ -92,8 +92,8 @@ fn next_of(net: &Network, v: u32) -> u32
     if v == net.nodes() { 1 } else { v + 1 }
 }
 
-/// The connectivity, by a solve from each node to the next in the circle of all nodes: a set that is neither empty nor all
-/// has a node inside whose next is outside.
+/// The connectivity, by a solve from each node to the next in the circle of all nodes: a set that is neither empty nor
+/// all has a node inside whose next is outside.
 fn least_around<M: Method>(
     net: &Network,
     flow: &mut FlowTable,
@@ -121,8 +121,8 @@ fn least_around<M: Method>(
     least
 }
 
-/// The connectivity, in cells that are all its own: by terminals that grow along an order of the nodes, within the steps of
-/// one solve, or else by a solve for each node. Of two nodes each is a set, so the least degree is it.
+/// The connectivity, in cells that are all its own: by terminals that grow along an order of the nodes, within the
+/// steps of one solve, or else by a solve for each node. Of two nodes each is a set, so the least degree is it.
 fn least_cut<M: Method>(net: &Network, flow: &mut FlowTable, cells: &mut [u32]) -> u64
     requires fits { Fits net.now flow.old.flows }
     requires unit { All (λ a. a.cap ≡ 1) net.now.arcs }
@@ -148,14 +148,14 @@ fn least_cut<M: Method>(net: &Network, flow: &mut FlowTable, cells: &mut [u32]) 
 }
 
 /// The edge connectivity of a network in which every capacity is 1: the least number of arcs that leave a set of nodes
-/// which is neither empty nor all. With `pair` it is the least over the sets with every node of `s` inside and every node
-/// of `t` outside; without it `s` and `t` are not looked at. For the undirected number hand in the network after
+/// which is neither empty nor all. With `pair` it is the least over the sets with every node of `s` inside and every
+/// node of `t` outside; without it `s` and `t` are not looked at. For the undirected number hand in the network after
 /// [`Network::both_ways`].
 ///
-/// It takes no memory: it works in the first [`work_len`] cells of `work`, and the table holds some flow afterwards. With
-/// `pair` it takes one solve. Without it the flow between each node and those before it in an order is raised, from one
-/// node to the next, only as far as the answer can still fall; where that takes the steps of a solve and isn't done, a
-/// solve for each node follows.
+/// It takes no memory: it works in the first [`work_len`] cells of `work`, and the table holds some flow afterwards.
+/// With `pair` it takes one solve. Without it the flow between each node and those before it in an order is raised,
+/// from one node to the next, only as far as the answer can still fall; where that takes the steps of a solve and isn't
+/// done, a solve for each node follows.
 pub fn connectivity<M: Method>(
     net: &Network,
     pair: bool,

@@ -1,4 +1,5 @@
-//! Readers and writers that fail once and then work, with their calls counted: no contract counts the calls of a device.
+//! Readers and writers that fail once and then work, with their calls counted: no contract counts the calls of a
+//! device.
 use crate::test_nets::{NET_A, SOLVED_A};
 use crate::{Counted, Failed, Input, Job, Output, put_all, run};
 use std::alloc::Global;
@@ -6,7 +7,8 @@ use std::io::{ErrorKind, Read, Write};
 use std::process::Abort;
 use std::test::Fail;
 
-/// A reader of a text that delivers 16 bytes at most, fails at the read with one number, counted from 1, and works again.
+/// A reader of a text that delivers 16 bytes at most, fails at the read with one number, counted from 1, and works
+/// again.
 #[derive(Drop)]
 struct FailsOnce<'a> {
     text: &'a [u8],

@@ -1,5 +1,5 @@
-//! The connectivity by growth against the plain way, a solve from each node to the next in a circle of all nodes, to which it
-//! comes where its steps are used up.
+//! The connectivity by growth against the plain way, a solve from each node to the next in a circle of all nodes, to
+//! which it comes where its steps are used up.
 ghost use Rattle.std.specs.Prelude.{◌≡◌, ◌<◌};
 ghost use Rattle.std.specs.List.{All};
 ghost use Rattle.flow_solve.specs.Bounds.{levels_bound};
@@ -84,8 +84,8 @@ fn below(state: u64, most: u32) -> u32
     ((state >> 33) % most as u64) as u32
 }
 
-/// A network of 3 to 22 nodes that a number determines, with a few arcs for each node, from near nodes to near ones for every
-/// second number; one of three is both ways.
+/// A network of 3 to 22 nodes that a number determines, with a few arcs for each node, from near nodes to near ones for
+/// every second number; one of three is both ways.
 fn random_network(alloc: Global, seed: u64) -> Option<Network> {
     let mut state = next_of(seed);
     let nodes = 3 + below(state, 20);

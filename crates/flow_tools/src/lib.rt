@@ -7,8 +7,9 @@
 //! ```
 //!
 //! What a run may put is the page `specs/Answers.antt`; how it ends, its message and its status are the page
-//! `specs/Exits.antt`. Both speak of the bytes that the streams delivered and took, and of the definitions of `flow_net` and
-//! `flow_text`, never of this code. Standard streams and files are [`Counted`]; [`memory`] has streams for tests.
+//! `specs/Exits.antt`. Both speak of the bytes that the streams delivered and took, and of the definitions of
+//! `flow_net` and `flow_text`, never of this code. Standard streams and files are [`Counted`]; [`memory`] has streams
+//! for tests.
 #![tactic(auto)]
 
 mod answers;

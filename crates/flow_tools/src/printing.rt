@@ -42,8 +42,8 @@ pub(crate) fn put_solution<O: Output>(
 
 /// Puts a value and the nodes of a source side, rising, and where `form.arcs` is true the arcs that leave it, in order.
 ///
-/// The source side has the nodes that are marked in `side`, cell `v - 1` for node `v`; where `form.sink` is true, the nodes
-/// that aren't.
+/// The source side has the nodes that are marked in `side`, cell `v - 1` for node `v`; where `form.sink` is true, the
+/// nodes that aren't.
 ///
 /// # Errors
 ///

@@ -14,8 +14,8 @@ use flow_solve::Levels;
 use flow_text::{ProblemReader, fault_line};
 use std::alloc::Global;
 
-/// Runs a job: reads the problem, puts the answer to `out`, and answers the status of the run. Where there is no answer,
-/// `err` gets one line that says why, and `out` nothing, unless a put to it failed.
+/// Runs a job: reads the problem, puts the answer to `out`, and answers the status of the run. Where there is no
+/// answer, `err` gets one line that says why, and `out` nothing, unless a put to it failed.
 ///
 /// | Status | When | Line on `err` |
 /// |---|---|---|
@@ -27,9 +27,9 @@ use std::alloc::Global;
 /// | 4 | a put to `out` failed; a beginning of the answer was put | `flow: write failed` |
 /// | 4 | memory was refused | `flow: out of memory` |
 ///
-/// Each piece of an input is read before the next is pulled, and nothing is pulled after a fault or the end. `solution` is
-/// read by `Job::Check` alone, once the problem is accepted. All memory is asked for before the first byte is put. A failure
-/// of `err` cuts its line short and changes nothing else.
+/// Each piece of an input is read before the next is pulled, and nothing is pulled after a fault or the end. `solution`
+/// is read by `Job::Check` alone, once the problem is accepted. All memory is asked for before the first byte is put. A
+/// failure of `err` cuts its line short and changes nothing else.
 pub fn run<I: Input, J: Input, O: Output, E: Output>(
     alloc: Global,
     job: Job,

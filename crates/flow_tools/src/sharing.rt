@@ -1,8 +1,8 @@
 //! Sharing the flow lines of a solution out over the arcs of its problem.
 //!
-//! A solution speaks of pairs of nodes, a flow of arcs. The arcs and the lines are brought into the order of their pairs, and
-//! then each line's flow is put on the arcs of its pair, the next where one is full. So a flow comes out that carries what
-//! the lines say of every pair, or the first line whose pair has no room left.
+//! A solution speaks of pairs of nodes, a flow of arcs. The arcs and the lines are brought into the order of their
+//! pairs, and then each line's flow is put on the arcs of its pair, the next where one is full. So a flow comes out
+//! that carries what the lines say of every pair, or the first line whose pair has no room left.
 ghost use Rattle.std.specs.Prelude.{◌≡◌, ℕ, [], ◌+◌, ◌-◌, ◌*◌, ◌<◌, ◌≤◌, ◌^◌, length, slice_index, slice_set, IfOk, MatchOption};
 ghost use Rattle.std.specs.List.{All};
 ghost use Rattle.std.specs.List.Sorted.{IsNonDecreasingBy, IsPermutation};
@@ -110,8 +110,8 @@ fn fill(net: &Network, arc: u32, amount: u64, flow: &mut FlowTable) -> u64
     amount - put
 }
 
-/// Puts the flow of a line on the arcs of its pair, from a place among the ordered arcs on. Answers the place at which it
-/// stopped and what found no room.
+/// Puts the flow of a line on the arcs of its pair, from a place among the ordered arcs on. Answers the place at which
+/// it stopped and what found no room.
 fn pour(
     net: &Network,
     places: &[ArcPlace],

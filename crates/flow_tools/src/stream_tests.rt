@@ -148,8 +148,8 @@ fn a_message_is_cut_short(rt: HostRuntime) -> Result<(), Fail> {
     Ok(())
 }
 
-/// A solution of net A in one piece and the number of its pull that fails, how many bytes the output takes, and what the
-/// run must tell, its status, and the pulls of the solution. Nothing is put.
+/// A solution of net A in one piece and the number of its pull that fails, how many bytes the output takes, and what
+/// the run must tell, its status, and the pulls of the solution. Nothing is put.
 type Stopped = (&'static [u8], u64, usize, &'static [u8], u8, u64);
 
 const STOPPED_CHECKS: [Stopped; 4] = [

@@ -12,7 +12,8 @@ pub struct Failed;
 
 /// A stream of bytes that is read to its end.
 pub trait Input {
-    /// The bytes that are left to read, `None` where no contract can know them, as of a file; and whether a pull has failed.
+    /// The bytes that are left to read, `None` where no contract can know them, as of a file; and whether a pull has
+    /// failed.
     ghost state: { Self → State };
 
     /// How many pulls may still deliver a byte.

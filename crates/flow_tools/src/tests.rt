@@ -198,7 +198,8 @@ fn faults_are_told(rt: HostRuntime) -> Result<(), Fail> {
     Ok(())
 }
 
-/// A text whose first line begins with `front`, goes on with one byte again and again up to a length, and then with `back`.
+/// A text whose first line begins with `front`, goes on with one byte again and again up to a length, and then with
+/// `back`.
 fn padded(alloc: Global, front: &[u8], byte: u8, len: usize, back: &[u8]) -> Result<Vec<u8>, Fail> {
     let mut text = front.to_vec(alloc)?;
     for _ in front.len()..len {
@@ -237,9 +238,9 @@ fn numbers_of_the_most_digits(rt: HostRuntime) -> Result<(), Fail> {
     Ok(())
 }
 
-/// What is told of a beginning of net A that has at most so many bytes, and more than the row before. A line that was cut
-/// has too few fields, until its last field has begun. One that is whole counts, with its byte 10 or without, and then the
-/// end comes too early: before a sink, or before the fifth arc.
+/// What is told of a beginning of net A that has at most so many bytes, and more than the row before. A line that was
+/// cut has too few fields, until its last field has begun. One that is whole counts, with its byte 10 or without, and
+/// then the end comes too early: before a sink, or before the fifth arc.
 const BEGINNINGS_OF_A: [(usize, &[u8]); 16] = [
     (0, b"flow: line 1: problem line missing\n"),
     (8, b"flow: line 1: wrong number of fields\n"),

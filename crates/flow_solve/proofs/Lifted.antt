@@ -138,29 +138,29 @@ under_way_begun ranked dist trail walk source at start =
 -- a walk goes on
 pub under_way_on : (ranked : Ranked) (dist xs trail trail' : List ℕ) (walk next : Walker) (step : Step)
     → IsUnderWay ranked dist trail walk → IsStep ranked dist xs walk.node step
-    → walk.depth < ranked.task.packed.net.now.nodes → next.source ≡ walk.source
-    → next.node ≡ head_of ranked.task.packed.net.now step.half → IsNode ranked.task.packed.net.now next.node
+    → walk.depth < ranked.task.packed.net.now.nodes → next.source ≡ walk.source → next.node ≡ step.head
     → next.depth ≡ walk.depth + 1
     → take (walk.depth + 1) trail' ≡ take walk.depth trail ++ (step.half ∷ [])
     → IsUnderWay ranked dist trail' next
-under_way_on ranked dist xs trail trail' walk next step w s l from to node deeper more =
+under_way_on ranked dist xs trail trail' walk next step w s l from to deeper more =
     let net = ranked.task.packed.net.now in let key = key_of dist ranked.rank.now in
     let written : take next.depth trail' ≡ take walk.depth trail ++ (step.half ∷ []) =
     ap (λ d. take d trail') deeper ∙ more in
     let here : key (tail_of net step.half) ≡ key walk.node = ap key s.tail in
+    let there : key step.head ≡ key (head_of net step.half) = ap key s.head in
     record {
       source = subst (λ v. IsSource ranked.task v) (sym from) w.source;
-      node = node;
+      node = subst (λ v. IsNode net v) (sym to) s.node;
       depth = omega (arith, deeper, l);
       leads =
           subst (λ hs. IsPath net next.source hs next.node) (sym written)
           (subst (λ v. IsPath net v (take walk.depth trail ++ (step.half ∷ [])) next.node) (sym from)
-          (subst (λ v. IsPath net walk.source (take walk.depth trail ++ (step.half ∷ [])) v) (sym to)
+          (subst (λ v. IsPath net walk.source (take walk.depth trail ++ (step.half ∷ [])) v) (sym (to ∙ s.head))
           (path_more net walk.source walk.node (take walk.depth trail) step.half w.leads s.half s.tail)));
       falls =
           subst (λ hs. Descends net key hs) (sym written)
           (all_more (λ h. key (head_of net h) < key (tail_of net h)) (take walk.depth trail) step.half w.falls
-          (omega (arith, s.falls, here)));
+          (omega (arith, s.falls, here, there)));
     }
 
 -- ---- where the least remains

@@ -20,21 +20,14 @@ pub record IsRanked (ranked : Ranked) : Type 0 where
   pub task : IsTask ranked.task
   pub rank_size : length ranked.rank.now ≡ ranked.task.packed.net.now.nodes
 
--- a half-arc leaves a node towards a lower key, and so much remains on it
-pub record LeadsDown (ranked : Ranked) (dist xs : List ℕ) (v h r : ℕ) : Type 0 where
-  pub half : h < 2 * length ranked.task.packed.net.now.arcs
-  pub tail : tail_of ranked.task.packed.net.now h ≡ v
-  pub falls : key_of dist ranked.rank.now (head_of ranked.task.packed.net.now h) < key_of dist ranked.rank.now v
-  pub room : r ≡ residual ranked.task.packed.net.now xs h
-
-abbrev pub IsStep : Ranked → List ℕ → List ℕ → ℕ → Step → Type 0
-IsStep ranked dist xs v step = LeadsDown ranked dist xs v step.half step.room
-
--- such a half-arc stands at a place of the packed ones, unless the place is behind those of the node
-abbrev pub LeadsDownAt : Ranked → List ℕ → List ℕ → ℕ → ℕ → ℕ → Type 0
-LeadsDownAt ranked dist xs v spot r =
-    spot < slice_index ranked.task.packed.first.now v
-    → LeadsDown ranked dist xs v (slice_index ranked.task.packed.halves.now spot) r
+-- a step leaves a node along a half-arc towards a lower key, and so much remains on it
+pub record IsStep (ranked : Ranked) (dist xs : List ℕ) (v : ℕ) (step : Step) : Type 0 where
+  pub half : step.half < 2 * length ranked.task.packed.net.now.arcs
+  pub tail : tail_of ranked.task.packed.net.now step.half ≡ v
+  pub head : step.head ≡ head_of ranked.task.packed.net.now step.half
+  pub node : IsNode ranked.task.packed.net.now step.head
+  pub falls : key_of dist ranked.rank.now step.head < key_of dist ranked.rank.now v
+  pub room : step.room ≡ residual ranked.task.packed.net.now xs step.half
 
 -- a walk has come from a source to a node, and its trail begins with a path that leads there along falling keys
 pub record IsUnderWay (ranked : Ranked) (dist trail : List ℕ) (walk : Walker) : Type 0 where

@@ -12,7 +12,7 @@ ghost use Rattle.flow_net.specs.NodeSets.{one_of};
 ghost use Rattle.flow_net.specs.Flows.{Fits};
 ghost use Rattle.flow_net.specs.Residual.{head_of};
 ghost use Rattle.flow_solve.specs.Lifting.{HasGoneBack, HasGoneBackIn, HasLeast, IsRanked, IsStep, IsUnderWay};
-ghost use Rattle.flow_solve.specs.Lifting.{KeepsLeast, KnowsLeastIn, LeadsDownAt};
+ghost use Rattle.flow_solve.specs.Lifting.{KeepsLeast, KnowsLeastIn};
 ghost use Rattle.flow_solve.specs.Packs.{IsPacked};
 ghost use Rattle.flow_solve.specs.Stages.{Augments, HasFlow, IsTask, degree_of};
 ghost use Rattle.flow_solve.specs.Steps.{OnlyLooks, PaysLooks, PaysSteps};
@@ -63,6 +63,8 @@ pub(crate) struct Walker {
 pub(crate) struct Step {
     /// The half-arc.
     pub half: u32,
+    /// The node that it leads to.
+    pub head: u32,
     /// What remains on it.
     pub room: u64,
 }
@@ -78,15 +80,15 @@ struct Lifted {
     walk: Walker,
 }
 
-/// The place of a node's first half-arc, from a place on, that leads to a lower key and has a residual capacity, and
-/// this capacity; or the place behind them all.
+/// The place of a node's first half-arc, from a place on, that leads to a lower key and has a residual capacity, and the
+/// step along it; or the place behind them all.
 fn next_falling(
     ranked: Ranked<'_>,
     flow: &mut FlowTable,
     dist: &[u32],
     node: u32,
     from: u32,
-) -> (u32, u64)
+) -> (u32, Option<Step>)
     requires ranked { IsRanked ranked }
     requires fits { Fits ranked.task.packed.net.now flow.old.flows }
     requires dist_size { length dist.now ≡ ranked.task.packed.net.now.nodes }
@@ -95,7 +97,7 @@ fn next_falling(
     requires within { from ≤ slice_index ranked.task.packed.first.now node }
     ensures begun { from ≤ result.0 }
     ensures within { result.0 ≤ slice_index ranked.entry.task.packed.first.now node }
-    ensures falls { LeadsDownAt ranked.entry dist.now flow.old.flows node result.0 result.1 }
+    ensures step { IfSome result.1 (IsStep ranked.entry dist.now flow.old.flows node) }
     ensures looks { OnlyLooks flow.old flow.new (result.0 - from + 1) }
 {
     let packed = ranked.task.packed;
@@ -107,16 +109,24 @@ fn next_falling(
     let mut spot = from;
     while spot < end {
         let half = packed.halves[spot as usize];
-        let next = head(packed.net, half) as usize - 1;
+        let to = head(packed.net, half);
+        let next = to as usize - 1;
         if dist[next] < far || dist[next] == far && rank[next] < own {
             let (_, room) = flow.look(packed.net, half);
             if room > 0 {
-                return (spot, room);
+                return (
+                    spot,
+                    Some(Step {
+                        half,
+                        head: to,
+                        room,
+                    }),
+                );
             }
         }
         spot += 1;
     }
-    (end, 0)
+    (end, None)
 }
 
 /// Moves a node's place on to its first half-arc that leads to a lower key and has a residual capacity, or behind all.
@@ -144,15 +154,10 @@ fn advance(
         supply.left = 0;
         return None;
     }
-    let (spot, room) = next_falling(ranked, flow, dist, node, from);
+    let (spot, step) = next_falling(ranked, flow, dist, node, from);
     supply.left -= u64::from(spot - from) + 1;
     current[node as usize - 1] = spot;
-    if spot < end {
-        let half = packed.halves[spot as usize];
-        Some(Step { half, room })
-    } else {
-        None
-    }
+    step
 }
 
 /// The least distance of a node that something remains towards, or [`FAR`].
@@ -237,11 +242,9 @@ fn is_sink(ranked: Ranked<'_>, dist: &[u32], node: u32) -> bool
 fn go_on(net: &Network, trail: &mut [u32], walk: Walker, step: Step) -> Walker
     requires size { length trail.old ≡ 2 * net.now.nodes }
     requires depth { walk.depth < net.now.nodes }
-    requires half { step.half < 2 * length net.now.arcs }
     requires before { 1 ≤ walk.depth → slice_index trail.old (net.now.nodes + (walk.depth - 1)) < walk.depth }
     ensures source { result.source ≡ walk.source }
-    ensures node { result.node ≡ head_of net.now step.half }
-    ensures is_node { IsNode net.now result.node }
+    ensures node { result.node ≡ step.head }
     ensures depth { result.depth ≡ walk.depth + 1 }
     ensures path { take (walk.depth + 1) trail.new ≡ take walk.depth trail.old ++ (step.half ∷ []) }
     ensures least { KeepsLeast net.now trail.old trail.new walk step result }
@@ -257,7 +260,7 @@ fn go_on(net: &Network, trail: &mut [u32], walk: Walker, step: Step) -> Walker
     trail[n + depth] = place;
     Walker {
         source: walk.source,
-        node: head(net, step.half),
+        node: step.head,
         depth: walk.depth + 1,
         least,
     }

@@ -11,13 +11,13 @@ returns-clause-least c = λ xs k r.
       | then-step-walk w ↦
           rw (w.place-is, c.nodes-n.ensures.nodes)
           (knows_last net xs trail walk
-          (record { source = walk.source; node = c.head.result; depth = walk.depth + 1; least = step.room })
+          (record { source = walk.source; node = step.head; depth = walk.depth + 1; least = step.room })
           step.half walk.depth step.room c.requires.size c.requires.depth k refl r
           (λ s. omega (arith, s, w.if-step-walk.either)) refl refl)
       | else-step-walk w ↦
           rw (w.place-is, c.nodes-n.ensures.nodes)
           (knows_before net xs trail walk
-          (record { source = walk.source; node = c.head.result; depth = walk.depth + 1; least = walk.least })
+          (record { source = walk.source; node = step.head; depth = walk.depth + 1; least = walk.least })
           step.half (get_or trail (net.nodes + (walk.depth - 1)) 0) step.room c.requires.size c.requires.depth k refl r
           (omega (arith, w.if-step-walk.false)) (omega (arith, w.if-step-walk.false)) refl refl)
     ]

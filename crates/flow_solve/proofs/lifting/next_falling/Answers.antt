@@ -2,8 +2,8 @@
 use Rattle.std.proofs.Common.{◌≡◌, ◌+◌, ◌-◌, get_or, ap, arith}
 use Rattle.flow_solve.proofs.lifting.next_falling.Goals as goal
 
-pub head-requires : goal.head-requires
-head-requires c =
+pub head-to-requires : goal.head-to-requires
+head-to-requires c =
     let first = c.args.ranked.task.packed.first.now in let at = c.args.node - 1 in
     let next : get_or first (at + 1) 0 ≡ get_or first c.args.node 0 =
     ap (λ v. get_or first v 0) (omega (arith, c.requires.node)) in

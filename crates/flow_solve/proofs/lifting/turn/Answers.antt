@@ -30,7 +30,7 @@ returns-in-Some-clause-walk c = λ e.
     let on = c.go_on-lifted.ensures in
     under_way_on c.args.ranked c.args.dist.now c.args.flow.now.flows c.args.trail.now c.go_on-lifted.new.trail
     c.args.lifted.now.walk c.go_on-lifted.result c.in-Some.step c.requires.walk c.in-Some.ensures.step
-    (omega (arith, c.if-walk-nodes.false, c.nodes-in-Some.ensures.nodes)) on.source on.node on.is_node on.depth on.path
+    (omega (arith, c.if-walk-nodes.false, c.nodes-in-Some.ensures.nodes)) on.source on.node on.depth on.path
 
 -- the turn that goes back
 pub go_back-lifted-requires-clause-halves : goal.go_back-lifted-requires-clause-halves

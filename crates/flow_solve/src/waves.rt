@@ -9,10 +9,11 @@
 //! No node has a label of its own that is raised, so this is no push-relabel method. Nothing is claimed of ranks,
 //! bounds and excess: each push is held to what a look has shown to remain, and at the end the table is settled
 //! (`settling`).
-ghost use Rattle.std.specs.Prelude.{◌≡◌, ◌+◌, ◌*◌, ◌<◌, ◌≤◌, true, false, length};
+ghost use Rattle.std.specs.Prelude.{◌≡◌, ◌+◌, ◌-◌, ◌*◌, ◌<◌, ◌≤◌, true, false, length, slice_index};
 ghost use Rattle.std.specs.List.{All};
 ghost use Rattle.flow_net.specs.Nets.{IsNode};
 ghost use Rattle.flow_net.specs.Flows.{Fits};
+ghost use Rattle.flow_net.specs.Residual.{head_of};
 ghost use Rattle.flow_solve.specs.Packs.{IsPacked};
 ghost use Rattle.flow_solve.specs.Stages.{HasFlow, IsTask};
 ghost use Rattle.flow_solve.specs.Steps.{OnlyLooks, PaysLooks, PaysSteps, TakesSteps};
@@ -62,7 +63,9 @@ fn afford(wave: &mut Wave, cost: u64) -> bool
 }
 
 /// Where a place's rank stands: the number of places that the search has ranked before it.
-fn rank_of(place: u32) -> usize {
+fn rank_of(place: u32) -> usize
+    ensures { result ≡ place }
+{
     place as usize
 }
 
@@ -251,9 +254,11 @@ struct Sender {
     rank: u32,
 }
 
-/// How much of an amount a place takes from a sender: no more than its bound, nor than its excess has room for.
+/// How much of an amount a place takes from a sender: nothing unless its rank is lower, and no more than its bound, nor
+/// than its excess has room for.
 fn acceptable(cells: &[u32], sender: Sender, next: u32, amount: u64) -> u64
-    ensures { result ≤ amount }
+    ensures most { result ≤ amount }
+    ensures falls { 1 ≤ result → slice_index cells.now next < sender.rank }
 {
     let there = get(cells, rank_of(next));
     if there >= sender.rank {
@@ -301,6 +306,7 @@ fn pass_on(
     requires half { half < 2 * length packed.net.now.arcs }
     ensures fits { Fits packed.entry.net.now flow.new.flows }
     ensures most { result ≤ amount }
+    ensures falls { 1 ≤ result → slice_index cells.old (head_of packed.entry.net.now half - 1) < sender.rank }
     ensures steps { TakesSteps flow.old flow.new 2 }
 {
     let next = head(packed.net, half) - 1;

@@ -65,6 +65,11 @@ abbrev pub InsideFrom : Option (ℕ × ℕ) → Marks → List Arc → Type 0
 InsideFrom None marks arcs = (marks ≡ record { sources = []; sinks = [] }) × (arcs ≡ [])
 InsideFrom (Some size) marks arcs = Inside size.0 size.1 marks arcs
 
+-- what is known, with the terminals in one record
+abbrev known_by : Option (ℕ × ℕ) → Marks → List Arc → Known
+known_by size marks arcs =
+    record { size = size; sources = marks.sources; sinks = marks.sinks; arcs = arcs }
+
 abbrev pub IsInside : Known → Type 0
 IsInside k = InsideFrom k.size (marks_of k) k.arcs
 
@@ -99,7 +104,8 @@ s_not_t (c ∷ cs) is = grind (arith, common_steps)
 
 -- a node line
 marked : (n m : ℕ) (marks : Marks) (arcs : List Arc) (fields : List (List ℕ))
-    → first_failed (mark_tests n marks.sources marks.sinks fields) ≡ None → Inside n m marks arcs → Inside n m (with_node marks fields) arcs
+    → first_failed (mark_tests n marks.sources marks.sinks fields) ≡ None → Inside n m marks arcs
+    → Inside n m (with_node marks fields) arcs
 unfolding mark_tests
 marked n m marks arcs fields h p =
     let not_letter = not (bytes_eq (field_at fields 2) (codes "s") || bytes_eq (field_at fields 2) (codes "t")) in
@@ -142,17 +148,18 @@ marked n m marks arcs fields h p =
     ]
 
 noded : (size : Option (ℕ × ℕ)) (marks : Marks) (arcs : List Arc) (fields : List (List ℕ))
-    → first_failed (node_tests (record { size = size; sources = marks.sources; sinks = marks.sinks; arcs = arcs }) fields) ≡ None
+    → first_failed (node_tests (known_by size marks arcs) fields) ≡ None
     → InsideFrom size marks arcs → InsideFrom size (with_node marks fields) arcs
 noded None marks arcs fields h p = cc
 noded (Some size) marks arcs fields h p =
-    let early = passed (nat_lt 0 (length arcs)) NodeLineAfterArcLine (first_failed (mark_tests size.0 marks.sources marks.sinks fields))
+    let early = passed (nat_lt 0 (length arcs)) NodeLineAfterArcLine
+    (first_failed (mark_tests size.0 marks.sources marks.sinks fields))
     h in
     marked size.0 size.1 marks arcs fields early.1 p
 
 -- an arc line
 arced : (size : Option (ℕ × ℕ)) (marks : Marks) (arcs : List Arc) (fields : List (List ℕ))
-    → first_failed (arc_tests (record { size = size; sources = marks.sources; sinks = marks.sinks; arcs = arcs }) fields) ≡ None
+    → first_failed (arc_tests (known_by size marks arcs) fields) ≡ None
     → InsideFrom size marks arcs → InsideFrom size marks (arcs ++ arc_of fields ∷ [])
 arced None marks arcs fields h p = cc
 arced (Some size) marks arcs fields h p =
@@ -207,8 +214,8 @@ keeps k letter others fine p = elim (cases_Bool (bytes_eq letter (codes "p"))) [
 
 -- what an end without a fault says
 closed : (size : Option (ℕ × ℕ)) (marks : Marks) (arcs : List Arc)
-    → first_failed (end_tests (record { size = size; sources = marks.sources; sinks = marks.sinks; arcs = arcs })) ≡ None → InsideFrom size marks arcs
-    → let p = instance_of (record { size = size; sources = marks.sources; sinks = marks.sinks; arcs = arcs }) in IsNet p.net × IsProblem p
+    → first_failed (end_tests (known_by size marks arcs)) ≡ None → InsideFrom size marks arcs
+    → let p = instance_of (known_by size marks arcs) in IsNet p.net × IsProblem p
 closed None marks arcs h p = cc
 closed (Some size) marks arcs h p =
     let terminals = passed (lacks_one marks) TerminalsMissing

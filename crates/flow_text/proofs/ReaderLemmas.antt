@@ -99,8 +99,8 @@ after rules known_of old new b tail r e = elim (cases_Bool old.comment) [
   | inr no' ↦ rw (← partial_plain rules known_of old b r no') (e.in_comment no', e.buffered no')
 ]
 
-pub HasRead-buffers : {K : Type 0} (rules : Rules K) (known_of : List (List ℕ) → K) (old new : State K) (b tail : List ℕ)
-    → HasNoEnd tail → HasRead rules known_of old b → Buffers old tail new
+pub HasRead-buffers : {K : Type 0} (rules : Rules K) (known_of : List (List ℕ) → K) (old new : State K)
+    (b tail : List ℕ) → HasNoEnd tail → HasRead rules known_of old b → Buffers old tail new
     → HasRead rules known_of new (b ++ tail)
 HasRead-buffers rules known_of old new b tail none r e =
     let is_partial : (new.comment ≡ is_comment (rest b ++ tail)) × (new.partial ≡ partial_of (rest b ++ tail)) =
@@ -112,7 +112,8 @@ HasRead-buffers rules known_of old new b tail none r e =
       in_comment = is_partial.0 ∙ rw (rest_within b tail none) refl;
       buffered = is_partial.1 ∙ rw (rest_within b tail none) refl;
       fine =
-          early-within rules known_of b tail none r.fine ∙ within_limit (rest b ++ tail) _ (rw (is_partial.1) at e.short);
+          early-within rules known_of b tail none r.fine
+          ∙ within_limit (rest b ++ tail) _ (rw (is_partial.1) at e.short);
     }
 
 pub Tells-buffers : {K : Type 0} (rules : Rules K) (known_of : List (List ℕ) → K) (old new : State K) (b tail : List ℕ)

@@ -202,7 +202,8 @@ none_fine before nodes = refl
 
 module _ (nodes value : ℕ) (n : nodes ≤ MOST_NODES) where
   -- so no line has a fault, and all flow lines are kept
-  flows_fine : (before : List (List ℕ)) (done : List FlowLine) (arcs : List Arc) (xs : List ℕ) → stated_of nodes before ≡ known nodes value done → length done + length arcs ≤ MOST_FLOW_LINES
+  flows_fine : (before : List (List ℕ)) (done : List FlowLine) (arcs : List Arc) (xs : List ℕ)
+      → stated_of nodes before ≡ known nodes value done → length done + length arcs ≤ MOST_FLOW_LINES
       → AllByRecursion (IsArcWithin nodes) arcs → AllZip (λ a x. x ≤ a.cap) arcs xs
       → (first_fault solution_rules (stated_of nodes) before (map body_of (zip arcs xs)) ≡ None)
       × (stated_of nodes (before ++ map body_of (zip arcs xs))

@@ -103,7 +103,11 @@ module _ (early : List ℕ → Option (ℕ × FaultCode)) (fed : List ℕ → Ty
       text = so_far.text;
       delivered = delivered_all;
       one_pass = pass_of_all;
-      judged = (unfailed ∙ so_far.kept, refl, inr ((unfailed ∙ so_far.kept, at_end), finishes so_far.text so_far.has_text));
+      judged = (
+        unfailed ∙ so_far.kept,
+        refl,
+        inr ((unfailed ∙ so_far.kept, at_end), finishes so_far.text so_far.has_text),
+      );
     })
     refused_at_end OutOfMemory result finishes e =
         rw e (record {

@@ -31,7 +31,8 @@ sends_stopped a b waiting text s = record { sent = s.sent; taken = s.taken; part
 pub sends_rest : (a b c : Option (List ℕ)) (waiting text : List ℕ) (n : ℕ) → Sends a b waiting text
     → Appends b c (take n waiting) → Sends a c (take (length waiting - n) (drop n waiting)) text
 sends_rest a b c waiting text n s p =
-    let e : take (length waiting - n) (drop n waiting) ≡ drop n waiting = between_to_end waiting n (length waiting) (omega arith) in
+    let e : take (length waiting - n) (drop n waiting) ≡ drop n waiting =
+    between_to_end waiting n (length waiting) (omega arith) in
     rw e (sends_taken a b c waiting text n s p)
 
 -- a line more waits
@@ -51,7 +52,8 @@ pub sends_all : (a b c : Option (List ℕ)) (waiting text : List ℕ) → Sends 
 sends_all a b c waiting text s p = rw s.whole (Appends-trans a b c s.sent waiting s.taken p)
 
 -- a stream fails at some of what waited
-pub stops_in : (a b c : Option (List ℕ)) (waiting text : List ℕ) → Sends a b waiting text → Stops b c waiting → Stops a c text
+pub stops_in : (a b c : Option (List ℕ)) (waiting text : List ℕ) → Sends a b waiting text → Stops b c waiting
+    → Stops a c text
 stops_in a b c waiting text s r = record {
   sent = s.sent ++ r.sent;
   taken = Appends-trans a b c s.sent r.sent s.taken r.taken;
@@ -59,8 +61,8 @@ stops_in a b c waiting text s r = record {
 }
 
 -- a stream fails at some of what follows what was taken
-pub stops_at : (a b c : Option (List ℕ)) (waiting line before : List ℕ) → Sends a b waiting before → Stops b c (waiting ++ line)
-    → Stops a c (before ++ line)
+pub stops_at : (a b c : Option (List ℕ)) (waiting line before : List ℕ) → Sends a b waiting before
+    → Stops b c (waiting ++ line) → Stops a c (before ++ line)
 stops_at a b c waiting line before s r = record {
   sent = s.sent ++ r.sent;
   taken = Appends-trans a b c s.sent r.sent s.taken r.taken;

@@ -45,7 +45,8 @@ IsJudged early has_fault accepts s text solution (Err StopOutOfMemory) = IsKept 
 
 -- An input over a call that reads it: what it delivered, in one pass, and what that is judged to be.
 pub record IsRead {T : Type 0} (early : List ℕ → Option (ℕ × FaultCode))
-    (has_fault : List ℕ → ℕ × FaultCode → Type 0) (accepts : List ℕ → T → Type 0) (s : Stream) (solution : Bool) (result : Result T Stop) : Type 0 where
+    (has_fault : List ℕ → ℕ × FaultCode → Type 0) (accepts : List ℕ → T → Type 0)
+    (s : Stream) (solution : Bool) (result : Result T Stop) : Type 0 where
   pub text : List ℕ
   pub delivered : Consumes s.before.bytes s.after.bytes text
   pub one_pass : IsOnePass early text

@@ -13,8 +13,8 @@ none : (n : ℕ) → true ≡ (n == 0) → n ≡ 0
 none n h = grind arith
 
 -- what is buffered, where the line is no comment
-partial_len : {K : Type 0} (rules : Rules K) (known_of : List (List ℕ) → K) (old : State K) (b : List ℕ) (items : List ℕ)
-    → HasRead rules known_of old b → old.comment ≡ false → items ≡ old.partial
+partial_len : {K : Type 0} (rules : Rules K) (known_of : List (List ℕ) → K) (old : State K)
+    (b : List ℕ) (items : List ℕ) → HasRead rules known_of old b → old.comment ≡ false → items ≡ old.partial
     → length items ≡ length (rest b)
 partial_len rules known_of old b items r plain same = ap length (same ∙ partial_plain rules known_of old b r plain)
 

@@ -45,7 +45,8 @@ pub forward_side : (net : Net) (s : List ℕ) (t X : ℕ → Bool) (xs : List �
     → IsWhole Forwards net xs s X → ((v : ℕ) → t v ≡ true → X v ≡ false) → (v : ℕ)
     → (X v ≡ true) ↔ IsInLeastSourceSide net (one_of s) t v
 forward_side net s t X xs n f w out =
-    least_source_side net (one_of s) t X xs n f (record { sources = w.contains; closed = w.closed; least = w.least }) out
+    least_source_side net (one_of s) t X xs n f
+    (record { sources = w.contains; closed = w.closed; least = w.least }) out
 
 -- backwards
 turn : (b c : Bool) → (b ≡ true → c ≡ true) → not c ≡ true → not b ≡ true

@@ -6,7 +6,8 @@ use Rattle.flow_net.specs.Nets.{Net}
 use Rattle.flow_net.specs.NodeSets.{one_of}
 use Rattle.flow_solve.specs.declared.searching.Direction.{Direction}
 use Rattle.flow_solve.specs.Packs.{IsPacked}
-use Rattle.flow_solve.specs.Searches.{IsMarked, IsClosedFor, ContainsMarked, ContainsAll, IsQueue, IsNear, IsCome, IsDone}
+use Rattle.flow_solve.specs.Searches.{IsMarked, IsClosedFor, ContainsMarked, ContainsAll, IsQueue, IsNear, IsCome}
+use Rattle.flow_solve.specs.Searches.{IsDone}
 use Rattle.flow_solve.specs.Searches.{IsSearched, queued}
 use Rattle.flow_solve.proofs.Queues.{queue_short, queue_most, queued_rises, total_ranges}
 
@@ -22,7 +23,8 @@ pub record IsSwept (net : Net) (flows : List ℕ) (dir : Direction) (starts dist
   pub done : (i : ℕ) → i < at → IsDone net flows dir dist (get_or queue i 0)
   pub come : (p : ℕ) → p < net.nodes → IsMarked dist p
       → ((get_or dist p 0 ≡ 0) × IsTrue (one_of starts (p + 1))) ⊎ IsCome net flows dir dist via p
-  pub only : (side : ℕ → Bool) → ContainsAll starts side → IsClosedFor dir net flows side → ContainsMarked net.nodes dist side
+  pub only : (side : ℕ → Bool) → ContainsAll starts side → IsClosedFor dir net flows side
+      → ContainsMarked net.nodes dist side
 
 pub searched : (net : Net) (flows : List ℕ) (dir : Direction) (starts dist via queue : List ℕ) (tail at : ℕ)
     → IsSwept net flows dir starts dist via queue tail at → IsSearched net flows dir starts dist via

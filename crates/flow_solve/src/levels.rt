@@ -79,7 +79,6 @@ ghost use Rattle.std.specs.Prelude.{◌+◌, ◌*◌, ◌≤◌, length};
 ghost use Rattle.flow_solve.specs.Bounds.{levels_bound};
 
 use crate::method::Method;
-use crate::packing::Packed;
 use crate::phases::run_phases;
 use crate::raising::{Raise, solve};
 use crate::stages::Task;
@@ -137,19 +136,12 @@ pub struct Levels;
 impl Raise for Levels {
     ghost steps_bound = { levels_bound };
 
-    fn raise(
-        packed: Packed<'_>,
-        s: &[u32],
-        t: &[u32],
-        flow: &mut FlowTable,
-        cells: &mut [u32],
-        value: u128,
-    ) -> u128 {
-        let task = Task { packed, s, t };
-        let given = allowance(packed.net);
+    fn raise(task: Task<'_>, flow: &mut FlowTable, cells: &mut [u32], value: u128) -> u128 {
+        let net = task.packed.net;
+        let given = allowance(net);
         let raised = grow_trees(task, flow, cells, value, given);
-        let rest = rest_of_allowance(packed.net, given);
-        let share = share_of_waves(packed.net, given, rest);
+        let rest = rest_of_allowance(net, given);
+        let share = share_of_waves(net, given, rest);
         // Where the trees have found a path, paths are short.
         let raised = if raised == value {
             try_waves(task, flow, cells, value, share)

@@ -17,9 +17,9 @@ ghost use Rattle.flow_solve.specs.Steps.{OnlyLooks};
 ghost use Rattle.flow_solve.specs.Trails.{AreTrails, IsFirstSeen, IsMost, IsSeenOf, trail_from};
 
 use crate::method::Method;
-use crate::packing::Packed;
 use crate::raising::{Raise, solve};
 use crate::searching::{Direction, Plan, WANTED, head, search};
+use crate::stages::Task;
 use flow_net::{FlowTable, Network};
 
 /// The first of some nodes that a search has seen.
@@ -137,14 +137,8 @@ pub struct Paths;
 impl Raise for Paths {
     ghost steps_bound = { paths_bound };
 
-    fn raise(
-        packed: Packed<'_>,
-        s: &[u32],
-        t: &[u32],
-        flow: &mut FlowTable,
-        cells: &mut [u32],
-        value: u128,
-    ) -> u128 {
+    fn raise(task: Task<'_>, flow: &mut FlowTable, cells: &mut [u32], value: u128) -> u128 {
+        let Task { packed, s, t } = task;
         let n = packed.net.nodes() as usize;
         let (dist, rest) = cells.split_at_mut(n);
         let (via, rest) = rest.split_at_mut(n);

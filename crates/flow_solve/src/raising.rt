@@ -6,10 +6,13 @@ ghost use Rattle.flow_net.specs.NodeSets.{one_of};
 ghost use Rattle.flow_net.specs.Flows.{Fits, IsFeasible, HasValue, IsGreatest, HasNoLoops};
 ghost use Rattle.flow_net.specs.LeastCuts.{IsLeastCapacity};
 ghost use Rattle.flow_solve.specs.Bounds.{work_cells};
-ghost use Rattle.flow_solve.specs.Packs.{ArePackedBehind, IsPacked};
+ghost use Rattle.flow_solve.specs.Packs.{ArePackedBehind};
 ghost use Rattle.flow_solve.specs.Raising.{IsFlow};
+ghost use Rattle.flow_solve.specs.Stages.{HasFlow, IsTask};
+ghost use Rattle.flow_solve.specs.Steps.{TakesSteps};
 
 use crate::packing::{Packed, halves_in, pack_behind};
+use crate::stages::Task;
 use flow_net::{FlowTable, Network};
 
 /// A way to raise a feasible flow to one of the greatest value, once the half-arcs are packed.
@@ -19,30 +22,23 @@ pub(crate) trait Raise {
 
     /// Raises a flow of some value, whichever feasible flow it is, and answers the greatest value. It works in `5·n`
     /// cells.
-    fn raise(
-        packed: Packed<'_>,
-        s: &[u32],
-        t: &[u32],
-        flow: &mut FlowTable,
-        cells: &mut [u32],
-        value: u128,
-    ) -> u128
-        requires packed { IsPacked packed.net.now packed.first.now packed.halves.now }
-        requires terminals { AreTerminals packed.net.now s.now t.now }
-        requires cells { length cells.old ≡ 5 * packed.net.now.nodes }
-        requires flow { IsFlow packed.net.now s.now t.now flow.old.flows value }
-        ensures flow { IsFlow packed.entry.net.now s.now t.now flow.new.flows result }
-        ensures greatest { IsGreatest packed.entry.net.now (one_of s.now) (one_of t.now) result }
-        ensures least { IsLeastCapacity packed.entry.net.now (one_of s.now) (one_of t.now) result }
-        ensures never_lowered { flow.old.steps ≤ flow.new.steps }
-        ensures steps { flow.new.steps ≤ flow.old.steps + steps_bound packed.entry.net.now };
+    fn raise(task: Task<'_>, flow: &mut FlowTable, cells: &mut [u32], value: u128) -> u128
+        requires task { IsTask task }
+        requires cells { length cells.old ≡ 5 * task.packed.net.now.nodes }
+        requires flow { HasFlow task flow.old.flows value }
+        ensures flow { HasFlow task.entry flow.new.flows result }
+        ensures greatest { IsGreatest task.entry.packed.net.now (one_of task.entry.s.now) (one_of task.entry.t.now)
+            result }
+        ensures least { IsLeastCapacity task.entry.packed.net.now (one_of task.entry.s.now) (one_of task.entry.t.now)
+            result }
+        ensures steps { TakesSteps flow.old flow.new (steps_bound task.entry.packed.net.now) };
 }
 
 /// Raises the flow that carries nothing, where the half-arcs stand packed in the cells. Answers the greatest value.
-fn raise_from_zero<R: Raise>(
-    net: &Network,
-    s: &[u32],
-    t: &[u32],
+fn raise_from_zero<'a, R: Raise>(
+    net: &'a Network,
+    s: &'a [u32],
+    t: &'a [u32],
     flow: &mut FlowTable,
     work: &mut [u32],
 ) -> u128
@@ -60,7 +56,8 @@ fn raise_from_zero<R: Raise>(
     let n = net.nodes() as usize;
     let (cells, behind) = work.split_at_mut(5 * n);
     let (first, halves) = halves_in(net, behind);
-    R::raise(Packed { net, first, halves }, s, t, flow, cells, 0)
+    let packed = Packed { net, first, halves };
+    R::raise(Task { packed, s, t }, flow, cells, 0)
 }
 
 /// Clears the table, packs the half-arcs, and raises the flow in the first [`work_len`](crate::work_len) cells.

@@ -53,7 +53,9 @@ phases-preserved-then-supply-search c =
     (terminals_apart net c.args.task.s.now c.args.task.t.now c.requires.task.terminals) in
     record {
       flow = lifted.flow;
-      far = subst (λ (j : ℕ). IsFar net c.args.task.s.now c.args.task.t.now c.run_lifted-value.new.flow.flows j) (sym none) far;
+      far =
+          subst (λ (j : ℕ). IsFar net c.args.task.s.now c.args.task.t.now c.run_lifted-value.new.flow.flows j)
+          (sym none) far;
       first = λ l. omega (arith, l, none);
       few = old.few;
       never_lowered = omega (arith, old.never_lowered, found.looks.never_lowered, lifted.paid.never_lowered);
@@ -63,15 +65,17 @@ phases-preserved-then-supply-search c =
 pub returns-clause-greatest : goal.returns-clause-greatest
 returns-clause-greatest c =
     let old = c.phases.invariant in let found = c.find_levels.ensures in
-    (settled c.args.task.packed.net.now c.args.task.s.now c.args.task.t.now c.phases.flow.flows (seen c.find_levels.new.dist)
-    c.phases.value c.nodes-n.ensures.is_net old.flow (found.missed c.phases-test.false).whole
+    let task = c.args.task in
+    (settled task.packed.net.now task.s.now task.t.now c.phases.flow.flows (seen c.find_levels.new.dist) c.phases.value
+    c.nodes-n.ensures.is_net old.flow (found.missed c.phases-test.false).whole
     (found.missed c.phases-test.false).outside).0
 
 pub returns-clause-least : goal.returns-clause-least
 returns-clause-least c =
     let old = c.phases.invariant in let found = c.find_levels.ensures in
-    (settled c.args.task.packed.net.now c.args.task.s.now c.args.task.t.now c.phases.flow.flows (seen c.find_levels.new.dist)
-    c.phases.value c.nodes-n.ensures.is_net old.flow (found.missed c.phases-test.false).whole
+    let task = c.args.task in
+    (settled task.packed.net.now task.s.now task.t.now c.phases.flow.flows (seen c.find_levels.new.dist) c.phases.value
+    c.nodes-n.ensures.is_net old.flow (found.missed c.phases-test.false).whole
     (found.missed c.phases-test.false).outside).1
 
 pub returns-clause-steps : goal.returns-clause-steps

@@ -6,5 +6,6 @@ use Rattle.flow_solve.proofs.reaching.cut_nearest_sinks.Goals as goal
 
 pub returns-clause-side : goal.returns-clause-side
 returns-clause-side g c =
-    side_marked Backwards c.args.net.now c.args.s.now c.args.t.now c.solve_and_search-value.new.flow.flows c.solve_and_search-value.new.work
-    c.mark.new.side c.nodes.result (omega arith) c.mark.ensures c.solve_and_search-value.ensures.side
+    let after = c.solve_and_search-value.new in
+    side_marked Backwards c.args.net.now c.args.s.now c.args.t.now after.flow.flows after.work c.mark.new.side
+    c.nodes.result (omega arith) c.mark.ensures c.solve_and_search-value.ensures.side

@@ -2,7 +2,8 @@ use Rattle.std.proofs.Common.{◌⊎◌, ◌≡◌, ℕ, ◌+◌, ◌-◌, ◌<�
 use Rattle.std.specs.Prelude.{slice_index}
 use Rattle.flow_net.specs.Flows.{Fits}
 use Rattle.flow_net.specs.Residual.{head_of, residual}
-use Rattle.flow_solve.specs.Searches.{crossed, IsMarked, IsClosedFor, ContainsMarked, IsNear, IsSearch, HasGrown, IsCome}
+use Rattle.flow_solve.specs.Searches.{crossed, IsMarked, IsClosedFor, ContainsMarked, IsNear, IsSearch, HasGrown}
+use Rattle.flow_solve.specs.Searches.{IsCome}
 use Rattle.flow_solve.proofs.searching.follow_all.Given as goal
 
 abbrev pub invariant-loop-spot : goal.invariant-loop-spot

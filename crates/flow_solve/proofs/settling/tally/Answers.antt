@@ -7,7 +7,8 @@ use Rattle.flow_solve.proofs.settling.tally.Goals as goal
 
 pub loop-i-preserved : goal.loop-i-preserved
 loop-i-preserved c =
-    let old = c.loop-i.invariant in let task = c.args.task in let net = task.packed.net.now in let xs = c.args.flow.now.flows in let i = c.loop-i.i in
+    let old = c.loop-i.invariant in let task = c.args.task in
+    let net = task.packed.net.now in let xs = c.args.flow.now.flows in let i = c.loop-i.i in
     let a = c.arc-arc.result in let x = c.look-amount.result.1 in
     let carried : x ≡ get_or xs i 0 =
     c.look-amount.ensures.residual ∙ (against net c.loop-i.flow.flows i).2

@@ -9,7 +9,7 @@ use Rattle.flow_solve.proofs.paths.PathsRaise.raise.Goals as goal
 pub augment-requires-clause-trails : goal.augment-requires-clause-trails
 augment-requires-clause-trails c =
     let found = c.in-Some.ensures in
-    rw found.looks.flows (searched_trails c.args.packed.net.now c.loop-source.flow.flows c.args.t.now
+    rw found.looks.flows (searched_trails c.args.task.packed.net.now c.loop-source.flow.flows c.args.task.t.now
     c.find_trail.new.dist c.find_trail.new.via (omega arith) found.searched)
 
 pub overflow_add-raised : goal.overflow_add-raised
@@ -17,14 +17,14 @@ overflow_add-raised c =
     let old = c.loop-source.invariant in
     let found = c.in-Some.ensures in
     let node = found.some in
-    let net = c.args.packed.net.now in
-    let now = raised_by net c.args.s.now c.args.t.now c.loop-source.flow.flows c.find_trail.new.dist
+    let net = c.args.task.packed.net.now in
+    let now = raised_by net c.args.task.s.now c.args.task.t.now c.loop-source.flow.flows c.find_trail.new.dist
     c.find_trail.new.via c.loop-source.raised c.augment.result c.in-Some.source c.find_trail.new.flow.flows
-    c.augment.new.flow.flows c.requires.terminals old.flow (omega arith) found.searched node.0
+    c.augment.new.flow.flows c.requires.task.terminals old.flow (omega arith) found.searched node.0
     (node.1, omega (arith, node.2)) node.3 found.looks.flows c.augment.ensures.room c.augment.ensures.flows in
-    let most = value_most net (one_of c.args.s.now) (one_of c.args.t.now) c.augment.new.flow.flows
+    let most = value_most net (one_of c.args.task.s.now) (one_of c.args.task.t.now) c.augment.new.flow.flows
     (c.loop-source.raised + c.augment.result) c.nodes-n.ensures.is_net
-    (terminals_apart net c.args.s.now c.args.t.now c.requires.terminals) now.feasible now.value in
+    (terminals_apart net c.args.task.s.now c.args.task.t.now c.requires.task.terminals) now.feasible now.value in
     let fit = capacities_fit net c.nodes-n.ensures.is_net in
     omega (arith, most, fit, c.from-raised.ensures)
 
@@ -33,14 +33,14 @@ loop-source-smaller c =
     let old = c.loop-source.invariant in
     let found = c.in-Some.ensures in
     let node = found.some in
-    let net = c.args.packed.net.now in
-    let now = raised_by net c.args.s.now c.args.t.now c.loop-source.flow.flows c.find_trail.new.dist
+    let net = c.args.task.packed.net.now in
+    let now = raised_by net c.args.task.s.now c.args.task.t.now c.loop-source.flow.flows c.find_trail.new.dist
     c.find_trail.new.via c.loop-source.raised c.augment.result c.in-Some.source c.find_trail.new.flow.flows
-    c.augment.new.flow.flows c.requires.terminals old.flow (omega arith) found.searched node.0
+    c.augment.new.flow.flows c.requires.task.terminals old.flow (omega arith) found.searched node.0
     (node.1, omega (arith, node.2)) node.3 found.looks.flows c.augment.ensures.room c.augment.ensures.flows in
-    let most = value_most net (one_of c.args.s.now) (one_of c.args.t.now) c.augment.new.flow.flows
+    let most = value_most net (one_of c.args.task.s.now) (one_of c.args.task.t.now) c.augment.new.flow.flows
     (c.loop-source.raised + c.augment.result) c.nodes-n.ensures.is_net
-    (terminals_apart net c.args.s.now c.args.t.now c.requires.terminals) now.feasible now.value in
+    (terminals_apart net c.args.task.s.now c.args.task.t.now c.requires.task.terminals) now.feasible now.value in
     let less : capacities net - (c.loop-source.raised + c.from-raised.result) < capacities net - c.loop-source.raised =
     omega (arith, most, c.augment.ensures.positive, c.from-raised.ensures) in
     less
@@ -50,10 +50,10 @@ loop-source-preserved c =
     let old = c.loop-source.invariant in
     let found = c.in-Some.ensures in
     let node = found.some in
-    let net = c.args.packed.net.now in
-    let now = raised_by net c.args.s.now c.args.t.now c.loop-source.flow.flows c.find_trail.new.dist
+    let net = c.args.task.packed.net.now in
+    let now = raised_by net c.args.task.s.now c.args.task.t.now c.loop-source.flow.flows c.find_trail.new.dist
     c.find_trail.new.via c.loop-source.raised c.augment.result c.in-Some.source c.find_trail.new.flow.flows
-    c.augment.new.flow.flows c.requires.terminals old.flow (omega arith) found.searched node.0
+    c.augment.new.flow.flows c.requires.task.terminals old.flow (omega arith) found.searched node.0
     (node.1, omega (arith, node.2)) node.3 found.looks.flows c.augment.ensures.room c.augment.ensures.flows in
     record {
       flow = rw c.from-raised.ensures now;
@@ -68,19 +68,26 @@ loop-source-preserved c =
 pub returns-clause-greatest : goal.returns-clause-greatest
 returns-clause-greatest c =
     let old = c.loop-source.invariant in let found = c.in_default.ensures in
-    (settled c.args.packed.net.now c.args.s.now c.args.t.now c.loop-source.flow.flows (seen c.find_trail.new.dist)
+    let task = c.args.task in
+    (settled task.packed.net.now task.s.now task.t.now c.loop-source.flow.flows (seen c.find_trail.new.dist)
     c.loop-source.raised c.nodes-n.ensures.is_net old.flow found.missed.whole found.missed.outside).0
 
 pub returns-clause-least : goal.returns-clause-least
 returns-clause-least c =
     let old = c.loop-source.invariant in let found = c.in_default.ensures in
-    (settled c.args.packed.net.now c.args.s.now c.args.t.now c.loop-source.flow.flows (seen c.find_trail.new.dist)
+    let task = c.args.task in
+    (settled task.packed.net.now task.s.now task.t.now c.loop-source.flow.flows (seen c.find_trail.new.dist)
     c.loop-source.raised c.nodes-n.ensures.is_net old.flow found.missed.whole found.missed.outside).1
 
 pub returns-clause-steps : goal.returns-clause-steps
 returns-clause-steps c =
-    let old = c.loop-source.invariant in let found = c.in_default.ensures in let net = c.args.packed.net.now in
-    paid_all net c.args.flow.now.steps c.find_trail.new.flow.steps c.loop-source.raised c.nodes-n.ensures.is_net
-    (value_most net (one_of c.args.s.now) (one_of c.args.t.now) c.loop-source.flow.flows c.loop-source.raised
-    c.nodes-n.ensures.is_net (terminals_apart net c.args.s.now c.args.t.now c.requires.terminals) old.flow.feasible
-    old.flow.value) (omega (arith, old.steps, found.looks.steps))
+    let old = c.loop-source.invariant in let found = c.in_default.ensures in let net = c.args.task.packed.net.now in
+    let s = c.args.task.s.now in let t = c.args.task.t.now in
+    record {
+      never_lowered = omega (arith, old.never_lowered, found.looks.never_lowered);
+      steps =
+          paid_all net c.args.flow.now.steps c.find_trail.new.flow.steps c.loop-source.raised c.nodes-n.ensures.is_net
+          (value_most net (one_of s) (one_of t) c.loop-source.flow.flows c.loop-source.raised c.nodes-n.ensures.is_net
+          (terminals_apart net s t c.requires.task.terminals) old.flow.feasible old.flow.value)
+          (omega (arith, old.steps, found.looks.steps));
+    }

@@ -1,17 +1,19 @@
 //! Edge connectivity by terminals that grow along an order of the nodes.
 //!
-//! The nodes are taken in an order of maximum adjacency, so that each is joined with many earlier ones. At a node's turn the flow between it and all earlier nodes is raised until it is worth the least number so far, or no more
-//! can be raised; then the least number falls to its value. The flow is kept from turn to turn: a node that has become a
+//! The nodes are taken in an order of maximum adjacency, so that each is joined with many earlier ones. At a node's
+//! turn the flow between it and all earlier nodes is raised until it is worth the least number so far, or no more can
+//! be raised; then the least number falls to its value. The flow is kept from turn to turn: a node that has become a
 //! terminal needs no conservation, so the flow stays feasible, and at the next node its value is 0. Nothing is done for
-//! the whole network at a turn: a search puts back the cells that it has changed, and whether a node is a terminal is one
-//! comparison of its place in the order.
+//! the whole network at a turn: a search puts back the cells that it has changed, and whether a node is a terminal is
+//! one comparison of its place in the order.
 //!
-//! A turn sends units straight to earlier nodes, then along the ways of one search by branches, and then goes by phases with
-//! current places, as [`Levels`](crate::Levels) does. Its paths are found by search and walk, of which nothing is proved but
-//! that they stay within the cells. What they find is tested as it is used: each half-arc of a path when a unit is pushed
-//! over it, and each half-arc that leaves the set of the nodes that were seen when no more can be raised. All looks and
-//! pushes are counted against a number that the caller sets; where it is used up the answer is none.
-ghost use Rattle.std.specs.Prelude.{◌≡◌, ℕ, Bool, ◌+◌, ◌*◌, ◌<◌, ◌≤◌, MatchOption, IfSome, IsTrue, length};
+//! A turn sends units straight to earlier nodes, then along the ways of one search by branches, and then goes by phases
+//! with current places, as [`Levels`](crate::Levels) does. Its paths are found by search and walk, of which nothing is
+//! proved but that they stay within the cells. What they find is tested as it is used: each half-arc of a path when a
+//! unit is pushed over it, and each half-arc that leaves the set of the nodes that were seen when no more can be
+//! raised. All looks and pushes are counted against a number that the caller sets; where it is used up the answer is
+//! none.
+ghost use Rattle.std.specs.Prelude.{◌≡◌, ℕ, Bool, ◌+◌, ◌*◌, ◌≤◌, IfSome, length};
 ghost use Rattle.std.specs.List.{All};
 ghost use Rattle.flow_net.specs.Flows.{Fits};
 ghost use Rattle.flow_net.specs.Orders.{IsOrder};
@@ -19,7 +21,7 @@ ghost use Rattle.flow_net.specs.Connectivity.{leaving, IsProper};
 ghost use Rattle.flow_net.specs.LeastCuts.{IsConnectivity};
 ghost use Rattle.flow_solve.specs.Packs.{IsPacked};
 ghost use Rattle.flow_solve.specs.Bounds.{work_cells};
-ghost use Rattle.flow_solve.specs.Growth.{ArePlaces, IsClean, IsBelow};
+ghost use Rattle.flow_solve.specs.Growth.{AreBelow, ArePlaces, HavePlaces, IsClean, IsReached, IsReady, IsTurn, Pays};
 
 mod branches;
 mod direct;
@@ -39,37 +41,29 @@ use prefixes::bound_by_prefix;
 use raising::raise;
 use turns::{Raised, Turn};
 
-/// One pass over the order: each node but the first has its turn. `least` holds the least number so far and how many looks
-/// and pushes are left; the answer is the same after the pass, or nothing where they are used up.
+/// One pass over the order: each node behind that of the first turn has its own. `least` holds the least number so far
+/// and how many looks and pushes are left; the answer is the same after the pass, or nothing where they are used up.
 fn grow(
-    packed: Packed<'_>,
-    order: &[u32],
-    direction: Direction,
+    first: Turn<'_>,
     flow: &mut FlowTable,
     cells: &mut [u32],
     rest: &mut [u32],
     least: Raised,
 ) -> Option<Raised>
-    requires fits { Fits packed.net.now flow.old.flows }
-    requires unit { All (λ a. a.cap ≡ 1) packed.net.now.arcs }
-    requires packed { IsPacked packed.net.now packed.first.now packed.halves.now }
-    requires order { IsOrder packed.net.now order.now }
-    requires order_size { length order.now ≡ packed.net.now.nodes }
-    requires size { length cells.old ≡ packed.net.now.nodes }
-    requires rest_size { length rest.old ≡ 3 * packed.net.now.nodes }
-    requires places { ArePlaces packed.net.now.nodes order.now cells.old }
-    requires clean { IsClean packed.net.now.nodes cells.old }
-    requires reached { (X : ℕ → Bool) × IsProper packed.net.now X × (leaving packed.net.now X ≡ least.value) }
-    ensures fits { Fits packed.entry.net.now flow.new.flows }
-    ensures places { IfSome result (λ _. ArePlaces packed.entry.net.now.nodes order.now cells.new) }
-    ensures clean { IfSome result (λ _. IsClean packed.entry.net.now.nodes cells.new) }
-    ensures reached { IfSome result (λ r. (X : ℕ → Bool) × IsProper packed.entry.net.now X × (leaving packed.entry.net.now X ≡ r.value)) }
-    ensures below { IfSome result (λ r. (i : ℕ) → 1 ≤ i → i < packed.entry.net.now.nodes → IsBelow direction packed.entry.net.now order.now i r.value) }
-    ensures fewer { IfSome result (λ r. r.value ≤ least.value) }
-    ensures never_lowered { flow.old.steps ≤ flow.new.steps }
-    ensures steps { MatchOption result (flow.new.steps ≤ flow.old.steps + least.left) (λ r. flow.new.steps + r.left ≤ flow.old.steps + least.left) }
+    requires unit { All (λ a. a.cap ≡ 1) first.packed.net.now.arcs }
+    requires fits { Fits first.packed.net.now flow.old.flows }
+    requires turn { IsTurn first }
+    requires cells { HavePlaces first cells.old }
+    requires clean { IsClean first.packed.net.now.nodes cells.old }
+    requires rest_size { length rest.old ≡ 3 * first.packed.net.now.nodes }
+    requires reached { IsReached first.packed.net.now least.value }
+    ensures fits { Fits first.entry.packed.net.now flow.new.flows }
+    ensures ready { IfSome result (λ _. IsReady first.entry cells.new) }
+    ensures reached { IfSome result (λ r. IsReached first.entry.packed.net.now r.value) }
+    ensures below { IfSome result (λ r. AreBelow first.entry r.value × r.value ≤ least.value) }
+    ensures paid { Pays flow.old least.left flow.new result }
 {
-    let n = packed.net.nodes();
+    let n = first.packed.net.nodes();
     flow.clear();
     let mut least = least;
     for place in 1..n {
@@ -77,9 +71,9 @@ fn grow(
             return Some(least);
         }
         let turn = Turn {
-            packed,
-            order,
-            direction,
+            packed: first.packed,
+            order: first.order,
+            direction: first.direction,
             place,
         };
         least = raise(turn, flow, cells, rest, least.value, least.left)?;
@@ -87,8 +81,8 @@ fn grow(
     Some(least)
 }
 
-/// Orders the nodes and leaves the place of each in its cell. Answers the least of a number of arcs that leave some set and of
-/// such numbers that the order shows.
+/// Orders the nodes and leaves the place of each in its cell. Answers the least of a number of arcs that leave some set
+/// and of such numbers that the order shows.
 fn arrange(
     packed: Packed<'_>,
     order: &mut [u32],
@@ -100,11 +94,11 @@ fn arrange(
     requires order_size { length order.old ≡ packed.net.now.nodes }
     requires size { length cells.old ≡ packed.net.now.nodes }
     requires rest_size { length rest.old ≡ 3 * packed.net.now.nodes }
-    requires reached { (X : ℕ → Bool) × IsProper packed.net.now X × (leaving packed.net.now X ≡ least) }
+    requires reached { IsReached packed.net.now least }
     ensures order { IfSome result (λ _. IsOrder packed.entry.net.now order.new) }
     ensures places { IfSome result (λ _. ArePlaces packed.entry.net.now.nodes order.new cells.new) }
     ensures clean { IfSome result (λ _. IsClean packed.entry.net.now.nodes cells.new) }
-    ensures reached { IfSome result (λ r. (X : ℕ → Bool) × IsProper packed.entry.net.now X × (leaving packed.entry.net.now X ≡ r)) }
+    ensures reached { IfSome result (λ r. IsReached packed.entry.net.now r) }
 {
     let n = packed.net.nodes() as usize;
     let (joins, rest) = rest.split_at_mut(n);
@@ -114,8 +108,9 @@ fn arrange(
     Some(bound_by_prefix(packed.net, order, cells, sweep, least))
 }
 
-/// The edge connectivity of a network in which every capacity is 1, where a set of nodes is known that `least` arcs leave and
-/// that is neither empty nor all. It takes at most `budget` looks and pushes, and answers nothing where these don't suffice.
+/// The edge connectivity of a network in which every capacity is 1, where a set of nodes is known that `least` arcs
+/// leave and that is neither empty nor all. It takes at most `budget` looks and pushes, and answers nothing where these
+/// don't suffice.
 ///
 /// It takes no memory: it works in the first [`work_len`](crate::work_len) cells of `work`.
 pub fn connectivity_by_growth(
@@ -144,14 +139,18 @@ pub fn connectivity_by_growth(
     pack(net, first, halves);
     let packed = Packed { net, first, halves };
     let value = arrange(packed, order, cells, three, least)?;
+    let order: &[u32] = order;
     let start = Raised {
         value,
         left: budget,
     };
     let forth = grow(
-        packed,
-        order,
-        Direction::Forwards,
+        Turn {
+            packed,
+            order,
+            direction: Direction::Forwards,
+            place: 0,
+        },
         flow,
         cells,
         three,
@@ -162,9 +161,12 @@ pub fn connectivity_by_growth(
         return Some(forth.value);
     }
     let back = grow(
-        packed,
-        order,
-        Direction::Backwards,
+        Turn {
+            packed,
+            order,
+            direction: Direction::Backwards,
+            place: 0,
+        },
         flow,
         cells,
         three,

@@ -1,14 +1,14 @@
 //! The first search of a turn, by branches. Each node that it sees from the node of the turn begins a branch, and each
-//! other node belongs to the branch of the node from which it was seen. So the paths on which nodes of two branches were
-//! seen share no half-arc: a unit is pushed along the path to the first terminal of each branch, which then isn't
+//! other node belongs to the branch of the node from which it was seen. So the paths on which nodes of two branches
+//! were seen share no half-arc: a unit is pushed along the path to the first terminal of each branch, which then isn't
 //! followed any further, and one search serves many units. What it leaves is for the phases.
 //!
-//! The cell of a node that is seen holds the number of nodes, and that of the first node of its branch more. At a branch
-//! which has come to a terminal the cell of that first node is changed.
-ghost use Rattle.std.specs.Prelude.{◌≡◌, ℕ, List, ◌+◌, ◌-◌, ◌*◌, ◌<◌, ◌≤◌, MatchOption, IfSome, IsTrue, length, slice_index};
+//! The cell of a node that is seen holds the number of nodes, and that of the first node of its branch more. At a
+//! branch which has come to a terminal the cell of that first node is changed.
+ghost use Rattle.std.specs.Prelude.{◌≡◌, ◌+◌, ◌*◌, ◌<◌, ◌≤◌, IfSome, IsTrue, length};
 ghost use Rattle.flow_net.specs.Nets.{IsNode};
 ghost use Rattle.flow_net.specs.Flows.{Fits};
-ghost use Rattle.flow_solve.specs.Growth.{IsTurn, IsRaised, ArePlaces, IsClean, IsQueued};
+ghost use Rattle.flow_solve.specs.Growth.{AreQueued, Carries, HavePlaces, IsClean, IsTurn, KeepsQueues, Pays};
 ghost use Rattle.flow_solve.specs.Steps.{PaysLooks};
 
 use crate::growth::frontier::forget;
@@ -34,8 +34,8 @@ struct Spread {
     met: bool,
 }
 
-/// The number for the cell of a node that is seen from one with a number: that one's branch, or its own if the number is
-/// that of the node of the turn.
+/// The number for the cell of a node that is seen from one with a number: that one's branch, or its own if the number
+/// is that of the node of the turn.
 fn branch_of(nodes: u32, number: u32, node: u32) -> u32
     requires nodes { nodes ≤ MOST_NODES }
     requires node { node ≤ nodes }
@@ -47,8 +47,8 @@ fn branch_of(nodes: u32, number: u32, node: u32) -> u32
     nodes + node
 }
 
-/// Lets the node behind a half-arc be seen, in the branch of the node before it, or in its own if that is the node of the
-/// turn.
+/// Lets the node behind a half-arc be seen, in the branch of the node before it, or in its own if that is the node of
+/// the turn.
 #[tactic(auto, using(crate::proofs::SeenCells::places_marked, crate::proofs::SeenCells::queued_more))]
 fn enter(
     turn: Turn<'_>,
@@ -58,15 +58,14 @@ fn enter(
     tail: u32,
     half: u32,
 ) -> u32
-    requires turn { IsTurn turn.packed.net.now turn.packed.first.now turn.packed.halves.now turn.order.now turn.place }
-    requires size { length cells.old ≡ turn.packed.net.now.nodes }
+    requires turn { IsTurn turn }
+    requires cells { HavePlaces turn cells.old }
     requires queue_size { length queue.old ≡ turn.packed.net.now.nodes }
     requires via_size { length via.old ≡ turn.packed.net.now.nodes }
-    requires places { ArePlaces turn.packed.net.now.nodes turn.order.now cells.old }
-    requires queued { IsQueued turn.packed.net.now.nodes turn.order.now cells.old queue.old tail }
+    requires queued { AreQueued turn cells.old queue.old tail }
     requires half { half < 2 * length turn.packed.net.now.arcs }
-    ensures places { ArePlaces turn.entry.packed.net.now.nodes turn.entry.order.now cells.new }
-    ensures queued { IsQueued turn.entry.packed.net.now.nodes turn.entry.order.now cells.new queue.new result }
+    ensures cells { HavePlaces turn.entry cells.new }
+    ensures queued { AreQueued turn.entry cells.new queue.new result }
 {
     let net = turn.packed.net;
     let n = net.nodes();
@@ -98,12 +97,11 @@ fn is_followed(nodes: u32, cells: &[u32], node: u32) -> bool
 /// Gives up the branch of a node.
 #[tactic(auto, using(crate::proofs::SeenCells::places_marked, crate::proofs::SeenCells::queued_same))]
 fn give_up(turn: Turn<'_>, cells: &mut [u32], node: u32)
-    requires turn { IsTurn turn.packed.net.now turn.packed.first.now turn.packed.halves.now turn.order.now turn.place }
-    requires size { length cells.old ≡ turn.packed.net.now.nodes }
-    requires places { ArePlaces turn.packed.net.now.nodes turn.order.now cells.old }
+    requires turn { IsTurn turn }
+    requires cells { HavePlaces turn cells.old }
     requires node { IsNode turn.packed.net.now node }
-    ensures places { ArePlaces turn.entry.packed.net.now.nodes turn.entry.order.now cells.new }
-    ensures queued { (queue : List ℕ) (tail : ℕ) → IsQueued turn.entry.packed.net.now.nodes turn.entry.order.now cells.old queue tail → IsQueued turn.entry.packed.net.now.nodes turn.entry.order.now cells.new queue tail }
+    ensures cells { HavePlaces turn.entry cells.new }
+    ensures queued { KeepsQueues turn.entry cells.old cells.new }
 {
     let nodes = turn.packed.net.nodes();
     let branch = cells[node as usize - 1];
@@ -116,8 +114,8 @@ fn give_up(turn: Turn<'_>, cells: &mut [u32], node: u32)
     }
 }
 
-/// Looks at the half-arc that a search has come to, if it leads to a node that isn't seen, and enters that node, or has met
-/// a terminal.
+/// Looks at the half-arc that a search has come to, if it leads to a node that isn't seen, and enters that node, or has
+/// met a terminal.
 fn meet(
     turn: Turn<'_>,
     flow: &mut FlowTable,
@@ -127,15 +125,14 @@ fn meet(
     spread: Spread,
 ) -> Spread
     requires fits { Fits turn.packed.net.now flow.old.flows }
-    requires turn { IsTurn turn.packed.net.now turn.packed.first.now turn.packed.halves.now turn.order.now turn.place }
-    requires size { length cells.old ≡ turn.packed.net.now.nodes }
+    requires turn { IsTurn turn }
+    requires cells { HavePlaces turn cells.old }
     requires queue_size { length queue.old ≡ turn.packed.net.now.nodes }
     requires via_size { length via.old ≡ turn.packed.net.now.nodes }
-    requires places { ArePlaces turn.packed.net.now.nodes turn.order.now cells.old }
-    requires queued { IsQueued turn.packed.net.now.nodes turn.order.now cells.old queue.old spread.tail }
+    requires queued { AreQueued turn cells.old queue.old spread.tail }
     requires half { spread.half < 2 * length turn.packed.net.now.arcs }
-    ensures places { ArePlaces turn.entry.packed.net.now.nodes turn.entry.order.now cells.new }
-    ensures queued { IsQueued turn.entry.packed.net.now.nodes turn.entry.order.now cells.new queue.new result.tail }
+    ensures cells { HavePlaces turn.entry cells.new }
+    ensures queued { AreQueued turn.entry cells.new queue.new result.tail }
     ensures half { result.half < 2 * length turn.entry.packed.net.now.arcs }
     ensures next { result.at ≡ spread.at }
     ensures looks { PaysLooks flow.old spread.left flow.new result.left }
@@ -172,15 +169,14 @@ fn spread_on(
     spread: Spread,
 ) -> Spread
     requires fits { Fits turn.packed.net.now flow.old.flows }
-    requires turn { IsTurn turn.packed.net.now turn.packed.first.now turn.packed.halves.now turn.order.now turn.place }
-    requires size { length cells.old ≡ turn.packed.net.now.nodes }
+    requires turn { IsTurn turn }
+    requires cells { HavePlaces turn cells.old }
     requires queue_size { length queue.old ≡ turn.packed.net.now.nodes }
     requires via_size { length via.old ≡ turn.packed.net.now.nodes }
-    requires places { ArePlaces turn.packed.net.now.nodes turn.order.now cells.old }
-    requires queued { IsQueued turn.packed.net.now.nodes turn.order.now cells.old queue.old spread.tail }
+    requires queued { AreQueued turn cells.old queue.old spread.tail }
     requires next { spread.at < spread.tail }
-    ensures places { ArePlaces turn.entry.packed.net.now.nodes turn.entry.order.now cells.new }
-    ensures queued { IsQueued turn.entry.packed.net.now.nodes turn.entry.order.now cells.new queue.new result.tail }
+    ensures cells { HavePlaces turn.entry cells.new }
+    ensures queued { AreQueued turn.entry cells.new queue.new result.tail }
     ensures half { IsTrue result.met → result.half < 2 * length turn.entry.packed.net.now.arcs }
     ensures next { result.at ≡ spread.at + 1 }
     ensures looks { PaysLooks flow.old spread.left flow.new result.left }
@@ -207,7 +203,7 @@ fn spread_on(
 /// Puts the path whose last half-arc is given at the end of `path`, by the half-arcs over which its nodes were seen.
 /// Answers where it begins, or nothing if it doesn't come from the node of the turn.
 fn trace(turn: Turn<'_>, via: &[u32], path: &mut [u32], last: u32) -> Option<u32>
-    requires turn { IsTurn turn.packed.net.now turn.packed.first.now turn.packed.halves.now turn.order.now turn.place }
+    requires turn { IsTurn turn }
     requires via_size { length via.now ≡ turn.packed.net.now.nodes }
     requires path_size { length path.old ≡ turn.packed.net.now.nodes }
     requires last { last < 2 * length turn.packed.net.now.arcs }
@@ -243,20 +239,18 @@ pub(crate) fn send_by_branches(
     wanted: u64,
 ) -> Option<Raised>
     requires fits { Fits turn.packed.net.now flow.old.flows }
-    requires turn { IsTurn turn.packed.net.now turn.packed.first.now turn.packed.halves.now turn.order.now turn.place }
-    requires size { length cells.old ≡ turn.packed.net.now.nodes }
+    requires turn { IsTurn turn }
+    requires cells { HavePlaces turn cells.old }
     requires rest_size { length rest.old ≡ 3 * turn.packed.net.now.nodes }
-    requires places { ArePlaces turn.packed.net.now.nodes turn.order.now cells.old }
     requires clean { IsClean turn.packed.net.now.nodes cells.old }
-    requires raised { IsRaised turn.direction turn.packed.net.now turn.order.now turn.place flow.old.flows sent.value }
+    requires raised { Carries turn flow.old.flows sent.value }
     requires below { sent.value ≤ wanted }
     ensures fits { Fits turn.entry.packed.net.now flow.new.flows }
-    ensures places { IfSome result (λ _. ArePlaces turn.entry.packed.net.now.nodes turn.entry.order.now cells.new) }
+    ensures cells { IfSome result (λ _. HavePlaces turn.entry cells.new) }
     ensures clean { IfSome result (λ _. IsClean turn.entry.packed.net.now.nodes cells.new) }
-    ensures raised { IfSome result (λ r. IsRaised turn.entry.direction turn.entry.packed.net.now turn.entry.order.now turn.entry.place flow.new.flows r.value) }
+    ensures raised { IfSome result (λ r. Carries turn.entry flow.new.flows r.value) }
     ensures below { IfSome result (λ r. r.value ≤ wanted) }
-    ensures never_lowered { flow.old.steps ≤ flow.new.steps }
-    ensures steps { MatchOption result (flow.new.steps ≤ flow.old.steps + sent.left) (λ r. flow.new.steps + r.left ≤ flow.old.steps + sent.left) }
+    ensures paid { Pays flow.old sent.left flow.new result }
 {
     let n = turn.packed.net.nodes();
     let (via, rest) = rest.split_at_mut(n as usize);

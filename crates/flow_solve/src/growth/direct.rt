@@ -1,31 +1,30 @@
 //! The direct pass of a turn: units over single half-arcs, from the node of the turn straight to nodes before it.
 //! Much of a turn's flow goes this way, without any search.
-ghost use Rattle.std.specs.Prelude.{◌≡◌, ◌+◌, ◌-◌, ◌*◌, ◌<◌, ◌≤◌, MatchOption, IfSome, IsTrue, length, slice_index};
+ghost use Rattle.std.specs.Prelude.{◌≡◌, ◌+◌, ◌-◌, ◌*◌, ◌<◌, ◌≤◌, IfSome, IsTrue, length, slice_index};
 ghost use Rattle.flow_net.specs.Flows.{Fits};
 ghost use Rattle.flow_net.specs.Orders.{before};
 ghost use Rattle.flow_net.specs.Residual.{head_of};
 ghost use Rattle.flow_solve.specs.Packs.{group_of};
-ghost use Rattle.flow_solve.specs.Growth.{IsTurn, IsRaised, ArePlaces};
+ghost use Rattle.flow_solve.specs.Growth.{Carries, HavePlaces, IsTurn, Pays};
 
 use crate::growth::turns::{Raised, Turn};
 use crate::searching::{cross, head};
 use flow_net::{FlowTable, GREATEST_CAPACITY};
 
-/// Sends a unit over a half-arc from the node of the turn to a node before it, if something remains on it. Answers nothing
-/// where the looks and pushes are used up.
+/// Sends a unit over a half-arc from the node of the turn to a node before it, if something remains on it. Answers
+/// nothing where the looks and pushes are used up.
 fn send(turn: Turn<'_>, flow: &mut FlowTable, half: u32, sent: Raised) -> Option<Raised>
     requires fits { Fits turn.packed.net.now flow.old.flows }
-    requires turn { IsTurn turn.packed.net.now turn.packed.first.now turn.packed.halves.now turn.order.now turn.place }
+    requires turn { IsTurn turn }
     requires half { half < 2 * length turn.packed.net.now.arcs }
     requires own { group_of turn.packed.net.now half ≡ slice_index turn.order.now turn.place - 1 }
     requires earlier { IsTrue (before turn.order.now turn.place (head_of turn.packed.net.now half)) }
-    requires raised { IsRaised turn.direction turn.packed.net.now turn.order.now turn.place flow.old.flows sent.value }
+    requires raised { Carries turn flow.old.flows sent.value }
     requires small { sent.value < GREATEST_CAPACITY }
     ensures fits { Fits turn.entry.packed.net.now flow.new.flows }
-    ensures raised { IfSome result (λ r. IsRaised turn.entry.direction turn.entry.packed.net.now turn.entry.order.now turn.entry.place flow.new.flows r.value) }
+    ensures raised { IfSome result (λ r. Carries turn.entry flow.new.flows r.value) }
     ensures below { IfSome result (λ r. r.value ≤ sent.value + 1) }
-    ensures never_lowered { flow.old.steps ≤ flow.new.steps }
-    ensures steps { MatchOption result (flow.new.steps ≤ flow.old.steps + sent.left) (λ r. flow.new.steps + r.left ≤ flow.old.steps + sent.left) }
+    ensures paid { Pays flow.old sent.left flow.new result }
 {
     let net = turn.packed.net;
     let _ = net.nodes();
@@ -45,8 +44,9 @@ fn send(turn: Turn<'_>, flow: &mut FlowTable, half: u32, sent: Raised) -> Option
     Some(Raised { value, left })
 }
 
-/// Sends a unit over each half-arc from the node of the turn straight to a node before it, where something remains on it,
-/// until the flow, which has the value 0, is worth what is wanted. Answers nothing where its looks and pushes are used up.
+/// Sends a unit over each half-arc from the node of the turn straight to a node before it, where something remains on
+/// it, until the flow, which has the value 0, is worth what is wanted. Answers nothing where its looks and pushes are
+/// used up.
 pub(crate) fn send_directly(
     turn: Turn<'_>,
     flow: &mut FlowTable,
@@ -55,15 +55,13 @@ pub(crate) fn send_directly(
     left: u64,
 ) -> Option<Raised>
     requires fits { Fits turn.packed.net.now flow.old.flows }
-    requires turn { IsTurn turn.packed.net.now turn.packed.first.now turn.packed.halves.now turn.order.now turn.place }
-    requires size { length cells.now ≡ turn.packed.net.now.nodes }
-    requires places { ArePlaces turn.packed.net.now.nodes turn.order.now cells.now }
-    requires raised { IsRaised turn.direction turn.packed.net.now turn.order.now turn.place flow.old.flows 0 }
+    requires turn { IsTurn turn }
+    requires cells { HavePlaces turn cells.now }
+    requires raised { Carries turn flow.old.flows 0 }
     ensures fits { Fits turn.entry.packed.net.now flow.new.flows }
-    ensures raised { IfSome result (λ r. IsRaised turn.entry.direction turn.entry.packed.net.now turn.entry.order.now turn.entry.place flow.new.flows r.value) }
+    ensures raised { IfSome result (λ r. Carries turn.entry flow.new.flows r.value) }
     ensures below { IfSome result (λ r. r.value ≤ wanted) }
-    ensures never_lowered { flow.old.steps ≤ flow.new.steps }
-    ensures steps { MatchOption result (flow.new.steps ≤ flow.old.steps + left) (λ r. flow.new.steps + r.left ≤ flow.old.steps + left) }
+    ensures paid { Pays flow.old left flow.new result }
 {
     let packed = turn.packed;
     let node = turn.order[turn.place as usize];

@@ -1,12 +1,9 @@
 //! The search of a phase: it goes out from the node of the turn, level by level, and stops at terminals.
-ghost use Rattle.std.specs.Prelude.{◌≡◌, ℕ, ◌+◌, ◌*◌, ◌<◌, ◌≤◌, MatchOption, IfSome, IsTrue, length, slice_index};
+ghost use Rattle.std.specs.Prelude.{◌≡◌, ◌+◌, ◌*◌, ◌<◌, ◌≤◌, MatchOption, IfSome, length};
 ghost use Rattle.flow_net.specs.Nets.{IsNode};
 ghost use Rattle.flow_net.specs.Flows.{Fits};
-ghost use Rattle.flow_net.specs.NodeSets.{just};
-ghost use Rattle.flow_net.specs.Orders.{before, IsOrder};
-ghost use Rattle.flow_net.specs.Cuts.{IsCut};
-ghost use Rattle.flow_solve.specs.Searches.{IsClosedFor};
-ghost use Rattle.flow_solve.specs.Growth.{IsTurn, ArePlaces, IsClean, IsQueued, IsPassed, seen_in};
+ghost use Rattle.flow_solve.specs.Growth.{AreNodes, ArePlaces, AreQueued, HavePlaces, IsClean, IsQueued, IsTurn, IsTurnClosed, IsTurnCut, Passes};
+ghost use Rattle.flow_solve.specs.Steps.{OnlyLooks, PaysLooks};
 
 use crate::growth::turns::Turn;
 use crate::searching::{cross, head};
@@ -19,13 +16,24 @@ pub(crate) struct Frontier {
     pub tail: u32,
     /// How many half-arcs with a residual capacity lead from these to terminals, as far as it has counted.
     pub met: u64,
+    /// How many it goes on to count.
+    pub need: u64,
     /// How many looks and pushes are left.
     pub left: u64,
 }
 
+/// A half-arc out of a node that is seen.
+#[derive(Clone, Copy)]
+struct Exit {
+    half: u32,
+    /// What the cell of the node behind it gets.
+    level: u32,
+}
+
 /// What the cell of a node that is seen gets, a level higher than a node with this cell.
 ///
-/// The cell of a node that is seen holds the number of nodes and twice its level, and one more once a walk has entered it.
+/// The cell of a node that is seen holds the number of nodes and twice its level, and one more once a walk has entered
+/// it.
 pub(crate) fn above(nodes: u32, cell: u32) -> u32
     requires { nodes ≤ MOST_NODES }
     ensures no_place { nodes ≤ result }
@@ -35,8 +43,8 @@ pub(crate) fn above(nodes: u32, cell: u32) -> u32
     nodes + 2 * levels + 2
 }
 
-/// Looks at a half-arc that leaves a node which is seen, if it leads to one that isn't: a terminal is counted, and another
-/// node is entered with the number for its cell.
+/// Looks at a half-arc that leaves a node which is seen, if it leads to one that isn't: a terminal is counted, and
+/// another node is entered with the number for its cell.
 #[tactic(auto, using(crate::proofs::SeenCells::places_marked, crate::proofs::SeenCells::queued_more))]
 fn meet(
     turn: Turn<'_>,
@@ -44,49 +52,44 @@ fn meet(
     cells: &mut [u32],
     queue: &mut [u32],
     frontier: Frontier,
-    half: u32,
-    level: u32,
+    exit: Exit,
 ) -> Frontier
     requires fits { Fits turn.packed.net.now flow.old.flows }
-    requires turn { IsTurn turn.packed.net.now turn.packed.first.now turn.packed.halves.now turn.order.now turn.place }
-    requires size { length cells.old ≡ turn.packed.net.now.nodes }
+    requires turn { IsTurn turn }
+    requires cells { HavePlaces turn cells.old }
     requires queue_size { length queue.old ≡ turn.packed.net.now.nodes }
-    requires places { ArePlaces turn.packed.net.now.nodes turn.order.now cells.old }
-    requires queued { IsQueued turn.packed.net.now.nodes turn.order.now cells.old queue.old frontier.tail }
-    requires half { half < 2 * length turn.packed.net.now.arcs }
-    requires level { turn.packed.net.now.nodes ≤ level }
-    ensures places { ArePlaces turn.entry.packed.net.now.nodes turn.entry.order.now cells.new }
-    ensures queued { IsQueued turn.entry.packed.net.now.nodes turn.entry.order.now cells.new queue.new result.tail }
-    ensures fewer { result.left ≤ frontier.left }
-    ensures flows { flow.new.flows ≡ flow.old.flows }
-    ensures never_lowered { flow.old.steps ≤ flow.new.steps }
-    ensures steps { flow.new.steps + result.left ≤ flow.old.steps + frontier.left }
+    requires queued { AreQueued turn cells.old queue.old frontier.tail }
+    requires half { exit.half < 2 * length turn.packed.net.now.arcs }
+    requires level { turn.packed.net.now.nodes ≤ exit.level }
+    ensures cells { HavePlaces turn.entry cells.new }
+    ensures queued { AreQueued turn.entry cells.new queue.new result.tail }
+    ensures looks { PaysLooks flow.old frontier.left flow.new result.left }
 {
     let net = turn.packed.net;
     let n = net.nodes();
-    let Frontier { tail, met, left } = frontier;
-    let place = head(net, half) - 1;
+    let mut reached = frontier;
+    let place = head(net, exit.half) - 1;
     let cell = cells[place as usize];
-    if cell >= n || left == 0 {
-        return frontier;
+    if cell >= n || frontier.left == 0 {
+        return reached;
     }
-    let left = left - 1;
-    let (_, room) = flow.look(net, cross(turn.direction, half));
-    if room == 0 || tail >= n {
-        return Frontier { tail, met, left };
+    reached.left -= 1;
+    let (_, room) = flow.look(net, cross(turn.direction, exit.half));
+    if room == 0 || frontier.tail >= n {
+        return reached;
     }
     if cell < turn.place {
-        let met = met.saturating_add(1);
-        return Frontier { tail, met, left };
+        reached.met = frontier.met.saturating_add(1);
+        return reached;
     }
-    cells[place as usize] = level;
-    queue[tail as usize] = cell;
-    let tail = tail + 1;
-    Frontier { tail, met, left }
+    cells[place as usize] = exit.level;
+    queue[frontier.tail as usize] = cell;
+    reached.tail += 1;
+    reached
 }
 
-/// Looks at the half-arcs that leave a node which is seen, until so many terminals are met, and enters the nodes behind them,
-/// a level higher.
+/// Looks at the half-arcs that leave a node which is seen, until so many terminals are met, and enters the nodes behind
+/// them, a level higher.
 fn expand(
     turn: Turn<'_>,
     flow: &mut FlowTable,
@@ -94,37 +97,32 @@ fn expand(
     queue: &mut [u32],
     frontier: Frontier,
     node: u32,
-    need: u64,
 ) -> Frontier
     requires fits { Fits turn.packed.net.now flow.old.flows }
-    requires turn { IsTurn turn.packed.net.now turn.packed.first.now turn.packed.halves.now turn.order.now turn.place }
-    requires size { length cells.old ≡ turn.packed.net.now.nodes }
+    requires turn { IsTurn turn }
+    requires cells { HavePlaces turn cells.old }
     requires queue_size { length queue.old ≡ turn.packed.net.now.nodes }
-    requires places { ArePlaces turn.packed.net.now.nodes turn.order.now cells.old }
-    requires queued { IsQueued turn.packed.net.now.nodes turn.order.now cells.old queue.old frontier.tail }
+    requires queued { AreQueued turn cells.old queue.old frontier.tail }
     requires node { IsNode turn.packed.net.now node }
-    ensures places { ArePlaces turn.entry.packed.net.now.nodes turn.entry.order.now cells.new }
-    ensures queued { IsQueued turn.entry.packed.net.now.nodes turn.entry.order.now cells.new queue.new result.tail }
-    ensures fewer { result.left ≤ frontier.left }
-    ensures flows { flow.new.flows ≡ flow.old.flows }
-    ensures never_lowered { flow.old.steps ≤ flow.new.steps }
-    ensures steps { flow.new.steps + result.left ≤ flow.old.steps + frontier.left }
+    ensures cells { HavePlaces turn.entry cells.new }
+    ensures queued { AreQueued turn.entry cells.new queue.new result.tail }
+    ensures looks { PaysLooks flow.old frontier.left flow.new result.left }
 {
     let packed = turn.packed;
     let level = above(packed.net.nodes(), cells[node as usize - 1]);
     let mut reached = frontier;
     for spot in packed.first[node as usize - 1]..packed.first[node as usize] {
-        if reached.met >= need {
+        if reached.met >= frontier.need {
             return reached;
         }
         let half = packed.halves[spot as usize];
-        reached = meet(turn, flow, cells, queue, reached, half, level);
+        reached = meet(turn, flow, cells, queue, reached, Exit { half, level });
     }
     reached
 }
 
-/// Searches from the node of the turn, until so many terminals are met, the level is done from which the first was met, or
-/// no further node can be seen.
+/// Searches from the node of the turn, until so many terminals are met, the level is done from which the first was met,
+/// or no further node can be seen.
 pub(crate) fn search(
     turn: Turn<'_>,
     flow: &mut FlowTable,
@@ -134,17 +132,13 @@ pub(crate) fn search(
     left: u64,
 ) -> Frontier
     requires fits { Fits turn.packed.net.now flow.old.flows }
-    requires turn { IsTurn turn.packed.net.now turn.packed.first.now turn.packed.halves.now turn.order.now turn.place }
-    requires size { length cells.old ≡ turn.packed.net.now.nodes }
+    requires turn { IsTurn turn }
+    requires cells { HavePlaces turn cells.old }
     requires queue_size { length queue.old ≡ turn.packed.net.now.nodes }
-    requires places { ArePlaces turn.packed.net.now.nodes turn.order.now cells.old }
     requires clean { IsClean turn.packed.net.now.nodes cells.old }
-    ensures places { ArePlaces turn.entry.packed.net.now.nodes turn.entry.order.now cells.new }
-    ensures queued { IsQueued turn.entry.packed.net.now.nodes turn.entry.order.now cells.new queue.new result.tail }
-    ensures fewer { result.left ≤ left }
-    ensures flows { flow.new.flows ≡ flow.old.flows }
-    ensures never_lowered { flow.old.steps ≤ flow.new.steps }
-    ensures steps { flow.new.steps + result.left ≤ flow.old.steps + left }
+    ensures cells { HavePlaces turn.entry cells.new }
+    ensures queued { AreQueued turn.entry cells.new queue.new result.tail }
+    ensures looks { PaysLooks flow.old left flow.new result.left }
 {
     let start = turn.order[turn.place as usize];
     queue[0] = turn.place;
@@ -152,6 +146,7 @@ pub(crate) fn search(
     let mut frontier = Frontier {
         tail: 1,
         met: 0,
+        need,
         left,
     };
     // The level after which the search ends: that of the first node from which a terminal is met.
@@ -163,7 +158,7 @@ pub(crate) fn search(
         if level > last {
             return frontier;
         }
-        frontier = expand(turn, flow, cells, queue, frontier, node, need);
+        frontier = expand(turn, flow, cells, queue, frontier, node);
         if frontier.met > 0 {
             last = level;
         }
@@ -175,13 +170,11 @@ pub(crate) fn search(
 /// Whether no half-arc that goes out from a node has a residual capacity and leads to a node that isn't seen.
 fn is_done(turn: Turn<'_>, flow: &mut FlowTable, cells: &[u32], node: u32, left: u64) -> Option<u64>
     requires fits { Fits turn.packed.net.now flow.old.flows }
-    requires turn { IsTurn turn.packed.net.now turn.packed.first.now turn.packed.halves.now turn.order.now turn.place }
+    requires turn { IsTurn turn }
     requires size { length cells.now ≡ turn.packed.net.now.nodes }
     requires node { IsNode turn.packed.net.now node }
-    ensures done { IfSome result (λ _. IsPassed turn.entry.direction turn.entry.packed.net.now flow.old.flows cells.now node) }
-    ensures flows { flow.new.flows ≡ flow.old.flows }
-    ensures never_lowered { flow.old.steps ≤ flow.new.steps }
-    ensures steps { MatchOption result (flow.new.steps ≤ flow.old.steps + left) (λ rest. flow.new.steps + rest ≤ flow.old.steps + left) }
+    ensures done { IfSome result (λ _. Passes turn.entry flow.old.flows cells.now node) }
+    ensures looks { MatchOption result (OnlyLooks flow.old flow.new left) (λ r. PaysLooks flow.old left flow.new r) }
 {
     let packed = turn.packed;
     let n = packed.net.nodes();
@@ -202,8 +195,9 @@ fn is_done(turn: Turn<'_>, flow: &mut FlowTable, cells: &[u32], node: u32, left:
     Some(rest)
 }
 
-/// Tests that the nodes that are seen, in the queue, are a set which parts the node of the turn from the nodes before it, and
-/// out of which no half-arc with a residual capacity leads. Answers how many looks are left, or none if it isn't so.
+/// Tests that the nodes that are seen, in the queue, are a set which parts the node of the turn from the nodes before
+/// it, and out of which no half-arc with a residual capacity leads. Answers how many looks are left, or none if it
+/// isn't so.
 pub(crate) fn is_closed(
     turn: Turn<'_>,
     flow: &mut FlowTable,
@@ -213,15 +207,13 @@ pub(crate) fn is_closed(
     left: u64,
 ) -> Option<u64>
     requires fits { Fits turn.packed.net.now flow.old.flows }
-    requires turn { IsTurn turn.packed.net.now turn.packed.first.now turn.packed.halves.now turn.order.now turn.place }
+    requires turn { IsTurn turn }
     requires size { length cells.now ≡ turn.packed.net.now.nodes }
     requires queue_size { length queue.now ≡ turn.packed.net.now.nodes }
-    requires queued { IsQueued turn.packed.net.now.nodes turn.order.now cells.now queue.now tail }
-    ensures cut { IfSome result (λ _. IsCut (just (slice_index turn.entry.order.now turn.entry.place)) (before turn.entry.order.now turn.entry.place) (seen_in turn.entry.packed.net.now.nodes cells.now)) }
-    ensures closed { IfSome result (λ _. IsClosedFor turn.entry.direction turn.entry.packed.net.now flow.old.flows (seen_in turn.entry.packed.net.now.nodes cells.now)) }
-    ensures flows { flow.new.flows ≡ flow.old.flows }
-    ensures never_lowered { flow.old.steps ≤ flow.new.steps }
-    ensures steps { MatchOption result (flow.new.steps ≤ flow.old.steps + left) (λ rest. flow.new.steps + rest ≤ flow.old.steps + left) }
+    requires queued { AreQueued turn cells.now queue.now tail }
+    ensures cut { IfSome result (λ _. IsTurnCut turn.entry cells.now) }
+    ensures closed { IfSome result (λ _. IsTurnClosed turn.entry flow.old.flows cells.now) }
+    ensures looks { MatchOption result (OnlyLooks flow.old flow.new left) (λ r. PaysLooks flow.old left flow.new r) }
 {
     let n = turn.packed.net.nodes();
     let start = turn.order[turn.place as usize];
@@ -244,7 +236,7 @@ pub(crate) fn is_closed(
 pub(crate) fn forget(order: &[u32], cells: &mut [u32], queue: &[u32], tail: u32)
     requires size { length cells.old ≡ length order.now }
     requires queue_size { length queue.now ≡ length order.now }
-    requires nodes { (i : ℕ) → i < length order.now → (1 ≤ slice_index order.now i) × (slice_index order.now i ≤ length order.now) }
+    requires nodes { AreNodes order.now }
     requires places { ArePlaces (length order.now) order.now cells.old }
     requires queued { IsQueued (length order.now) order.now cells.old queue.now tail }
     ensures places { ArePlaces (length order.now) order.now cells.new }

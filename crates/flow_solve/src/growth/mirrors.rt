@@ -1,14 +1,14 @@
 //! Networks both ways, where one pass over the order is enough.
-ghost use Rattle.std.specs.Prelude.{◌≡◌, ℕ, Bool, IsTrue};
-ghost use Rattle.flow_solve.specs.Growth.{parted};
+ghost use Rattle.std.specs.Prelude.{IsTrue};
+ghost use Rattle.flow_solve.specs.Growth.{IsEitherWay};
 
 use crate::searching::Direction;
 use flow_net::Network;
 
-/// Whether the second half of the arcs is the first with each arc turned round, in order, as [`Network::both_ways`] leaves
-/// them: as many arcs then leave a set as enter it.
+/// Whether the second half of the arcs is the first with each arc turned round, in order, as [`Network::both_ways`]
+/// leaves them: as many arcs then leave a set as enter it.
 pub(crate) fn is_both_ways(net: &Network) -> bool
-    ensures { IsTrue result → (X : ℕ → Bool) → parted Direction.Backwards net.now X ≡ parted Direction.Forwards net.now X }
+    ensures { IsTrue result → IsEitherWay net.now }
 {
     let half = net.len() / 2;
     if net.len() % 2 != 0 {

@@ -1,15 +1,15 @@
-//! An order of all nodes in which each is joined with many earlier ones: that of maximum adjacency, where the next node is
-//! always one that the most half-arcs join with the nodes before it.
+//! An order of all nodes in which each is joined with many earlier ones: that of maximum adjacency, where the next node
+//! is always one that the most half-arcs join with the nodes before it.
 //!
-//! The order is made by exchanges. All nodes stand in a row from the start, those with a place in the order first, then the
-//! others by how many half-arcs join them with those, the most first; one more join moves a node to the front of the nodes
-//! with as many, by an exchange with the first of them. Nothing is proved of these exchanges but that they stay within the
-//! cells: whether the row has all nodes is tested when it is done.
-ghost use Rattle.std.specs.Prelude.{◌≡◌, ℕ, ◌+◌, ◌-◌, ◌*◌, ◌<◌, ◌≤◌, IfSome, IsTrue, length, slice_index};
+//! The order is made by exchanges. All nodes stand in a row from the start, those with a place in the order first, then
+//! the others by how many half-arcs join them with those, the most first; one more join moves a node to the front of
+//! the nodes with as many, by an exchange with the first of them. Nothing is proved of these exchanges but that they
+//! stay within the cells: whether the row has all nodes is tested when it is done.
+ghost use Rattle.std.specs.Prelude.{◌≡◌, ◌≤◌, IfSome, IsTrue, length};
 ghost use Rattle.flow_net.specs.Nets.{IsNode};
 ghost use Rattle.flow_net.specs.Orders.{IsOrder};
 ghost use Rattle.flow_solve.specs.Packs.{IsPacked};
-ghost use Rattle.flow_solve.specs.Growth.{IsInOrder, ArePlaces, IsClean};
+ghost use Rattle.flow_solve.specs.Growth.{ArePlaces, IsClean, IsInOrder};
 
 use crate::packing::Packed;
 use crate::searching::head;
@@ -18,7 +18,8 @@ use flow_net::MOST_NODES;
 /// A sweep over the sets of nodes before each place.
 #[derive(Clone, Copy)]
 pub(crate) struct Sweep {
-    /// How many half-arcs lead from the nodes with a place to the others: the arcs that leave them and those that enter them.
+    /// How many half-arcs lead from the nodes with a place to the others: the arcs that leave them and those that enter
+    /// them.
     pub crossing: u32,
     /// The least of these numbers so far.
     pub least: u32,
@@ -37,8 +38,8 @@ fn line_up(order: &mut [u32], cells: &mut [u32])
     }
 }
 
-/// Moves a node that has no place yet to the front of the nodes that are joined as often as it, as one that is joined once
-/// more.
+/// Moves a node that has no place yet to the front of the nodes that are joined as often as it, as one that is joined
+/// once more.
 fn advance(
     order: &mut [u32],
     cells: &mut [u32],
@@ -76,7 +77,7 @@ fn advance(
     cells[other as usize - 1] = at;
 }
 
-/// Joins the nodes behind the half-arcs of a node, which has its place now, once more each.
+/// Joins the nodes behind the half-arcs of the node that has come to its place last, once more each.
 fn join_all(
     packed: Packed<'_>,
     order: &mut [u32],
@@ -84,16 +85,19 @@ fn join_all(
     joins: &mut [u32],
     fronts: &mut [u32],
     done: u32,
-    node: u32,
 )
     requires packed { IsPacked packed.net.now packed.first.now packed.halves.now }
     requires order_size { length order.old ≡ packed.net.now.nodes }
     requires size { length cells.old ≡ packed.net.now.nodes }
     requires joins_size { length joins.old ≡ packed.net.now.nodes }
-    requires node { IsNode packed.net.now node }
+    requires some { 1 ≤ done }
+    requires place { done ≤ packed.net.now.nodes }
 {
     let net = packed.net;
-    let _ = net.nodes();
+    let node = order[done as usize - 1];
+    if node == 0 || node > net.nodes() {
+        return;
+    }
     for spot in packed.first[node as usize - 1]..packed.first[node as usize] {
         let next = head(net, packed.halves[spot as usize]);
         advance(order, cells, joins, fronts, done, next);
@@ -145,8 +149,8 @@ fn is_whole(order: &[u32], cells: &[u32]) -> bool
     true
 }
 
-/// Orders all nodes, and leaves the place of each in its cell; `joins` and `fronts` are worked in. Answers what a sweep over
-/// the order found, or nothing if not every node has its place.
+/// Orders all nodes, and leaves the place of each in its cell; `joins` and `fronts` are worked in. Answers what a sweep
+/// over the order found, or nothing if not every node has its place.
 pub(crate) fn order_nodes(
     packed: Packed<'_>,
     order: &mut [u32],
@@ -177,7 +181,7 @@ pub(crate) fn order_nodes(
             return None;
         }
         sweep = swept(packed, joins, sweep, place + 1, node);
-        join_all(packed, order, cells, joins, fronts, place + 1, node);
+        join_all(packed, order, cells, joins, fronts, place + 1);
     }
     if !is_whole(order, cells) {
         return None;

@@ -1,5 +1,6 @@
-//! A first bound on the connectivity: how many arcs lead from the nodes before a place in the order to the others, or back.
-ghost use Rattle.std.specs.Prelude.{◌≡◌, ℕ, Bool, ◌≤◌, ◌<◌, length};
+//! A first bound on the connectivity: how many arcs lead from the nodes before a place in the order to the others, or
+//! back.
+ghost use Rattle.std.specs.Prelude.{◌≡◌, ℕ, Bool, ◌<◌, length};
 ghost use Rattle.flow_net.specs.Nets.{arc_at};
 ghost use Rattle.flow_net.specs.Cuts.{leaves};
 ghost use Rattle.flow_net.specs.Arcs.{enters};
@@ -45,8 +46,8 @@ fn count_crossings(net: &Network, cells: &[u32], place: u32) -> (u64, u64)
     (out, back)
 }
 
-/// The least of a number of arcs that leave some set and of those that leave or enter the nodes before a place, where the
-/// sweep over the order has found few of these.
+/// The least of a number of arcs that leave some set and of those that leave or enter the nodes before a place, where
+/// the sweep over the order has found few of these.
 pub(crate) fn bound_by_prefix(
     net: &Network,
     order: &[u32],

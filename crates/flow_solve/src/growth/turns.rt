@@ -1,9 +1,9 @@
 //! A turn: the flow between a node and the nodes before it in the order.
-ghost use Rattle.std.specs.Prelude.{◌≡◌, ℕ, ◌+◌, ◌*◌, ◌<◌, ◌≤◌, MatchOption, IfSome, IsTrue, length};
+ghost use Rattle.std.specs.Prelude.{◌≡◌, ◌+◌, ◌*◌, ◌<◌, ◌≤◌, IfSome, IsTrue, length};
 ghost use Rattle.flow_net.specs.Nets.{IsNode};
 ghost use Rattle.flow_net.specs.Flows.{Fits};
 ghost use Rattle.flow_solve.specs.Searches.{near_end, far_end};
-ghost use Rattle.flow_solve.specs.Growth.{IsTurn, IsRaised, ArePlaces};
+ghost use Rattle.flow_solve.specs.Growth.{BringsUnit, Carries, HavePlaces, IsTurn, Pays};
 
 use crate::packing::Packed;
 use crate::searching::{Direction, head};
@@ -53,15 +53,14 @@ pub(crate) fn near(net: &Network, direction: Direction, half: u32) -> u32
     }
 }
 
-/// Pushes one unit over the half-arcs of a path, one by one from the node of the turn on, and answers whether all had room
-/// and led on, to a node before the place.
+/// Pushes one unit over the half-arcs of a path, one by one from the node of the turn on, and answers whether all had
+/// room and led on, to a node before the place.
 pub(crate) fn augment(turn: Turn<'_>, flow: &mut FlowTable, cells: &[u32], path: &[u32]) -> bool
     requires fits { Fits turn.packed.net.now flow.old.flows }
-    requires turn { IsTurn turn.packed.net.now turn.packed.first.now turn.packed.halves.now turn.order.now turn.place }
-    requires size { length cells.now ≡ turn.packed.net.now.nodes }
-    requires places { ArePlaces turn.packed.net.now.nodes turn.order.now cells.now }
+    requires turn { IsTurn turn }
+    requires cells { HavePlaces turn cells.now }
     ensures fits { Fits turn.entry.packed.net.now flow.new.flows }
-    ensures raised { IsTrue result → (value : ℕ) → IsRaised turn.entry.direction turn.entry.packed.net.now turn.entry.order.now turn.entry.place flow.old.flows value → IsRaised turn.entry.direction turn.entry.packed.net.now turn.entry.order.now turn.entry.place flow.new.flows (value + 1) }
+    ensures raised { IsTrue result → BringsUnit turn.entry flow.old.flows flow.new.flows }
     ensures never_lowered { flow.old.steps ≤ flow.new.steps }
     ensures steps { flow.new.steps ≤ flow.old.steps + 2 * length path.now }
 {
@@ -90,17 +89,14 @@ pub(crate) fn send_along(
     sent: Raised,
 ) -> Option<Raised>
     requires fits { Fits turn.packed.net.now flow.old.flows }
-    requires turn { IsTurn turn.packed.net.now turn.packed.first.now turn.packed.halves.now turn.order.now turn.place }
-    requires size { length cells.now ≡ turn.packed.net.now.nodes }
-    requires places { ArePlaces turn.packed.net.now.nodes turn.order.now cells.now }
-    requires raised { IsRaised turn.direction turn.packed.net.now turn.order.now turn.place flow.old.flows sent.value }
+    requires turn { IsTurn turn }
+    requires cells { HavePlaces turn cells.now }
+    requires raised { Carries turn flow.old.flows sent.value }
     requires small { sent.value < GREATEST_CAPACITY }
     ensures fits { Fits turn.entry.packed.net.now flow.new.flows }
-    ensures raised { IfSome result (λ r. IsRaised turn.entry.direction turn.entry.packed.net.now turn.entry.order.now turn.entry.place flow.new.flows r.value) }
+    ensures raised { IfSome result (λ r. Carries turn.entry flow.new.flows r.value) }
     ensures value { IfSome result (λ r. r.value ≡ sent.value + 1) }
-    ensures never_lowered { flow.old.steps ≤ flow.new.steps }
-    ensures fewer { IfSome result (λ r. r.left ≤ sent.left) }
-    ensures steps { MatchOption result (flow.new.steps ≤ flow.old.steps + sent.left) (λ r. flow.new.steps + r.left ≤ flow.old.steps + sent.left) }
+    ensures paid { Pays flow.old sent.left flow.new result }
 {
     let cost = 2 * path.len() as u64;
     if sent.left < cost || !augment(turn, flow, cells, path) {

@@ -8,11 +8,11 @@ returns-clause-connectivity c =
     let order = c.arrange.new.order in
     let size : length order ≡ net.nodes =
     omega (arith, c.arrange.auto.order, c.split_at_mut-order.ensures.front_len, c.nodes-n.ensures.nodes) in
-    let fewer = c.in_ok-back.ensures.fewer in
+    let fewer = c.in_ok-back.ensures.below.1 in
     connected net order c.in_ok-back.back.value c.nodes-n.ensures.is_net c.in_ok-value.ensures.order
     c.in_ok-back.ensures.reached
-    (λ i h l X cut. omega (arith, fewer, c.in_ok-forth.ensures.below i h (omega (arith, l, size)) X cut))
-    (λ i h l X cut. c.in_ok-back.ensures.below i h (omega (arith, l, size)) X cut)
+    (λ i h l X cut. omega (arith, fewer, c.in_ok-forth.ensures.below.0 i h (omega (arith, l, size)) X cut))
+    (λ i h l X cut. c.in_ok-back.ensures.below.0 i h (omega (arith, l, size)) X cut)
 
 pub returns-then-is_both_ways-clause-connectivity : goal.returns-then-is_both_ways-clause-connectivity
 returns-then-is_both_ways-clause-connectivity c =
@@ -20,7 +20,7 @@ returns-then-is_both_ways-clause-connectivity c =
     let order = c.arrange.new.order in
     let size : length order ≡ net.nodes =
     omega (arith, c.arrange.auto.order, c.split_at_mut-order.ensures.front_len, c.nodes-n.ensures.nodes) in
-    let below = c.in_ok-forth.ensures.below in
+    let below = c.in_ok-forth.ensures.below.0 in
     connected net order c.in_ok-forth.forth.value c.nodes-n.ensures.is_net c.in_ok-value.ensures.order
     c.in_ok-forth.ensures.reached (λ i h l X cut. below i h (omega (arith, l, size)) X cut)
     (λ i h l X cut. omega

@@ -6,56 +6,57 @@ use Rattle.flow_solve.proofs.growth.grow.Goals as goal
 
 pub loop-place-init : goal.loop-place-init
 loop-place-init c =
-    let zeros : c.clear.new.self.flows ≡ replicate (length c.args.packed.net.now.arcs) 0 =
+    let zeros : c.clear.new.self.flows ≡ replicate (length c.args.first.packed.net.now.arcs) 0 =
     c.clear.ensures.flows ∙ ap (λ z. replicate z 0) c.requires.fits.count in
     record {
       end = c.nodes-n.ensures.nodes;
       begun = omega arith;
-      fits = c.clear.ensures.still_fits c.args.packed.net.now c.requires.fits;
-      size = c.requires.size;
+      fits = c.clear.ensures.still_fits c.args.first.packed.net.now c.requires.fits;
       rest_size = c.requires.rest_size;
-      places = c.requires.places;
+      cells = c.requires.cells;
       clean = c.requires.clean;
       balanced =
-          subst (λ (z : List ℕ). IsBalanced c.args.packed.net.now c.args.order.now 1 z) (sym zeros)
-          (balanced_zeros c.args.packed.net.now c.args.order.now 1);
+          subst (λ (z : List ℕ). IsBalanced c.args.first.packed.net.now c.args.first.order.now 1 z) (sym zeros)
+          (balanced_zeros c.args.first.packed.net.now c.args.first.order.now 1);
       reached = c.requires.reached;
       below = λ i h l. absurd (omega arith);
       fewer = omega arith;
-      never_lowered = omega (arith, c.clear.ensures.steps);
-      steps = omega (arith, c.clear.ensures.steps);
+      paid = record {
+        never_lowered = omega (arith, c.clear.ensures.steps);
+        left = omega arith;
+        steps = omega (arith, c.clear.ensures.steps);
+      };
     }
 
 pub raise-requires-clause-raised : goal.raise-requires-clause-raised
 raise-requires-clause-raised c =
     let j = c.loop-place.invariant in
-    raised_none c.args.direction c.args.packed.net.now c.args.order.now c.loop-place.place c.loop-place.flow.flows
-    c.requires.order (omega (arith, j.end, c.loop-place-test.true, c.requires.order_size)) j.balanced
+    raised_none c.args.first.direction c.args.first.packed.net.now c.args.first.order.now c.loop-place.place c.loop-place.flow.flows
+    c.requires.turn.ordered (omega (arith, j.end, c.loop-place-test.true, c.requires.turn.size)) j.balanced
 
 pub loop-place-preserved : goal.loop-place-preserved
 loop-place-preserved c =
     let j = c.loop-place.invariant in
     let now = c.in_ok-least.ensures in
-    let net = c.args.packed.net.now in
-    let order = c.args.order.now in
-    let dir = c.args.direction in
+    let net = c.args.first.packed.net.now in
+    let order = c.args.first.order.now in
+    let dir = c.args.first.direction in
     let k = c.loop-place.place in
     let new = c.in_ok-least.least.value in
     let old = c.loop-place.least.value in
-    let inside : k < length order = omega (arith, j.end, c.loop-place-test.true, c.requires.order_size) in
+    let inside : k < length order = omega (arith, j.end, c.loop-place-test.true, c.requires.turn.size) in
     let here : IsBelow dir net order k new =
     raised_below dir net order k c.raise.new.flow.flows new c.nodes-n.ensures.is_net c.requires.unit now.raised in
     record {
       end = j.end;
       begun = omega (arith, j.begun);
       fits = c.raise.ensures.fits;
-      size = omega (arith, c.raise.auto.cells, j.size);
       rest_size = omega (arith, c.raise.auto.rest, j.rest_size);
-      places = now.places;
+      cells = record { size = now.cells.size; places = now.cells.places };
       clean = now.clean;
       balanced = balanced_next dir net order k c.raise.new.flow.flows new inside now.raised;
       reached = elim (cases_lt new old) [
-        | inl less ↦ parted_proper dir net order k new c.requires.order j.begun inside (now.parted less)
+        | inl less ↦ parted_proper dir net order k new c.requires.turn.ordered j.begun inside (now.parted less)
         | inr same ↦ (let r = j.reached in (r.0, r.1, r.2 ∙ omega (arith, now.below)))
       ];
       below = λ i h l. elim (cases_eq i k) [
@@ -63,6 +64,9 @@ loop-place-preserved c =
         | inr other ↦ (λ X cut. omega (arith, now.below, j.below i h (omega arith) X cut))
       ];
       fewer = omega (arith, now.below, j.fewer);
-      never_lowered = omega (arith, j.never_lowered, c.raise.ensures.never_lowered);
-      steps = omega (arith, j.steps, now.steps);
+      paid = record {
+        never_lowered = omega (arith, j.paid.never_lowered, now.paid.never_lowered);
+        left = omega (arith, j.paid.left, now.paid.left);
+        steps = omega (arith, j.paid.steps, now.paid.steps);
+      };
     }

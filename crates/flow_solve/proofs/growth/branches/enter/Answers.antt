@@ -6,6 +6,6 @@ pub returns-clause-queued : goal.returns-clause-queued
 returns-clause-queued c =
     let low = c.far-next.ensures.node.0 in let high = c.far-next.ensures.node.1 in
     queued_more c.args.turn.packed.net.now.nodes c.args.turn.order.now c.args.cells.now c.args.queue.now c.args.tail
-    (c.far-next.result - 1) c.branch_of.result c.requires.queue_size c.requires.size (omega arith)
+    (c.far-next.result - 1) c.branch_of.result c.requires.queue_size c.requires.cells.size (omega arith)
     (omega (arith, c.if-tail-n.false)) (omega (arith, c.if-place-n.false)) (omega (arith, c.branch_of.ensures.branch))
-    c.requires.places c.requires.queued
+    c.requires.cells.places c.requires.queued

@@ -8,16 +8,17 @@ loop-spread-preserved-then-spread c =
     let now = c.in_ok-sent.ensures in
     record {
       fits = c.send_along.ensures.fits;
-      size = omega (arith, c.give_up.auto.cells, c.spread_on-spread.auto.cells, j.size);
       queue_size = omega (arith, c.spread_on-spread.auto.queue, j.queue_size);
       via_size = omega (arith, c.spread_on-spread.auto.via, j.via_size);
       path_size = omega (arith, c.trace.auto.path, j.path_size);
-      places = c.give_up.ensures.places;
+      cells = c.give_up.ensures.cells;
       queued = c.give_up.ensures.queued c.spread_on-spread.new.queue c.spread_on-spread.result.tail seen.queued;
       raised = now.raised;
       below = omega (arith, now.value, c.if-sent-wanted.true);
       same = refl;
-      never_lowered = omega (arith, j.never_lowered, seen.looks.never_lowered, c.send_along.ensures.never_lowered);
-      fewer = omega (arith, now.fewer, seen.looks.left, j.same, j.fewer);
-      steps = omega (arith, j.steps, j.same, seen.looks.steps, now.steps);
+      paid = record {
+        never_lowered = omega (arith, j.paid.never_lowered, seen.looks.never_lowered, now.paid.never_lowered);
+        left = omega (arith, j.paid.left, j.same, seen.looks.left, now.paid.left);
+        steps = omega (arith, j.paid.steps, j.same, seen.looks.steps, now.paid.steps);
+      };
     }

@@ -8,4 +8,4 @@ send-requires-clause-earlier c =
     let turn = c.requires.turn in
     subst (λ z. before c.args.turn.order.now c.args.turn.place z ≡ true) c.head.ensures.head
     (terminal_at c.args.turn.packed.net.now c.args.turn.order.now c.args.cells.now c.args.turn.place c.head.result
-    turn.size turn.place c.head.ensures.node c.requires.places c.if-cells-head.true)
+    turn.size turn.place c.head.ensures.node c.requires.cells.places c.if-cells-head.true)

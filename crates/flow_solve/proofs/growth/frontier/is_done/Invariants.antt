@@ -1,14 +1,14 @@
-use Rattle.std.proofs.Common.{◌≡◌, ℕ, ◌+◌, ◌-◌, ◌<◌, ◌≤◌}
+use Rattle.std.proofs.Common.{ℕ, ◌-◌, ◌<◌, ◌≤◌}
 use Rattle.std.specs.Prelude.{slice_index}
 use Rattle.flow_net.specs.Flows.{Fits}
 use Rattle.flow_net.specs.Residual.{head_of, residual}
 use Rattle.flow_solve.specs.Searches.{crossed}
+use Rattle.flow_solve.specs.Steps.{PaysLooks}
 use Rattle.flow_solve.proofs.growth.frontier.is_done.Given as goal
 
 abbrev pub invariant-loop-spot : goal.invariant-loop-spot
 invariant-loop-spot l = record {
   fits : Fits l.turn.packed.net.now l.flow.flows;
-  flows : l.flow.flows ≡ l.fn.flow.flows;
   begun : slice_index l.turn.packed.first.now (l.node - 1) ≤ l.spot;
   done : (p : ℕ) → p < l.spot → slice_index l.turn.packed.first.now (l.node - 1) ≤ p
       → 1
@@ -16,6 +16,5 @@ invariant-loop-spot l = record {
       (crossed l.turn.direction (slice_index l.turn.packed.halves.now p))
       → l.turn.packed.net.now.nodes
       ≤ slice_index l.cells (head_of l.turn.packed.net.now (slice_index l.turn.packed.halves.now p) - 1);
-  never_lowered : l.fn.flow.steps ≤ l.flow.steps;
-  steps : l.flow.steps + l.rest ≤ l.fn.flow.steps + l.left;
+  looks : PaysLooks l.fn.flow l.left l.flow l.rest;
 }

@@ -1,25 +1,21 @@
-use Rattle.std.proofs.Common.{◌≡◌, ℕ, ◌+◌, ◌≤◌, List, length}
+use Rattle.std.proofs.Common.{◌≡◌, ◌≤◌, length}
 use Rattle.flow_net.specs.Flows.{Fits}
-use Rattle.flow_net.specs.Nets.{IsNode}
-use Rattle.flow_solve.specs.Growth.{IsRaised, ArePlaces, IsQueued}
+use Rattle.flow_solve.specs.Growth.{Carries, HavePlaces, IsWalk, KeepsQueues}
+use Rattle.flow_solve.specs.Steps.{PaysSteps}
 use Rattle.flow_solve.proofs.growth.raising.walk_all.Given as goal
 
-abbrev pub invariant-loop-walk : goal.invariant-loop-walk
-invariant-loop-walk l = record {
+abbrev pub invariant-loop-sent : goal.invariant-loop-sent
+invariant-loop-sent l = record {
   fits : Fits l.turn.packed.net.now l.flow.flows;
-  size : length l.cells ≡ l.turn.packed.net.now.nodes;
+  cells : HavePlaces l.turn l.cells;
   current_size : length l.current ≡ l.turn.packed.net.now.nodes;
   path_size : length l.path ≡ l.turn.packed.net.now.nodes;
-  node : IsNode l.turn.packed.net.now l.walk.node;
-  places : ArePlaces l.turn.packed.net.now.nodes l.turn.order.now l.cells;
-  queued : (queue : List ℕ) (tail : ℕ) → IsQueued l.turn.packed.net.now.nodes l.turn.order.now l.fn.cells queue tail
-      → IsQueued l.turn.packed.net.now.nodes l.turn.order.now l.cells queue tail;
-  raised : IsRaised l.turn.direction l.turn.packed.net.now l.turn.order.now l.turn.place l.flow.flows l.walk.value;
-  below : l.walk.value ≤ l.wanted;
-  fewer : l.walk.left ≤ l.fn.raised.left;
-  never_lowered : l.fn.flow.steps ≤ l.flow.steps;
-  steps : l.flow.steps + l.walk.left ≤ l.fn.flow.steps + l.fn.raised.left;
+  walk : IsWalk l.turn l.walk;
+  queued : KeepsQueues l.turn l.fn.cells l.cells;
+  raised : Carries l.turn l.flow.flows l.sent.value;
+  below : l.sent.value ≤ l.wanted;
+  paid : PaysSteps l.fn.flow l.fn.raised.left l.flow l.sent.left;
 }
 
-abbrev pub decreases-loop-walk : goal.decreases-loop-walk
-decreases-loop-walk l = l.walk.left
+abbrev pub decreases-loop-sent : goal.decreases-loop-sent
+decreases-loop-sent l = l.sent.left

@@ -50,7 +50,7 @@ returns-clause-raised c = λ yes value r.
     let j = c.loop-half.invariant in
     let turn = c.requires.turn in
     let end = terminal_at c.args.turn.packed.net.now c.args.turn.order.now c.args.cells.now c.args.turn.place
-    c.loop-half.node turn.size turn.place j.node c.requires.places
+    c.loop-half.node turn.size turn.place j.node c.requires.cells.places
     (ltb-true (slice_index c.args.cells.now (c.loop-half.node - 1)) c.args.turn.place yes) in
     way_ends c.args.turn.direction c.args.turn.packed.net.now c.args.turn.order.now c.args.turn.place c.loop-half.node
     c.args.flow.now.flows c.loop-half.flow.flows value turn.ordered (omega (arith, turn.place, turn.size)) end r

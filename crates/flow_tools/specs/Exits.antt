@@ -23,8 +23,8 @@ abbrev pub IsCheck : Job → Type 0
 IsCheck (Check feasible_only) = ⊤
 IsCheck _ = ⊥
 
--- a job that checks a solution has come to it: the problem has ended and is accepted; and this holds for its nodes'
--- number
+-- a job that checks a solution has come to it: the problem has ended and is accepted; and this holds for its number
+-- of nodes
 abbrev pub HasComeToSolution : Job → Stream → List ℕ → (ℕ → Type 0) → Type 0
 HasComeToSolution job source p holds =
     IsCheck job × HasEnded source × ((instance : Instance) × (problem p ≡ Ok instance) × holds instance.net.nodes)

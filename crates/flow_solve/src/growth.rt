@@ -144,33 +144,23 @@ pub fn connectivity_by_growth(
         value,
         left: budget,
     };
-    let forth = grow(
-        Turn {
-            packed,
-            order,
-            direction: Direction::Forwards,
-            place: 0,
-        },
-        flow,
-        cells,
-        three,
-        start,
-    )?;
+    let first = Turn {
+        packed,
+        order,
+        direction: Direction::Forwards,
+        place: 0,
+    };
+    let forth = grow(first, flow, cells, three, start)?;
     // The two directions are then alike.
     if is_both_ways(net) {
         return Some(forth.value);
     }
-    let back = grow(
-        Turn {
-            packed,
-            order,
-            direction: Direction::Backwards,
-            place: 0,
-        },
-        flow,
-        cells,
-        three,
-        forth,
-    )?;
+    let first = Turn {
+        packed,
+        order,
+        direction: Direction::Backwards,
+        place: 0,
+    };
+    let back = grow(first, flow, cells, three, forth)?;
     Some(back.value)
 }

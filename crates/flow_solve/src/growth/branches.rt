@@ -8,7 +8,7 @@
 ghost use Rattle.std.specs.Prelude.{◌≡◌, ◌+◌, ◌*◌, ◌<◌, ◌≤◌, IfSome, IsTrue, length};
 ghost use Rattle.flow_net.specs.Nets.{IsNode};
 ghost use Rattle.flow_net.specs.Flows.{Fits};
-ghost use Rattle.flow_solve.specs.Growth.{AreQueued, Carries, HavePlaces, IsClean, IsTurn, KeepsQueues, Pays};
+ghost use Rattle.flow_solve.specs.Growth.{AreQueued, Carries, HavePlaces, IsClean, IsReady, IsTurn, KeepsQueues, Pays};
 ghost use Rattle.flow_solve.specs.Steps.{PaysLooks};
 
 use crate::growth::frontier::forget;
@@ -246,8 +246,7 @@ pub(crate) fn send_by_branches(
     requires raised { Carries turn flow.old.flows sent.value }
     requires below { sent.value ≤ wanted }
     ensures fits { Fits turn.entry.packed.net.now flow.new.flows }
-    ensures cells { IfSome result (λ _. HavePlaces turn.entry cells.new) }
-    ensures clean { IfSome result (λ _. IsClean turn.entry.packed.net.now.nodes cells.new) }
+    ensures ready { IfSome result (λ _. IsReady turn.entry cells.new) }
     ensures raised { IfSome result (λ r. Carries turn.entry flow.new.flows r.value) }
     ensures below { IfSome result (λ r. r.value ≤ wanted) }
     ensures paid { Pays flow.old sent.left flow.new result }

@@ -4,7 +4,7 @@ ghost use Rattle.std.specs.List.{All};
 ghost use Rattle.flow_net.specs.Nets.{IsNode};
 ghost use Rattle.flow_net.specs.Flows.{Fits};
 ghost use Rattle.flow_net.specs.Orders.{before};
-ghost use Rattle.flow_solve.specs.Growth.{Carries, HavePlaces, IsClean, IsTurn, IsWalk, KeepsQueues, Parts, Pays};
+ghost use Rattle.flow_solve.specs.Growth.{Carries, HavePlaces, IsClean, IsReady, IsTurn, IsWalk, KeepsQueues, Parts, Pays};
 ghost use Rattle.flow_solve.specs.Steps.{PaysLooks};
 
 use crate::growth::branches::send_by_branches;
@@ -235,8 +235,7 @@ pub(crate) fn raise(
     requires clean { IsClean turn.packed.net.now.nodes cells.old }
     requires raised { Carries turn flow.old.flows 0 }
     ensures fits { Fits turn.entry.packed.net.now flow.new.flows }
-    ensures cells { IfSome result (λ _. HavePlaces turn.entry cells.new) }
-    ensures clean { IfSome result (λ _. IsClean turn.entry.packed.net.now.nodes cells.new) }
+    ensures ready { IfSome result (λ _. IsReady turn.entry cells.new) }
     ensures raised { IfSome result (λ r. Carries turn.entry flow.new.flows r.value) }
     ensures below { IfSome result (λ r. r.value ≤ wanted) }
     ensures parted { IfSome result (λ r. r.value < wanted → Parts turn.entry r.value) }

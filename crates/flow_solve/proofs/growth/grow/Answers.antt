@@ -52,8 +52,8 @@ loop-place-preserved c =
       begun = omega (arith, j.begun);
       fits = c.raise.ensures.fits;
       rest_size = omega (arith, c.raise.auto.rest, j.rest_size);
-      cells = record { size = now.cells.size; places = now.cells.places };
-      clean = now.clean;
+      cells = record { size = now.ready.size; places = now.ready.places };
+      clean = now.ready.clean;
       balanced = balanced_next dir net order k c.raise.new.flow.flows new inside now.raised;
       reached = elim (cases_lt new old) [
         | inl less ↦ parted_proper dir net order k new c.requires.turn.ordered j.begun inside (now.parted less)

@@ -80,8 +80,8 @@ struct Lifted {
     walk: Walker,
 }
 
-/// The place of a node's first half-arc, from a place on, that leads to a lower key and has a residual capacity, and the
-/// step along it; or the place behind them all.
+/// The place of a node's first half-arc, from a place on, that leads to a lower key and has a residual capacity, and
+/// the step along it; or the place behind them all.
 fn next_falling(
     ranked: Ranked<'_>,
     flow: &mut FlowTable,

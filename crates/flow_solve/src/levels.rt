@@ -63,18 +63,18 @@
 //! | `rlg-wide`, 64 levels | 5.20 | 1.92 |
 //!
 //! In `acyclic-dense`, `roads` and the families of frames the trees only look for the first levels, and the phases
-//! begin at once. What lifting brings there, in seconds of user time on problems with some 500,000 arcs (least of two
-//! runs on a busy machine):
+//! begin at once. What lifting brings there, against the program as it was with phases alone, in seconds of user time
+//! on problems with some 500,000 arcs (least of two runs in turn on a busy machine):
 //!
 //! | Family | Phases that don't lift | Phases that lift |
 //! |---|--:|--:|
-//! | roads, as generated | 7.5 | 0.8 |
-//! | roads, in a random order | 10.1 | 3.0 |
-//! | wide frames, 145,000 arcs | 0.53 | 0.26 |
-//! | long frames, as generated | 1.8 | 2.2 |
-//! | long frames, in a random order | 3.3 | 2.9 |
+//! | roads, as generated | 12.6 | 1.16 |
+//! | roads, in a random order | 25.6 | 3.04 |
+//! | wide frames, 125,000 arcs | 0.52 | 0.31 |
+//! | long frames, as generated | 2.52 | 2.42 |
+//! | long frames, in a random order | 5.27 | 3.59 |
 //!
-//! In long frames as generated nodes are lifted without gain.
+//! In long frames as generated lifting saves a quarter of the instructions (50,000 arcs), and little time.
 ghost use Rattle.std.specs.Prelude.{◌+◌, ◌*◌, ◌≤◌, length};
 ghost use Rattle.flow_solve.specs.Bounds.{levels_bound};
 

@@ -102,6 +102,7 @@ fn next_falling(
 {
     let packed = ranked.task.packed;
     let rank = ranked.rank;
+    // Brings the network's limits, `IsNet`, into the proof.
     let _ = packed.net.nodes();
     let end = packed.first[node as usize];
     let far = dist[node as usize - 1];
@@ -168,6 +169,7 @@ fn nearest(packed: Packed<'_>, flow: &mut FlowTable, dist: &[u32], node: u32) ->
     requires node { IsNode packed.net.now node }
     ensures looks { OnlyLooks flow.old flow.new (degree_of packed.entry node) }
 {
+    // Brings the network's limits, `IsNet`, into the proof.
     let _ = packed.net.nodes();
     let mut least = FAR;
     for spot in packed.first[node as usize - 1]..packed.first[node as usize] {
@@ -348,6 +350,7 @@ fn turn(
 {
     let packed = ranked.task.packed;
     let walk = lifted.walk;
+    // Brings the network's limits, `IsNet`, into the proof.
     let _ = packed.net.nodes();
     if is_sink(ranked, dist, walk.node) {
         return augment(ranked, flow, lifted, trail);

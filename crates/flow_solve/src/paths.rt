@@ -56,6 +56,7 @@ fn find_trail(
     ensures missed { IfNone result (HasMissed plan.entry flow.old.flows dist.new) }
     ensures looks { OnlyLooks flow.old flow.new (2 * length plan.entry.packed.net.now.arcs) }
 {
+    // Brings the network's limits, `IsNet`, into the proof.
     let _ = plan.packed.net.nodes();
     search(plan, flow, dist, via, queue);
     first_seen(plan.until, dist)
@@ -121,6 +122,7 @@ fn augment(net: &Network, flow: &mut FlowTable, dist: &[u32], via: &[u32], sourc
     ensures never_lowered { flow.old.steps ≤ flow.new.steps }
     ensures steps { flow.new.steps ≤ flow.old.steps + 2 * net.now.nodes }
 {
+    // Brings the network's limits, `IsNet`, into the proof.
     let _ = net.nodes();
     let amount = least_room(net, flow, dist, via, source);
     push_along(net, flow, dist, via, source, amount);

@@ -36,6 +36,7 @@ fn least_on(net: &Network, flow: &mut FlowTable, path: &[u32]) -> (u32, u64)
     ensures flows { flow.new.flows ≡ flow.old.flows }
     ensures steps { flow.new.steps ≡ flow.old.steps + length path.now }
 {
+    // Brings the network's limits, `IsNet`, into the proof.
     let _ = net.nodes();
     let (_, mut least) = flow.look(net, path[0]);
     let mut place = 0;
@@ -120,6 +121,7 @@ fn admissible(
     ensures steps_some { IfSome result (λ h. Looks packed.entry rank.now current.old flow.old current.new flow.new 1) }
     ensures steps_none { IfNone result (Looks packed.entry rank.now current.old flow.old current.new flow.new 0) }
 {
+    // Brings the network's limits, `IsNet`, into the proof.
     let _ = packed.net.nodes();
     let end = packed.first[node as usize];
     let own = rank[node as usize - 1];
@@ -181,6 +183,7 @@ pub(crate) fn walk(
     ensures steps { Pays phase.entry current.old flow.old current.new flow.new }
 {
     let packed = phase.packed;
+    // Brings the network's limits, `IsNet`, into the proof.
     let _ = packed.net.nodes();
     let mut raised = value;
     let mut node = source;

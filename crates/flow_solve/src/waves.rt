@@ -470,6 +470,7 @@ fn room_of(
     requires node { IsNode packed.net.now node }
     ensures paid { PaysLooks flow.old wave.old.left flow.new wave.new.left }
 {
+    // Brings the network's limits, `IsNet`, into the proof.
     let _ = packed.net.nodes();
     let begin = packed.first[node as usize - 1];
     let end = packed.first[node as usize];

@@ -20,6 +20,7 @@ fn count_degrees(net: &Network, out: &mut [u32], into: &mut [u32])
     requires into { length into.old ≡ net.now.nodes }
     ensures { AreDegrees net.now.nodes net.now.arcs out.new into.new }
 {
+    // Brings the network's limits, `IsNet`, into the proof.
     let _ = net.nodes();
     out.fill(0);
     into.fill(0);
@@ -80,6 +81,7 @@ fn pair_value<M: Method>(
     ensures still_fits { Fits net.now flow.new.flows }
     ensures rest { drop (work_cells net.now) work.new ≡ drop (work_cells net.now) work.old }
 {
+    // Brings the network's limits, `IsNet`, into the proof.
     let _ = net.nodes();
     M::greatest(net, s, t, flow, work) as u64
 }

@@ -27,6 +27,7 @@ fn send(turn: Turn<'_>, flow: &mut FlowTable, half: u32, sent: Raised) -> Option
     ensures paid { Pays flow.old sent.left flow.new result }
 {
     let net = turn.packed.net;
+    // Brings the network's limits, `IsNet`, into the proof.
     let _ = net.nodes();
     let Raised { value, left } = sent;
     if left < 2 {

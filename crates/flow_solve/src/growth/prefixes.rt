@@ -19,6 +19,7 @@ fn crosses(net: &Network, cells: &[u32], place: u32, arc: u32) -> (bool, bool)
     ensures out { result.0 ≡ leaves (earlier_in cells.now place) (arc_at net.now arc) }
     ensures back { result.1 ≡ enters (earlier_in cells.now place) (arc_at net.now arc) }
 {
+    // Brings the network's limits, `IsNet`, into the proof.
     let _ = net.nodes();
     let arc = net.arc(arc);
     let from = cells[arc.src as usize - 1] < place;

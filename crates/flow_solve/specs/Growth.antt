@@ -104,8 +104,7 @@ IsClean n cells = (p : ℕ) → p < n → slice_index cells p < n
 
 -- the cells of a turn before its search
 pub record IsReady (turn : Turn) (cells : List ℕ) : Type 0 where
-  pub size : length cells ≡ turn.packed.net.now.nodes
-  pub places : ArePlaces turn.packed.net.now.nodes turn.order.now cells
+  pub placed : HavePlaces turn cells
   pub clean : IsClean turn.packed.net.now.nodes cells
 
 -- the row has nodes, as many as there are

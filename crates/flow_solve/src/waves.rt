@@ -6,9 +6,9 @@
 //! other wave a node takes no more than it can pass on, by *bounds* that are summed while the search goes: that spreads
 //! what comes in a lump over a front. In the end the same waves bring home to the sources what no sink takes.
 //!
-//! No node has a label of its own that is raised, so this is no push-relabel method. A push goes to a lower rank, and is
-//! held to what a look has shown to remain; nothing else is claimed of ranks, bounds and excess: at the end the table is
-//! settled (`settling`).
+//! No node has a label of its own that is raised, so this is no push-relabel method. A push goes to a lower rank, and
+//! is held to what a look has shown to remain; nothing else is claimed of ranks, bounds and excess: at the end the
+//! table is settled (`settling`).
 ghost use Rattle.std.specs.Prelude.{◌≡◌, ◌+◌, ◌-◌, ◌*◌, ◌<◌, ◌≤◌, true, false, length, slice_index};
 ghost use Rattle.std.specs.List.{All};
 ghost use Rattle.flow_net.specs.Nets.{IsNode};

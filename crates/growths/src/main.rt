@@ -1,9 +1,9 @@
 //! `growths`: the calls of the library that ask for memory, each made where every request for memory may be refused.
 //!
-//! Standard input is a line with the names of calls. For each the program prints a line that says what the call answered
-//! and whether what it promises of a refused growth held: a network is unchanged, a reader refuses from then on, a run
-//! puts nothing but its message. The program itself asks for no memory, so that an allocator put before the C library's can
-//! refuse the calls' first request, their second, their third, or all of them.
+//! Standard input is a line with the names of calls. For each the program prints a line that says what the call
+//! answered and whether it kept what it promises of a refused growth: a network is unchanged, a reader refuses from
+//! then on, a run puts nothing but its message. The program itself asks for no memory, so that an allocator put before
+//! the C library's can refuse the calls' first request, their second, their third, or all of them.
 #![tactic(auto)]
 
 mod calls;

@@ -6,8 +6,9 @@ use crate::stages::Task;
 use flow_net::Network;
 use std::alloc::Global;
 
-/// The value that a phase with lifting reaches from no flow, and what it leaves of what it may do, in a network of 7 nodes
-/// and at most 40 arcs in which node 1 is the source and node 6 the sink, by the distances and ranks of its nodes.
+/// The value that a phase with lifting reaches from no flow, and what it leaves of what it may do, in a network of 7
+/// nodes and at most 40 arcs in which node 1 is the source and node 6 the sink, by the distances and ranks of its
+/// nodes.
 fn lift_once<'a>(
     alloc: Global,
     net: &'a Network,
@@ -44,7 +45,8 @@ fn lift_once<'a>(
     Some((value, supply.left))
 }
 
-/// Two ways from node 2 to the sink: over node 3, and over nodes 4 and 5, as far away from the sink as node 2 is at first.
+/// Two ways from node 2 to the sink: over node 3, and over nodes 4 and 5, as far away from the sink as node 2 is at
+/// first.
 /// So the walk has to lift node 2 to go the second way. Nothing leads on from node 7.
 const TWO_WAYS: &[(u32, u32, u64)] = &[
     (1, 2, 9),

@@ -31,7 +31,8 @@ loop-place-init c =
 pub raise-requires-clause-raised : goal.raise-requires-clause-raised
 raise-requires-clause-raised c =
     let j = c.loop-place.invariant in
-    raised_none c.args.first.direction c.args.first.packed.net.now c.args.first.order.now c.loop-place.place c.loop-place.flow.flows
+    raised_none c.args.first.direction c.args.first.packed.net.now c.args.first.order.now c.loop-place.place
+    c.loop-place.flow.flows
     c.requires.turn.ordered (omega (arith, j.end, c.loop-place-test.true, c.requires.turn.size)) j.balanced
 
 pub loop-place-preserved : goal.loop-place-preserved
@@ -52,7 +53,7 @@ loop-place-preserved c =
       begun = omega (arith, j.begun);
       fits = c.raise.ensures.fits;
       rest_size = omega (arith, c.raise.auto.rest, j.rest_size);
-      cells = record { size = now.ready.size; places = now.ready.places };
+      cells = record { size = now.ready.placed.size; places = now.ready.placed.places };
       clean = now.ready.clean;
       balanced = balanced_next dir net order k c.raise.new.flow.flows new inside now.raised;
       reached = elim (cases_lt new old) [

@@ -14,7 +14,8 @@ invariant-loop-place l = record {
   clean : IsClean l.first.packed.net.now.nodes l.cells;
   balanced : IsBalanced l.first.packed.net.now l.first.order.now l.place l.flow.flows;
   reached : IsReached l.first.packed.net.now l.least.value;
-  below : (i : ℕ) → 1 ≤ i → i < l.place → IsBelow l.first.direction l.first.packed.net.now l.first.order.now i l.least.value;
+  below : (i : ℕ) → 1 ≤ i → i < l.place
+      → IsBelow l.first.direction l.first.packed.net.now l.first.order.now i l.least.value;
   fewer : l.least.value ≤ l.fn.least.value;
   paid : PaysSteps l.fn.flow l.fn.least.left l.flow l.least.left;
 }

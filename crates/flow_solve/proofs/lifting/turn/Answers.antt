@@ -14,7 +14,8 @@ augment-requires-clause-some c =
 pub augment-requires-clause-path : goal.augment-requires-clause-path
 augment-requires-clause-path c =
     let sink = c.is_sink.ensures.sink c.if-is_sink.true in
-    let some = under_way_some c.args.ranked c.args.dist.now c.args.trail.now c.args.lifted.now.walk c.requires.ranked sink
+    let some = under_way_some c.args.ranked c.args.dist.now c.args.trail.now c.args.lifted.now.walk c.requires.ranked
+    sink
     c.requires.walk in
     under_way_augments c.args.ranked c.args.dist.now c.args.flow.now.flows c.args.trail.now c.args.lifted.now.walk some
     c.requires.trail_size sink c.requires.walk c.requires.least

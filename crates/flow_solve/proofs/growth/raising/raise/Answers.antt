@@ -10,7 +10,8 @@ returns-then-frontier-eq0-clause-parted c = λ less.
     let dir = c.args.turn.direction in
     let X = seen_in net.nodes c.search-frontier.new.cells in
     let closed : IsClosedFor dir net c.loop-raised.flow.flows X =
-    subst (λ (z : List ℕ). IsClosedFor dir net z X) c.search-frontier.ensures.looks.flows c.in_ok-left.ensures.closed in (
+    subst (λ (z : List ℕ). IsClosedFor dir net z X) c.search-frontier.ensures.looks.flows
+    c.in_ok-left.ensures.closed in (
       X,
       c.in_ok-left.ensures.cut,
       raised_parted dir net c.args.turn.order.now c.args.turn.place c.loop-raised.flow.flows

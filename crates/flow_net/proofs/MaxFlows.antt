@@ -1,8 +1,7 @@
 -- The theorem of Ford and Fulkerson: one number is the greatest value of a feasible flow and the least capacity of a
 -- cut.
 -- A search marks nodes to which one unit can be brought. It ends at a sink, and then a flow of greater value exists, or
--- with a
--- closed cut.
+-- with a closed cut.
 use Rattle.std.proofs.Common.{◌≡◌, ◌≢◌, ℕ, zero, suc, ◌+◌, ◌*◌, ◌/◌, ◌%◌, ◌≤◌, ◌<◌, ◌⊎◌, Bool, true, false, ◌&&◌, ◌||◌}
 use Rattle.std.proofs.Common.{cond, eqb, List, length, refl, ◌∙◌, sym, ap, subst, inl, inr, eq-eqb, get_or-set_other}
 use Rattle.std.proofs.Common.{arith}

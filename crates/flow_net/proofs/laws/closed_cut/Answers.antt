@@ -1,3 +1,5 @@
+-- The law: a cut that no residual half-arc leaves is full, so its capacity is the flow's value, which weak duality
+-- bounds.
 use Rattle.flow_net.proofs.Cuts.{closed_greatest, closed_minimum, strong_duality}
 use Rattle.flow_net.proofs.laws.closed_cut.Goals as goal
 

@@ -1,3 +1,4 @@
+-- The law: in a network both ways as many arcs leave a set as enter it.
 use Rattle.flow_net.proofs.GrowthLemmas.{same_either_way}
 use Rattle.flow_net.proofs.laws.same_either_way.Goals as goal
 

@@ -1,3 +1,4 @@
+-- `append_reversed`: behind the arcs stand the reverses of those passed, and there is room for the others.
 use Rattle.std.proofs.Common.{◌≡◌, ◌+◌, ◌≤◌, ◌++◌, length, map, take, vec_len, vec_capacity}
 use Rattle.flow_net.specs.DerivedNets.{reversed}
 use Rattle.flow_net.proofs.networks.append_reversed.Given as goal

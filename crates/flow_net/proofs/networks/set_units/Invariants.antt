@@ -1,3 +1,4 @@
+-- `set_units`: the arcs passed have a capacity of 1, and those ahead will have it.
 use Rattle.std.proofs.Common.{◌≡◌, ◌++◌, map, take, drop}
 use Rattle.flow_net.specs.DerivedNets.{unit_arc}
 use Rattle.flow_net.proofs.networks.set_units.Given as goal

@@ -1,3 +1,4 @@
+-- `unit`: with capacities of 1 the network keeps its limits.
 use Rattle.flow_net.proofs.KeptLimits.{IsNet-unit}
 use Rattle.flow_net.proofs.networks.Network.unit.Goals as goal
 

@@ -417,6 +417,19 @@ fn begun(source: u32) -> Walker
     }
 }
 
+/// How far the farthest source is from the sinks.
+fn farthest_source(task: Task<'_>, dist: &[u32]) -> u32
+    requires task { IsTask task }
+    requires dist_size { length dist.now ≡ task.packed.net.now.nodes }
+    ensures { (k : ℕ) → k < length task.entry.s.now → slice_index dist.now (slice_index task.entry.s.now k - 1) ≤ result }
+{
+    let mut farthest = 0;
+    for source in task.s {
+        farthest = farthest.max(dist[*source as usize - 1]);
+    }
+    farthest
+}
+
 /// Lets unseen nodes take part as far away as the farthest source, where all sources were seen. Answers how many
 /// half-arcs leave the others.
 fn admit_unseen(task: Task<'_>, dist: &mut [u32]) -> u64
@@ -424,10 +437,7 @@ fn admit_unseen(task: Task<'_>, dist: &mut [u32]) -> u64
     requires dist_size { length dist.old ≡ task.packed.net.now.nodes }
 {
     let packed = task.packed;
-    let mut farthest = 0;
-    for source in task.s {
-        farthest = farthest.max(dist[*source as usize - 1]);
-    }
+    let farthest = farthest_source(task, dist);
     let mut scanned: u64 = 0;
     for place in 0..packed.net.nodes() {
         if dist[place as usize] < WANTED {

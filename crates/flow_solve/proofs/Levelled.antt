@@ -38,8 +38,7 @@ just_off w p n = ap (λ b. cond b 1 0) (ne_eqb w (p + 1) n)
 -- a number stands among the first ones at most once
 just_zero : (w n : ℕ) → n < w → total (is_just w) n ≡ 0
 just_zero w zero l = refl
-just_zero w (suc n) l =
-    omega (arith, just_zero w n (omega arith), just_off w n (omega arith))
+just_zero w (suc n) l = omega (arith, just_zero w n (omega arith), just_off w n (omega arith))
 
 one_step : (b : Bool) (x : ℕ) → x ≡ 0 → x + cond b 1 0 ≤ 1
 one_step b x e = grind arith
@@ -104,19 +103,19 @@ record IsTop (net : Net) (s xs dist : List ℕ) (top : ℕ) : Type 0 where
   far : (v : ℕ) → IsTrue (one_of s v) → IsFalse (seen dist v) → net.nodes ≤ top
 
 -- the search has seen all that it can: far above
-top_whole : (net : Net) (s t xs dist via : List ℕ) → IsSearched net xs Backwards t dist via
+top_whole : {net : Net} {s t xs dist via : List ℕ} → IsSearched net xs Backwards t dist via
     → ((p : ℕ) → p < net.nodes → IsMarked dist p → IsDone net xs Backwards dist p) → IsTop net s xs dist net.nodes
-top_whole net s t xs dist via f done = record {
+top_whole f done = record {
   within = λ p l m. omega (arith, f.levels p l m);
   over = λ p l m. inl (done p l m);
   far = λ v i o. omega arith;
 }
 
 -- it has stopped early, as it has seen all sources: as the last node that it saw
-top_early : (net : Net) (s t xs dist via queue : List ℕ) (tail wanted : ℕ) → IsSearched net xs Backwards t dist via
+top_early : {net : Net} {s t xs dist via queue : List ℕ} {tail wanted : ℕ} → IsSearched net xs Backwards t dist via
     → IsQueue dist queue tail → IsCount s dist wanted → length s ≤ wanted → All (IsNode net) s → 0 < tail
     → IsTop net s xs dist (slice_index dist (slice_index queue (tail - 1)))
-top_early net s t xs dist via queue tail wanted f q c l nodes some = record {
+top_early {s} {dist} {queue} {tail} {wanted} f q c l nodes some = record {
   within = λ p m k. let w = q.waits p (omega (arith, f.size)) k in
       omega (arith, q.rises w.0 (tail - 1) (omega (arith, w.1)) (omega arith), ap (slice_index dist) w.2);
   over = λ p m k. elim (f.even p m k) [
@@ -194,61 +193,11 @@ pub record HasRanks (net : Net) (dist queue rank : List ℕ) (tail : ℕ) : Type
   pub ranked : (i : ℕ) → i < tail → slice_index rank (slice_index queue i) < tail
   pub ranks : (p : ℕ) → p < net.nodes → (slice_index rank p ≡ FAR) ⊎ IsRank queue rank tail p
 
-marked_rank : (net : Net) (dist queue rank : List ℕ) (tail p : ℕ) → IsNet net → HasRanks net dist queue rank tail
-    → p < net.nodes → IsMarked dist p → IsRank queue rank tail p
-marked_rank net dist queue rank tail p n r l m =
-    let w = r.order.waits p (omega (arith, r.dist_size)) m in
-    let low : slice_index rank p < tail = subst (λ q. slice_index rank q < tail) w.2 (r.ranked w.0 w.1) in
-    let short = queue_short dist queue tail r.order in
-    elim (r.ranks p l) [
-      | inl none ↦ absurd (omega (arith, n.nodes_most, r.dist_size))
-      | inr k ↦ k
-    ]
-
 unmarked_rank : (net : Net) (dist queue rank : List ℕ) (tail p : ℕ) → HasRanks net dist queue rank tail → p < net.nodes
     → WANTED ≤ slice_index dist p → slice_index rank p ≡ FAR
 unmarked_rank net dist queue rank tail p r l m = elim (r.ranks p l) [
   | inl none ↦ none
   | inr k ↦ absurd (omega (arith, r.order.marks (slice_index rank p) k.0, ap (slice_index dist) k.1))
-]
-
-ordered_levels : (net : Net) (s xs dist queue rank : List ℕ) (tail top : ℕ) → IsNet net
-    → HasRanks net dist queue rank tail → IsTop net s xs dist top → IsOrdered net (level_of dist top) (cell_of rank)
-ordered_levels net s xs dist queue rank tail top n r b v w i j l = elim (cases_lt (slice_index dist (v - 1)) WANTED) [
-  | inr out ↦
-      absurd (omega (
-        arith,
-        level_unseen dist top v (unmarked_unseen dist v i.0 out),
-        level_most net s xs dist top w r.dist_size b,
-      ))
-  | inl into ↦
-      let k = marked_rank net dist queue rank tail (v - 1) n r (omega (arith, i)) into in
-      let low = level_seen dist top v (seen_marked dist v i.0 (omega (arith, i, r.dist_size)) into) in
-      let at = cell_at rank v i.0 in
-      let to = cell_at rank w j.0 in
-      elim (cases_lt (slice_index dist (w - 1)) WANTED) [
-        | inr far ↦
-            let none = unmarked_rank net dist queue rank tail (w - 1) r (omega (arith, j)) far in
-            let short = queue_short dist queue tail r.order in
-            omega (arith, k.0, none, at, to, r.dist_size, n.nodes_most)
-        | inl near ↦
-            let k' = marked_rank net dist queue rank tail (w - 1) n r (omega (arith, j)) near in
-            let low' = level_seen dist top w (seen_marked dist w j.0 (omega (arith, j, r.dist_size)) near) in
-            elim (cases_lt (slice_index rank (v - 1)) (slice_index rank (w - 1))) [
-              | inl less ↦ omega (arith, less, at, to)
-              | inr more ↦
-                  absurd (omega (
-                    arith,
-                    r.order.rises (slice_index rank (w - 1)) (slice_index rank (v - 1)) more k.0,
-                    ap (slice_index dist) k.1,
-                    ap (slice_index dist) k'.1,
-                    low,
-                    low',
-                    cell_at dist v i.0,
-                    cell_at dist w j.0,
-                  ))
-            ]
-      ]
 ]
 
 -- the sinks are at distance 0, and no others
@@ -268,52 +217,98 @@ sinks_at net t xs dist via f nodes v i =
       (λ e. sink_at net xs t dist via v f i.0 i.1 (omega arith) (omega arith)),
     )
 
-levelled : (net : Net) (s t xs dist via queue rank : List ℕ) (tail top : ℕ) → IsNet net
-    → IsSearched net xs Backwards t dist via → All (IsNode net) t → HasRanks net dist queue rank tail
-    → IsTop net s xs dist top → IsLevelled net s t xs dist rank (level_of dist top)
-levelled net s t xs dist via queue rank tail top n f nodes r b = record {
-  gentle = gentle_levels net s t xs dist via top n f b;
-  ordered = ordered_levels net s xs dist queue rank tail top n r b;
-  sinks = λ v i. let z = zero_sink net t xs dist via v f nodes i in level_seen dist top v z.1 ∙ z.0;
-  near = λ v i. level_seen dist top v i;
-  far = λ v i o. omega (arith, b.far v i o, level_unseen dist top v o);
-}
+-- a queue whose places have their ranks
+module _ {net : Net} {dist queue rank : List ℕ} {tail : ℕ} (n : IsNet net) (r : HasRanks net dist queue rank tail) where
+  marked_rank : (p : ℕ) → p < net.nodes → IsMarked dist p → IsRank queue rank tail p
+  marked_rank p l m =
+      let w = r.order.waits p (omega (arith, r.dist_size)) m in
+      let low : slice_index rank p < tail = subst (λ q. slice_index rank q < tail) w.2 (r.ranked w.0 w.1) in
+      let short = queue_short dist queue tail r.order in
+      elim (r.ranks p l) [
+        | inl none ↦ absurd (omega (arith, n.nodes_most, r.dist_size))
+        | inr k ↦ k
+      ]
 
--- what a search that has seen a source leaves to a phase
-pub levels_found : (net : Net) (s t xs dist via queue rank : List ℕ) (tail wanted enough : ℕ) → IsNet net
-    → IsSearched net xs Backwards t dist via → All (IsNode net) s → All (IsNode net) t → IsCount s dist wanted
-    → (wanted < enough → (p : ℕ) → p < net.nodes → IsMarked dist p → IsDone net xs Backwards dist p)
-    → length s ≤ enough ⊎ net.nodes < enough → wanted ≢ 0 → HasRanks net dist queue rank tail
-    → AreLevels net s t xs dist rank
-levels_found net s t xs dist via queue rank tail wanted enough n f sources sinks c whole all some r =
-    let one = some_seen s dist wanted c (omega (arith, some)) in
-    let up : one.0 + 1 - 1 ≡ one.0 = omega arith in
-    let here = seen_marked dist (one.0 + 1) (omega arith) (omega (arith, one.1))
-    (subst (IsMarked dist) (sym up) one.2) in
-    let first = r.order.waits one.0 one.1 one.2 in
-    record {
-      via = via;
-      searched = f;
-      source = (one.0 + 1, one.3, here);
-      sinks = sinks_at net t xs dist via f sinks;
-      ranked = λ v i. let m = marked_seen dist v i in
-          let k = marked_rank net dist queue rank tail (v - 1) n r (omega (arith, m.0, m.1, r.dist_size)) m.2 in
-          omega (arith, k.0, queue_short dist queue tail r.order, r.dist_size, cell_at rank v m.0);
-      levels = elim (cases_lt wanted enough) [
-        | inl few ↦ (
-          level_of dist net.nodes,
-          levelled net s t xs dist via queue rank tail net.nodes n f sinks r
-              (top_whole net s t xs dist via f (whole few)),
-        )
-        | inr enough' ↦ (
-          level_of dist (slice_index dist (slice_index queue (tail - 1))),
-          levelled net s t xs dist via queue rank tail (slice_index dist (slice_index queue (tail - 1))) n f sinks r
-              (top_early net s t xs dist via queue tail wanted f r.order c (as_many all enough') sources
-              (omega (arith, first.1))),
-        )
-      ];
-    }
-  where
-    as_many : length s ≤ enough ⊎ net.nodes < enough → enough ≤ wanted → length s ≤ wanted
-    as_many (inl l) m = omega arith
-    as_many (inr l) m = absurd (omega (arith, wanted_few s dist wanted c, r.dist_size))
+  ordered_levels : {s xs : List ℕ} {top : ℕ} → IsTop net s xs dist top
+      → IsOrdered net (level_of dist top) (cell_of rank)
+  ordered_levels {s} {xs} {top} b v w i j l = elim (cases_lt (slice_index dist (v - 1)) WANTED) [
+    | inr out ↦
+        absurd (omega (
+          arith,
+          level_unseen dist top v (unmarked_unseen dist v i.0 out),
+          level_most net s xs dist top w r.dist_size b,
+        ))
+    | inl into ↦
+        let k = marked_rank (v - 1) (omega (arith, i)) into in
+        let low = level_seen dist top v (seen_marked dist v i.0 (omega (arith, i, r.dist_size)) into) in
+        let at = cell_at rank v i.0 in
+        let to = cell_at rank w j.0 in
+        elim (cases_lt (slice_index dist (w - 1)) WANTED) [
+          | inr far ↦
+              let none = unmarked_rank net dist queue rank tail (w - 1) r (omega (arith, j)) far in
+              let short = queue_short dist queue tail r.order in
+              omega (arith, k.0, none, at, to, r.dist_size, n.nodes_most)
+          | inl near ↦
+              let k' = marked_rank (w - 1) (omega (arith, j)) near in
+              let low' = level_seen dist top w (seen_marked dist w j.0 (omega (arith, j, r.dist_size)) near) in
+              elim (cases_lt (slice_index rank (v - 1)) (slice_index rank (w - 1))) [
+                | inl less ↦ omega (arith, less, at, to)
+                | inr more ↦
+                    absurd (omega (
+                      arith,
+                      r.order.rises (slice_index rank (w - 1)) (slice_index rank (v - 1)) more k.0,
+                      ap (slice_index dist) k.1,
+                      ap (slice_index dist) k'.1,
+                      low,
+                      low',
+                      cell_at dist v i.0,
+                      cell_at dist w j.0,
+                    ))
+              ]
+        ]
+  ]
+
+  levelled : {s t xs via : List ℕ} {top : ℕ} → IsSearched net xs Backwards t dist via → All (IsNode net) t
+      → IsTop net s xs dist top → IsLevelled net s t xs dist rank (level_of dist top)
+  levelled {s} {t} {xs} {via} {top} f nodes b = record {
+    gentle = gentle_levels net s t xs dist via top n f b;
+    ordered = ordered_levels b;
+    sinks = λ v i. let z = zero_sink net t xs dist via v f nodes i in level_seen dist top v z.1 ∙ z.0;
+    near = λ v i. level_seen dist top v i;
+    far = λ v i o. omega (arith, b.far v i o, level_unseen dist top v o);
+  }
+
+  -- what a search that has seen a source leaves to a phase
+  pub levels_found : {s t xs via : List ℕ} {wanted : ℕ} (enough : ℕ) → IsSearched net xs Backwards t dist via
+      → All (IsNode net) s → All (IsNode net) t → IsCount s dist wanted
+      → (wanted < enough → (p : ℕ) → p < net.nodes → IsMarked dist p → IsDone net xs Backwards dist p)
+      → length s ≤ enough ⊎ net.nodes < enough → wanted ≢ 0 → AreLevels net s t xs dist rank
+  levels_found {s} {t} {xs} {via} {wanted} enough f sources sinks c whole all some =
+      let one = some_seen s dist wanted c (omega (arith, some)) in
+      let up : one.0 + 1 - 1 ≡ one.0 = omega arith in
+      let here = seen_marked dist (one.0 + 1) (omega arith) (omega (arith, one.1))
+      (subst (IsMarked dist) (sym up) one.2) in
+      let first = r.order.waits one.0 one.1 one.2 in
+      record {
+        via = via;
+        searched = f;
+        source = (one.0 + 1, one.3, here);
+        sinks = sinks_at net t xs dist via f sinks;
+        ranked = λ v i. let m = marked_seen dist v i in
+            let k = marked_rank (v - 1) (omega (arith, m.0, m.1, r.dist_size)) m.2 in
+            omega (arith, k.0, queue_short dist queue tail r.order, r.dist_size, cell_at rank v m.0);
+        levels = elim (cases_lt wanted enough) [
+          | inl few ↦ (
+            level_of dist net.nodes,
+            levelled f sinks (top_whole f (whole few)),
+          )
+          | inr enough' ↦ (
+            level_of dist (slice_index dist (slice_index queue (tail - 1))),
+            levelled f sinks (top_early f r.order c (as_many all enough') sources (omega (arith, first.1))),
+          )
+        ];
+      }
+    where
+      as_many : length s ≤ enough ⊎ net.nodes < enough → enough ≤ wanted → length s ≤ wanted
+      as_many (inl l) m = omega arith
+      as_many (inr l) m = absurd (omega (arith, wanted_few s dist wanted c, r.dist_size))

@@ -32,8 +32,7 @@ go_back-lifted-requires-clause-fits c =
 pub go_back-lifted-requires-clause-halves : goal.go_back-lifted-requires-clause-halves
 go_back-lifted-requires-clause-halves c =
     let task = c.args.ranked.task in let walk = c.args.lifted.now.walk in
-    augmenting_at task.packed.net.now task.s.now task.t.now c.args.flow.now.flows c.args.trail.now walk.depth walk.least
-    (omega (arith, c.requires.most, c.requires.size)) c.requires.path
+    augmenting_at c.args.trail.now walk.depth (omega (arith, c.requires.most, c.requires.size)) c.requires.path
 
 pub returns-clause-flow : goal.returns-clause-flow
 returns-clause-flow c =
@@ -48,7 +47,5 @@ returns-clause-flow c =
 pub returns-clause-least : goal.returns-clause-least
 returns-clause-least c = λ e.
     let task = c.args.ranked.task in let walk = c.args.lifted.now.walk in let back = c.go_back-lifted.ensures in
-    knows_pushed task.packed.net.now task.s.now task.t.now c.args.flow.now.flows c.go_back-lifted.new.flow.flows
-    c.push_over.new.flow.flows c.args.trail.now walk c.go_back-lifted.result
-    (omega (arith, c.requires.flow.feasible.fits.count)) (omega (arith, c.requires.most, c.requires.size))
+    knows_pushed (omega (arith, c.requires.flow.feasible.fits.count)) (omega (arith, c.requires.most, c.requires.size))
     c.requires.path c.push_over.ensures.flows back.looks.flows c.requires.least back.back.shorter back.least

@@ -10,14 +10,12 @@ returns-clause-least c = λ xs k r.
     elim c.if-step-walk.branch [
       | then-step-walk w ↦
           rw (w.place-is, c.nodes-n.ensures.nodes)
-          (knows_last net xs trail walk
-          (record { source = walk.source; node = step.head; depth = walk.depth + 1; least = step.room })
-          step.half walk.depth step.room c.requires.size c.requires.depth k refl r
+          (knows_last (record { source = walk.source; node = step.head; depth = walk.depth + 1; least = step.room })
+          step.half walk.depth c.requires.size c.requires.depth k refl step.room r
           (λ s. omega (arith, s, w.if-step-walk.either)) refl refl)
       | else-step-walk w ↦
           rw (w.place-is, c.nodes-n.ensures.nodes)
-          (knows_before net xs trail walk
-          (record { source = walk.source; node = step.head; depth = walk.depth + 1; least = walk.least })
-          step.half (get_or trail (net.nodes + (walk.depth - 1)) 0) step.room c.requires.size c.requires.depth k refl r
+          (knows_before (record { source = walk.source; node = step.head; depth = walk.depth + 1; least = walk.least })
+          step.half (get_or trail (net.nodes + (walk.depth - 1)) 0) c.requires.size c.requires.depth k refl step.room r
           (omega (arith, w.if-step-walk.false)) (omega (arith, w.if-step-walk.false)) refl refl)
     ]

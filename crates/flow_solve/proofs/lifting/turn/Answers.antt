@@ -22,29 +22,27 @@ augment-requires-clause-path c =
 
 pub returns-then-is_sink-clause-walk : goal.returns-then-is_sink-clause-walk
 returns-then-is_sink-clause-walk c = λ e.
-    under_way_back c.args.ranked c.args.dist.now c.args.trail.now c.args.lifted.now.walk c.augment.new.lifted.walk
-    c.nodes.ensures.is_net c.requires.trail_size c.requires.walk (c.augment.ensures.back e)
+    under_way_back c.nodes.ensures.is_net c.requires.trail_size c.requires.walk (c.augment.ensures.back e)
 
 -- the turn that goes on
 pub returns-in-Some-clause-walk : goal.returns-in-Some-clause-walk
 returns-in-Some-clause-walk c = λ e.
     let on = c.go_on-lifted.ensures in
-    under_way_on c.args.ranked c.args.dist.now c.args.flow.now.flows c.args.trail.now c.go_on-lifted.new.trail
-    c.args.lifted.now.walk c.go_on-lifted.result c.in-Some.step c.requires.walk c.in-Some.ensures.step
-    (omega (arith, c.if-walk-nodes.false, c.nodes-in-Some.ensures.nodes)) on.source on.node on.depth on.path
+    under_way_on c.requires.walk c.in-Some.ensures.step (omega (
+      arith,
+      c.if-walk-nodes.false,
+      c.nodes-in-Some.ensures.nodes,
+    )) on.source on.node on.depth on.path
 
 -- the turn that goes back
 pub go_back-lifted-requires-clause-halves : goal.go_back-lifted-requires-clause-halves
-go_back-lifted-requires-clause-halves c =
-    under_way_halves c.args.ranked c.args.dist.now c.args.trail.now c.args.lifted.now.walk c.requires.trail_size
-    c.requires.walk
+go_back-lifted-requires-clause-halves c = under_way_halves c.requires.trail_size c.requires.walk
 
 pub returns-clause-walk : goal.returns-clause-walk
 returns-clause-walk c = λ e.
     let back = c.go_back-lifted.ensures in
-    under_way_lifted c.args.ranked c.args.dist.now c.lift-again.new.dist c.args.trail.now c.args.lifted.now.walk
-    c.go_back-lifted.result c.nodes.ensures.is_net c.requires.trail_size c.lift-again.ensures.others
-    (omega (arith, back.depth, c.if-walk-eq0.false)) c.requires.walk back.back
+    under_way_lifted c.nodes.ensures.is_net c.requires.trail_size c.requires.walk back.back c.lift-again.new.dist
+    c.lift-again.ensures.others (omega (arith, back.depth, c.if-walk-eq0.false))
 
 pub returns-clause-least : goal.returns-clause-least
 returns-clause-least c = λ e.

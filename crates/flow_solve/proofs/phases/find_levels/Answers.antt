@@ -28,23 +28,17 @@ returns-clause-levels c = λ e.
     let plan = c.args.plan in
     let net = plan.packed.net.now in
     let dist = c.search-progress.new.dist in let flows = c.args.flow.now.flows in
-    levels_found net plan.until.now plan.starts.now flows dist
-    c.search-progress.new.via c.search-progress.new.queue c.rank_all.new.rank
-    c.search-progress.result.seen c.search-progress.result.wanted plan.enough c.nodes.ensures.is_net
-    (subst (λ (dir : Direction). IsSearched net flows dir plan.starts.now dist c.search-progress.new.via)
-    c.requires.backwards found.searched)
-    c.requires.terminals.sources_within c.requires.terminals.sinks_within found.count
-    (subst
-    (λ (dir : Direction). c.search-progress.result.wanted < plan.enough
-    → (p : ℕ) → p < net.nodes → IsMarked dist p → IsDone net flows dir dist p)
-    c.requires.backwards found.whole)
-    (elim (cases_lt net.nodes plan.enough) [
-      | inl l ↦ inr l
-      | inr l ↦ inl (omega (arith, l, c.requires.enough, c.nodes.ensures.is_net.nodes_most))
-    ])
-    c.if-progress-eq0.false (record {
+    levels_found c.nodes.ensures.is_net (record {
       order = found.queue;
       dist_size = found.searched.size;
       ranked = ranks.ranked;
       ranks = λ p l. ranks.ranks p (omega (arith, l, c.requires.cells.via_size));
-    })
+    }) plan.enough (subst (λ (dir : Direction). IsSearched net flows dir plan.starts.now dist c.search-progress.new.via)
+    c.requires.backwards found.searched) c.requires.terminals.sources_within c.requires.terminals.sinks_within
+    found.count (subst
+    (λ (dir : Direction). c.search-progress.result.wanted < plan.enough
+    → (p : ℕ) → p < net.nodes → IsMarked dist p → IsDone net flows dir dist p)
+    c.requires.backwards found.whole) (elim (cases_lt net.nodes plan.enough) [
+      | inl l ↦ inr l
+      | inr l ↦ inl (omega (arith, l, c.requires.enough, c.nodes.ensures.is_net.nodes_most))
+    ]) c.if-progress-eq0.false

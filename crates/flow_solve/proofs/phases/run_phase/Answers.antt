@@ -17,18 +17,13 @@ walk_all-requires-clause-phase c =
 pub returns-clause-few : goal.returns-clause-few
 returns-clause-few c = λ j far.
     let l = c.requires.levels in
-    far_few c.args.phase.packed.net.now c.args.phase.s.now c.args.phase.t.now c.args.flow.now.flows
-    c.args.phase.dist.now l.via j l.source.0 far l.searched l.source.1 l.source.2
+    far_few c.args.phase.s.now j l.source.0 far l.searched l.source.1 l.source.2
 
 pub returns-clause-far : goal.returns-clause-far
 returns-clause-far c = λ j far.
     let l = c.requires.levels in let now = c.walk_all.ensures in let net = c.args.phase.packed.net.now in
     let level = l.levels.0 in let slope = l.levels.1 in
-    far_phase net c.args.phase.s.now c.args.phase.t.now c.args.flow.now.flows c.args.phase.dist.now l.via level
-    (cell_of c.args.phase.rank.now) (place_of c.args.phase.packed.halves.now) (cell_of c.walk_all.new.current)
-    c.walk_all.new.flow.flows j c.nodes-n.ensures.is_net far l.searched
-    (far_few net c.args.phase.s.now c.args.phase.t.now c.args.flow.now.flows c.args.phase.dist.now l.via j l.source.0
-    far l.searched l.source.1 l.source.2) (record {
+    far_phase c.nodes-n.ensures.is_net (record {
       gentle = now.gentle level slope.ordered slope.gentle;
       ordered = slope.ordered;
       sinks = slope.sinks;
@@ -36,7 +31,8 @@ returns-clause-far c = λ j far.
       near = slope.near;
       far = slope.far;
       dead = now.dead;
-    })
+    }) c.args.flow.now.flows l.via j far l.searched (far_few c.args.phase.s.now j l.source.0 far l.searched l.source.1
+    l.source.2)
 
 pub returns-clause-steps : goal.returns-clause-steps
 returns-clause-steps c =

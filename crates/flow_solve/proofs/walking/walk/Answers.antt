@@ -21,22 +21,22 @@ augment-done-requires-clause-some c =
     c.requires.run.sinks w.node c.if-phase-node-eq0.true in
     omega (
       arith,
-      some_path _ _ _ _ _ _ _ _ _ _ _ _ _ _ _ c.requires.run.terminals c.requires.source sink w,
+      some_path w c.requires.run.terminals c.requires.source sink,
       length-take-le c.turns.depth c.turns.path (omega (arith, w.short, w.path_size)),
     )
 
 pub augment-done-requires-clause-apart : goal.augment-done-requires-clause-apart
-augment-done-requires-clause-apart c = turning_apart _ _ _ _ _ _ _ _ _ _ _ _ _ _ _ c.turns.invariant.turning
+augment-done-requires-clause-apart c = turning_apart c.turns.invariant.turning
 
 -- the turn that augments
 pub overflow_add-raised : goal.overflow_add-raised
 overflow_add-raised c =
     let net = c.args.phase.packed.net.now in let s = one_of c.args.phase.s.now in let t = one_of c.args.phase.t.now in
-    let p = (turning_augment _ _ _ _ _ _ _ _ _ _ _ _ _ _ _ c.augment-done.result.amount c.augment-done.result.depth
+    let p = (turning_augment c.turns.invariant.turning c.augment-done.result.amount c.augment-done.result.depth
     c.nodes.ensures.is_net c.requires.run.terminals c.requires.source
     (sink_here c.args.phase.packed.net.now c.args.phase.t.now c.args.phase.dist.now c.turns.node
-    c.requires.run.sinks c.turns.invariant.turning.node c.if-phase-node-eq0.true)
-    c.turns.invariant.turning c.augment-done.ensures.filling).phase in
+    c.requires.run.sinks c.turns.invariant.turning.node c.if-phase-node-eq0.true) c.augment-done.ensures.filling).phase
+    in
     let most = value_most net (one_of c.args.phase.s.now) (one_of c.args.phase.t.now) _
     (c.turns.raised + c.augment-done.result.amount) c.nodes.ensures.is_net
     (terminals_apart net c.args.phase.s.now c.args.phase.t.now c.requires.run.terminals) p.feasible p.value in
@@ -48,8 +48,8 @@ turns-smaller-then-phase-node-eq0 c =
     let net = c.args.phase.packed.net.now in
     let halves = c.args.phase.packed.halves.now in
     let rank = c.args.phase.rank.now in
-    let less = to_go_fill _ _ _ _ _ _ _ _ _ _ _ _ _ _ _ c.augment-done.result.amount c.augment-done.result.depth
-    c.turns.invariant.turning c.augment-done.ensures.filling in
+    let less = to_go_fill c.turns.invariant.turning c.augment-done.result.amount c.augment-done.result.depth
+    c.augment-done.ensures.filling in
     subst (λ (ys : List ℕ). to_go net halves rank c.turns.current ys c.augment-done.result.depth
     < to_go net halves rank c.turns.current c.turns.flow.flows c.turns.depth) (sym c.augment-done.ensures.flows) less
 
@@ -62,19 +62,16 @@ turns-preserved-then-phase-node-eq0 c =
     let tail = c.augment-done.ensures.tail ∙ ap (tail_of net) lead in
     record {
       turning =
-          turning_as _ _ _ _ _ _ _ _ _ _ c.augment-done.new.flow.flows _ _ c.augment-done.result.node _ _
-          (c.turns.raised + c.from-raised.result) _ _ c.augment-done.new.flow.steps refl c.augment-done.ensures.flows
-          tail (ap (λ z. c.turns.raised + z) c.from-raised.ensures)
-          (omega (arith, c.augment-done.ensures.steps, long))
-          (turning_augment _ _ _ _ _ _ _ _ _ _ _ _ _ _ _ c.augment-done.result.amount c.augment-done.result.depth
+          turning_as (turning_augment c.turns.invariant.turning c.augment-done.result.amount c.augment-done.result.depth
           c.nodes.ensures.is_net c.requires.run.terminals c.requires.source
           (sink_here c.args.phase.packed.net.now c.args.phase.t.now c.args.phase.dist.now c.turns.node
-          c.requires.run.sinks c.turns.invariant.turning.node c.if-phase-node-eq0.true)
-          c.turns.invariant.turning c.augment-done.ensures.filling);
+          c.requires.run.sinks c.turns.invariant.turning.node c.if-phase-node-eq0.true) c.augment-done.ensures.filling)
+          refl c.augment-done.ensures.flows tail (ap (λ z. c.turns.raised + z) c.from-raised.ensures)
+          (omega (arith, c.augment-done.ensures.steps, long));
       gentle = λ level o g.
           subst (λ (ys : List ℕ). IsGentle net ys level) (sym c.augment-done.ensures.flows)
-          (turning_gentle _ _ _ _ _ _ _ _ _ _ _ _ _ _ _ c.augment-done.result.amount level c.nodes.ensures.is_net
-          old.turning o (old.gentle level o g));
+          (turning_gentle old.turning c.augment-done.result.amount level c.nodes.ensures.is_net o
+          (old.gentle level o g));
       risen = old.risen;
       never_lowered = omega (arith, old.never_lowered, c.augment-done.ensures.steps);
     }
@@ -93,13 +90,10 @@ turns-smaller-in-Some c =
 pub turns-preserved-in-Some : goal.turns-preserved-in-Some
 turns-preserved-in-Some c =
     let old = c.turns.invariant in let net = c.args.phase.packed.net.now in let found = c.in-Some.ensures in
-    let on = turning_advance _ _ _ _ _ _ _ c.admissible.new.current _ _ _ _ _ _ _ _ c.admissible.new.flow.steps
-    c.in-Some.half c.nodes.ensures.is_net c.requires.ranked old.turning c.admissible.ensures.looked found.some
-    found.steps_some in
+    let on = turning_advance old.turning c.admissible.new.flow.steps c.in-Some.half c.nodes.ensures.is_net
+    c.requires.ranked c.admissible.ensures.looked found.some found.steps_some in
     record {
-      turning =
-          turning_as _ _ _ _ _ _ _ _ _ _ c.admissible.new.flow.flows _ _ c.head-node.result _ _ c.turns.raised _ _
-          c.admissible.new.flow.steps refl found.flows c.head-node.ensures.head refl refl on;
+      turning = turning_as on refl found.flows c.head-node.ensures.head refl refl;
       gentle = λ level o g. subst (λ (ys : List ℕ). IsGentle net ys level) (sym found.flows) (old.gentle level o g);
       risen = λ v.
           omega (
@@ -115,16 +109,14 @@ returns-then-depth-eq0-clause-phase c =
     subst (λ (ys : List ℕ). IsInPhase c.args.phase.packed.net.now c.args.phase.s.now c.args.phase.t.now
     c.args.phase.packed.first.now c.args.phase.packed.halves.now c.args.phase.rank.now c.admissible.new.current ys
     c.turns.raised) (sym c.admissible.ensures.flows)
-    (looked_phase c.args.phase.packed.net.now c.args.phase.s.now c.args.phase.t.now c.args.phase.packed.first.now
-    c.args.phase.packed.halves.now c.args.phase.rank.now c.turns.current c.admissible.new.current
-    c.turns.flow.flows c.turns.node c.turns.raised c.admissible.ensures.looked c.turns.invariant.turning.phase)
+    (looked_phase c.admissible.ensures.looked c.turns.invariant.turning.phase)
 
 pub returns-then-depth-eq0-clause-dead : goal.returns-then-depth-eq0-clause-dead
 returns-then-depth-eq0-clause-dead c =
     let w = c.turns.invariant.turning in let net = c.args.phase.packed.net.now in
     let inner = no_sink_here net c.args.phase.t.now c.args.phase.dist.now c.turns.node c.requires.run.sinks w.node
     c.if-phase-node-eq0.false in
-    let same = at_source _ _ _ _ _ _ _ _ _ _ _ _ _ _ _ c.if-depth-eq0.true w in
+    let same = at_source w c.if-depth-eq0.true in
     subst (λ (v : ℕ). IsDead net (one_of c.args.phase.t.now) (place_of c.args.phase.packed.halves.now)
     (cell_of c.admissible.new.current) v) (sym same)
     (dead_here net c.args.phase.t.now c.args.phase.packed.first.now c.args.phase.packed.halves.now
@@ -141,17 +133,14 @@ returns-then-depth-eq0-clause-steps c =
     let net = c.args.phase.packed.net.now in
     let halves = c.args.phase.packed.halves.now in
     let rank = c.args.phase.rank.now in
-    let paid = turning_end _ _ _ _ _ _ _ c.admissible.new.current _ _ _ _ _ _ _ _ c.admissible.new.flow.steps
-    c.if-depth-eq0.true c.turns.invariant.turning c.admissible.ensures.looked
-    (omega (arith, c.in_default.ensures.steps_none)) in
+    let paid = turning_end c.turns.invariant.turning c.admissible.new.flow.steps c.if-depth-eq0.true
+    c.admissible.ensures.looked (omega (arith, c.in_default.ensures.steps_none)) in
     subst (λ (ys : List ℕ). c.admissible.new.flow.steps + owed net halves rank c.admissible.new.current ys
     ≤ c.args.flow.now.steps + owed net halves rank c.args.current.now c.args.flow.now.flows)
     (sym c.admissible.ensures.flows) paid
 
 pub tail-node-requires : goal.tail-node-requires
-tail-node-requires c =
-    half_on _ _ _ _ _ _ _ _ _ _ _ c.turns.depth _ _ _ (c.turns.depth - 1) (omega (arith, c.if-depth-eq0.false))
-    c.turns.invariant.turning
+tail-node-requires c = half_on c.turns.invariant.turning (c.turns.depth - 1) (omega (arith, c.if-depth-eq0.false))
 
 pub overflow_add-current : goal.overflow_add-current
 overflow_add-current c =
@@ -167,9 +156,8 @@ turns-smaller c =
     let net = c.args.phase.packed.net.now in
     let halves = c.args.phase.packed.halves.now in
     let rank = c.args.phase.rank.now in
-    let less = to_go_pass _ _ _ _ _ _ _ c.admissible.new.current _ _ _ _ c.turns.depth _ _ _ (c.turns.depth - 1)
-    (omega (arith, c.if-depth-eq0.false)) c.nodes.ensures.is_net c.turns.invariant.turning
-    c.admissible.ensures.looked in
+    let less = to_go_pass c.turns.invariant.turning (c.turns.depth - 1) (omega (arith, c.if-depth-eq0.false))
+    c.nodes.ensures.is_net c.admissible.ensures.looked in
     subst (λ (zs : List ℕ). to_go net halves rank zs c.admissible.new.flow.flows (c.turns.depth - 1)
     < to_go net halves rank c.turns.current c.turns.flow.flows c.turns.depth)
     (sym (stepped c.admissible.new.current c.tail-node.result c.tail-node.ensures.node.0
@@ -186,21 +174,19 @@ turns-preserved c =
     let old = c.turns.invariant in let net = c.args.phase.packed.net.now in let found = c.admissible.ensures in
     let inner = no_sink_here net c.args.phase.t.now c.args.phase.dist.now c.turns.node c.requires.run.sinks
     old.turning.node c.if-phase-node-eq0.false in
-    let back = turning_retreat _ _ _ _ _ _ _ c.admissible.new.current _ _ _ _ c.turns.depth _ _ _
-    c.admissible.new.flow.steps (c.turns.depth - 1) (omega (arith, c.if-depth-eq0.false)) c.nodes.ensures.is_net
-    c.requires.run.packed inner old.turning c.admissible.ensures.looked c.in_default.ensures.none
-    (omega (arith, c.in_default.ensures.steps_none)) in
+    let back = turning_retreat old.turning c.admissible.new.flow.steps (c.turns.depth - 1)
+    (omega (arith, c.if-depth-eq0.false)) c.nodes.ensures.is_net c.requires.run.packed inner c.admissible.ensures.looked
+    c.in_default.ensures.none (omega (arith, c.in_default.ensures.steps_none)) in
     let node = c.tail-node.ensures.node in
     let y = c.tail-node.result in
     let o = set_next c.admissible.new.current c.tail-node.result node.0 (omega (arith, node, found.looked.size)) in
     let same = stepped c.admissible.new.current c.tail-node.result node.0 in
     record {
       turning =
-          turning_as _ _ _ _ _ _ _ _ _ _ c.admissible.new.flow.flows _ _ c.tail-node.result _ _ c.turns.raised _ _
-          c.admissible.new.flow.steps (stepped c.admissible.new.current c.tail-node.result c.tail-node.ensures.node.0
+          turning_as back (stepped c.admissible.new.current c.tail-node.result c.tail-node.ensures.node.0
           ∙ ap (λ (z : ℕ). set c.admissible.new.current (z - 1)
-          (cell_of c.admissible.new.current z + 1)) c.tail-node.ensures.tail)
-          found.flows c.tail-node.ensures.tail refl refl back;
+          (cell_of c.admissible.new.current z + 1)) c.tail-node.ensures.tail) found.flows c.tail-node.ensures.tail refl
+          refl;
       gentle = λ level o g. subst (λ (ys : List ℕ). IsGentle net ys level) (sym found.flows) (old.gentle level o g);
       risen = λ v. omega (
         arith,

@@ -1,18 +1,18 @@
 -- An early fault is the fault of every text that goes on from there.
-use Rattle.std.proofs.Common.{◌≡◌, ◌<◌, ℕ, ◌+◌, true, false, List, [], ◌∷◌, ◌++◌, length, refl, ap, ◌∙◌, sym, arith}
-use Rattle.std.proofs.Common.{inl, inr, append-nil, length-append, Option, Some, None, Err, nat_lt, rules as std_rules}
+use Rattle.std.proofs.Common.{◌≡◌, ◌<◌, ℕ, ◌+◌, false, List, [], ◌∷◌, ◌++◌, length, refl, ap, ◌∙◌, sym, arith}
+use Rattle.std.proofs.Common.{inl, inr, append-nil, length-append, Option, Some, None, Err}
 use Rattle.std.proofs.lemmas.Bool.{cases_Bool, cases_lt}
 use Rattle.std.specs.List.{slice_split, onto_first}
 use Rattle.std.proofs.lemmas.List.Splits.{slice_split-cons_no, length-slice_split}
 use Rattle.std.proofs.lemmas.List.Elements.{All-head, All-tail}
 use Rattle.flow_text.specs.Lines.{ended, rest, lines}
 use Rattle.flow_text.specs.LineParts.{front, last_part, is_end, HasNoEnd}
-use Rattle.flow_text.specs.Rules.{Rules, first_fault, early_fault, whole_fault, at_line, is_comment, unended_fault}
+use Rattle.flow_text.specs.Rules.{Rules, first_fault, early_fault, whole_fault, at_line, is_comment, length_fault}
 use Rattle.flow_text.specs.Reading.{told, accepted}
 use Rattle.flow_text.specs.declared.faults.FaultCode.{FaultCode}
 use Rattle.flow_text.specs.declared.faults.FaultCode.TheVariants.{LineTooLong}
 use Rattle.flow_text.proofs.LineLemmas.{front-cons, rest_is, ended-append, rest-append}
-use Rattle.flow_text.proofs.RuleLemmas.{of_long}
+use Rattle.flow_text.proofs.RuleLemmas.{of_long, length_fault-long, length_fault-short}
 use Rattle.flow_text.proofs.FaultLemmas.{first_fault-append, first_fault-push}
 use Rattle.flow_text.proofs.ReaderLemmas.{comment-append}
 use Rattle.flow_text.proofs.EndLemmas.{lines-some, lines-none, closes-fault}
@@ -46,20 +46,14 @@ long-more : (r l : List ℕ) → is_comment r ≡ false → LONGEST_LINE < lengt
     → (is_comment (r ++ l) ≡ false) × (LONGEST_LINE < length (r ++ l))
 long-more r l plain long = (comment-append r l (omega arith) ∙ plain, omega (arith, length-append r l))
 
-unended-long : (r : List ℕ) → is_comment r ≡ false → LONGEST_LINE < length r → unended_fault r ≡ Some LineTooLong
-unended-long r plain long =
-    let is : nat_lt LONGEST_LINE (length r) ≡ true = search (std_rules, arith) in
-    rw (plain, is) refl
-
-unended-is : (r : List ℕ) (code : FaultCode) → unended_fault r ≡ Some code
+length_fault-is : (r : List ℕ) (code : FaultCode) → length_fault r ≡ Some code
     → (is_comment r ≡ false) × (LONGEST_LINE < length r) × (code ≡ LineTooLong)
-unended-is r code h = elim (cases_Bool (is_comment r)) [
+length_fault-is r code h = elim (cases_Bool (is_comment r)) [
   | inl yes' ↦ let no' : ◌≡◌ {A = Option FaultCode} None (Some code) = rw (yes') at h in cc
   | inr no' ↦ elim (cases_lt LONGEST_LINE (length r)) [
-    | inl long ↦ let e = sym (unended-long r no' long) ∙ h in (no', long, cc)
+    | inl long ↦ let e = sym (length_fault-long r no' long) ∙ h in (no', long, cc)
     | inr short ↦
-        let is : nat_lt LONGEST_LINE (length r) ≡ false = search (std_rules, arith) in
-        let none : ◌≡◌ {A = Option FaultCode} None (Some code) = rw (no', is) at h in cc
+        let none : ◌≡◌ {A = Option FaultCode} None (Some code) = sym (length_fault-short r no' (omega arith)) ∙ h in cc
   ]
 ]
 
@@ -80,7 +74,7 @@ too_long_in rules known_of b x l [] is plain long fine =
       rest_is',
       append-nil (ended b),
       fine,
-      unended-long (rest b ++ l) after.0 after.1,
+      length_fault-long (rest b ++ l) after.0 after.1,
     ) refl
 too_long_in rules known_of b x l (next ∷ parts) is plain long fine =
     let after = long-more (rest b) l plain long in
@@ -107,11 +101,11 @@ pub record Unended (b : List ℕ) (fault : ℕ × FaultCode) : Type 0 where
   pub long : LONGEST_LINE < length (rest b)
   pub is : (told (length (ended b) + 1), LineTooLong) ≡ fault
 
-unended_from : (b : List ℕ) (fault : ℕ × FaultCode) (u : Option FaultCode) → unended_fault (rest b) ≡ u
+unended_from : (b : List ℕ) (fault : ℕ × FaultCode) (u : Option FaultCode) → length_fault (rest b) ≡ u
     → at_line (length (ended b) + 1) u ≡ Some fault → Unended b fault
 unended_from b fault None is h = cc
 unended_from b fault (Some code) is h =
-    let u = unended-is (rest b) code is in
+    let u = length_fault-is (rest b) code is in
     let same : (told (length (ended b) + 1), code) ≡ fault = cc in
     record { plain = u.0; long = u.1; is = ap (λ (c : FaultCode). (told (length (ended b) + 1), c)) (sym u.2) ∙ same }
 

@@ -4,7 +4,7 @@ use Rattle.std.proofs.Common.{Option, Some, None}
 use Rattle.std.specs.Option.{option_or}
 use Rattle.flow_text.specs.Lines.{ended, rest}
 use Rattle.flow_text.specs.LineParts.{HasNoEnd}
-use Rattle.flow_text.specs.Rules.{Rules, fault_of, first_fault, early_fault, at_line, unended_fault}
+use Rattle.flow_text.specs.Rules.{Rules, fault_of, first_fault, early_fault, at_line, length_fault}
 use Rattle.flow_text.specs.Reading.{told}
 use Rattle.flow_text.specs.declared.faults.FaultCode.{FaultCode}
 use Rattle.flow_text.proofs.LineLemmas.{ended_within, rest_within, ended_by, rest_by, ended-append}
@@ -47,7 +47,7 @@ or_parts (Some x) b h = cc
 pub early-parts : {K : Type 0} (rules : Rules K) (known_of : List (List ℕ) → K) (b : List ℕ)
     → early_fault rules known_of b ≡ None
     → (first_fault rules known_of [] (ended b) ≡ None)
-    × (at_line (length (ended b) + 1) (unended_fault (rest b)) ≡ None)
+    × (at_line (length (ended b) + 1) (length_fault (rest b)) ≡ None)
 unfolding early_fault
 early-parts rules known_of b h = or_parts _ _ h
 
@@ -85,7 +85,7 @@ early-fault rules known_of b tail more code none fine judged =
 -- a line that goes on
 pub early-within : {K : Type 0} (rules : Rules K) (known_of : List (List ℕ) → K) (b tail : List ℕ) → HasNoEnd tail
     → early_fault rules known_of b ≡ None
-    → early_fault rules known_of (b ++ tail) ≡ at_line (length (ended b) + 1) (unended_fault (rest b ++ tail))
+    → early_fault rules known_of (b ++ tail) ≡ at_line (length (ended b) + 1) (length_fault (rest b ++ tail))
 unfolding early_fault
 early-within rules known_of b tail none fine =
     rw (ended_within b tail none, rest_within b tail none, (early-parts rules known_of b fine).0) refl

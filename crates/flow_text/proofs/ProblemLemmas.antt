@@ -1,16 +1,19 @@
 -- The fault of a problem's line and what it adds, by its fields.
-use Rattle.std.proofs.Common.{◌≡◌, ◌<◌, ℕ, Bool, true, false, cond, not, ◌&&◌, ◌||◌, List, [], ◌∷◌, ◌++◌, length, refl}
-use Rattle.std.proofs.Common.{ap, ◌∙◌, sym, arith, Option, Some, None, nat_lt, nat_le, take, rules as std_rules}
+use Rattle.std.proofs.Common.{◌≡◌, ◌<◌, ℕ, Bool, true, false, List, [], ◌∷◌, ◌++◌, length, refl}
+use Rattle.std.proofs.Common.{ap, ◌∙◌, sym, arith, Option, Some, None, nat_le, take, rules as std_rules}
 use Rattle.std.proofs.lemmas.Grind.{common_steps}
 use Rattle.std.specs.Str.{bytes_eq}
-use Rattle.std.specs.Prelude.{codes}
+use Rattle.std.specs.Prelude.{codes, if◌then◌else◌}
+use Rattle.std.proofs.Common.{map, ◌==◌, inl, inr}
+use Rattle.std.proofs.lemmas.Bool.{cases_Bool}
+use Rattle.std.proofs.lemmas.List.{map-append}
 use Rattle.std.proofs.lemmas.List.Elements.{All-append, All-cons}
 use Rattle.flow_net.specs.Nets.{Net, IsNode}
 use Rattle.flow_net.specs.Limits.{IsArcWithin}
 use Rattle.flow_net.specs.declared.networks.Arc.{Arc}
-use Rattle.flow_text.specs.Fields.{fields_of, field_at}
+use Rattle.flow_text.specs.Fields.{fields_of}
 use Rattle.flow_text.specs.Tests.{first_failed}
-use Rattle.flow_text.specs.Rules.{is_comment, names, is_kind, fault_of}
+use Rattle.flow_text.specs.Rules.{is_comment, names, fault_of}
 use Rattle.flow_text.specs.Terminals.{Marks, lacks_one, with_mark}
 use Rattle.flow_text.specs.Problem.{Known, known_of, problem_record_fault, problem_rules, node_tests}
 use Rattle.flow_text.specs.ProblemReading.{problem_tests}
@@ -23,8 +26,8 @@ use Rattle.flow_text.specs.declared.machine.Refusal.{Refusal}
 use Rattle.flow_text.specs.declared.faults.FaultCode.{FaultCode}
 use Rattle.flow_text.specs.declared.faults.FaultCode.TheVariants.{UnknownLine, CapacityOutOfRange}
 use Rattle.flow_text.specs.UsualLines.{IsUsual}
-use Rattle.flow_text.proofs.KindLemmas.{both, none_from, has_field, first-push, list-push}
-use Rattle.flow_text.proofs.RuleLemmas.{of_fields}
+use Rattle.flow_text.proofs.KindLemmas.{none_from, has_field, comment_is_none, kind_is_plain, first-push, list-push}
+use Rattle.flow_text.proofs.RuleLemmas.{of_fields, record-fine, has_some}
 use Rattle.flow_text.proofs.UsualLemmas.{ends-pass}
 
 -- a terminal more is kept
@@ -93,40 +96,45 @@ Judges-with fault after new (Ok done) h = (h.0, ap known_with h.1)
 Judges-with fault after new (Err refusal) h = h
 
 -- a second problem line has a fault
-no_size : (k : Known) (line : List ℕ) → is_kind (codes "p") line ≡ true → fault_of problem_rules k line ≡ None
-    → k.size ≡ None
-unfolding fault_of problem_record_fault
+no_size : (k : Known) (line : List ℕ) → names (codes "p") (fields_of line) ≡ true
+    → fault_of problem_rules k line ≡ None → k.size ≡ None
+unfolding problem_record_fault
 no_size k line is fine =
-    let parts = both (is_comment line) (names (codes "p") (fields_of line)) is in
-    let has = has_field 112 (fields_of line) parts.1 in
-    none_from k.size (grind (arith, common_steps, parts.0, parts.1, has, is, fine))
+    let fault = record-fine problem_rules k line (kind_is_plain 112 line is refl) (has_field 112 (fields_of line) is)
+    fine in
+    none_from k.size (grind (arith, common_steps, is, fault))
 
--- what fields add, where a comment adds nothing
-by_kind : (comment : Bool) (fields : List (List ℕ)) (known : Known)
-    → ◌≡◌ {A = Known} (record {
-      size = cond (not comment && names (codes "p") fields) (Some (size_of fields)) known.size;
-      sources = cond ((not comment && names (codes "n") fields) && bytes_eq (field_at fields 2) (codes "s"))
-          (known.sources ++ node_of fields ∷ []) known.sources;
-      sinks = cond ((not comment && names (codes "n") fields) && bytes_eq (field_at fields 2) (codes "t"))
-          (known.sinks ++ node_of fields ∷ []) known.sinks;
-      arcs = cond (not comment && names (codes "a") fields) (known.arcs ++ arc_of fields ∷ []) known.arcs;
-    }) (cond (comment || not (nat_lt 0 (length fields))) known (with_problem_record known fields))
-unfolding with_problem_record
-by_kind true fields known = refl
-by_kind false [] known = refl
-by_kind false (f ∷ fields) known = let is : nat_lt 0 (length (f ∷ fields)) ≡ true = search std_rules in rw is refl
+-- what a line adds: a comment, which is of no kind, and a line without fields add nothing
+by_kind : (known : Known) (line : List ℕ)
+    → with_problem_record known (fields_of line) ≡ with_line with_problem_record known line
+unfolding with_problem_record with_line
+by_kind known line = elim (cases_Bool (is_comment line)) [
+  | inl comment ↦
+      rw (
+        comment,
+        comment_is_none 112 line comment refl,
+        comment_is_none 110 line comment refl,
+        comment_is_none 97 line comment refl,
+      ) refl
+  | inr plain ↦ rw plain (by_fields (fields_of line))
+] where
+  by_fields : (fields : List (List ℕ)) → with_problem_record known fields
+      ≡ (if length fields == 0 then known else with_problem_record known fields)
+  by_fields [] = refl
+  by_fields (f ∷ fields) = rw (has_some f fields) refl
 
 pub Adds-problem : Adds problem_rules known_of with_problem_record
-unfolding known_of with_line
+unfolding known_of with_line with_problem_record
 Adds-problem before line fine =
+    let records = map fields_of before in
     rw (
-      first-push (λ (l : List ℕ). size_of (fields_of l)) (is_kind (codes "p")) before line
-          (λ is. no_size (known_of before) line is fine),
-      list-push (λ (l : List ℕ). arc_of (fields_of l)) (is_kind (codes "a")) before line,
-      list-push (λ (l : List ℕ). node_of (fields_of l)) (is_terminal (codes "s")) before line,
-      list-push (λ (l : List ℕ). node_of (fields_of l)) (is_terminal (codes "t")) before line,
+      map-append fields_of before (line ∷ []),
+      first-push size_of (names (codes "p")) records (fields_of line) (λ is. no_size (known_of before) line is fine),
+      list-push arc_of (names (codes "a")) records (fields_of line),
+      list-push node_of (is_terminal (codes "s")) records (fields_of line),
+      list-push node_of (is_terminal (codes "t")) records (fields_of line),
     )
-    (by_kind (is_comment line) (fields_of line) (known_of before))
+    (by_kind (known_of before) line)
 
 -- an arc line of the usual form, with no fault
 pub of_usual : (old : ProblemSoFar) (text : List ℕ) (arc : Arc) (at : ℕ) → IsUsual 97 text arc.src arc.dst arc.cap at

@@ -1,16 +1,16 @@
 -- What a reader is after a line's end, or after more of a line.
 use Rattle.std.proofs.Common.{◌≡◌, ◌<◌, ◌≤◌, ℕ, ◌+◌, true, false, List, [], ◌∷◌, ◌++◌, length, refl, ap, ◌∙◌, sym}
-use Rattle.std.proofs.Common.{arith, inl, inr, length-append, Some, None, nat_lt, rules as std_rules}
+use Rattle.std.proofs.Common.{arith, inl, inr, length-append, Some, None}
 use Rattle.std.proofs.lemmas.Bool.{cases_Bool}
 use Rattle.flow_text.specs.Lines.{ended, rest}
 use Rattle.flow_text.specs.LineParts.{HasNoEnd}
-use Rattle.flow_text.specs.Rules.{Rules, fault_of, early_fault, at_line, is_comment, unended_fault}
+use Rattle.flow_text.specs.Rules.{Rules, fault_of, early_fault, at_line, is_comment, length_fault}
 use Rattle.flow_text.specs.Reading.{told, State, HasRead, Adds, with_line, Ends, Fails, Buffers, partial_of, TellsAt}
 use Rattle.flow_text.specs.declared.faults.FaultCode.TheVariants.{LineTooLong}
 use Rattle.flow_text.specs.declared.machine.Refusal.{Refusal}
 use Rattle.flow_text.specs.declared.machine.Refusal.TheVariants.{Code, Memory}
 use Rattle.flow_text.proofs.LineLemmas.{ended_within, rest_within, ended_by, rest_by}
-use Rattle.flow_text.proofs.RuleLemmas.{of_comment}
+use Rattle.flow_text.proofs.RuleLemmas.{of_comment, length_fault-long, length_fault-short}
 use Rattle.flow_text.proofs.FaultLemmas.{early-ended, early-fault, early-within}
 use Rattle.flow_text.specs.declared.limits.TheConstants.{LONGEST_LINE}
 
@@ -78,13 +78,12 @@ Tells-ends rules known_of old new b tail more (Code code) none r h =
     ∙ ap (λ (n : ℕ). Some (n, code))
     (sym (told-more (length (ended b))) ∙ ap (λ (n : ℕ). told (n + 1)) (sym (h.counts ∙ r.counts)))
 
-within_limit : (line : List ℕ) (k : ℕ) → length (partial_of line) ≤ LONGEST_LINE → at_line k (unended_fault line) ≡ None
+within_limit : (line : List ℕ) (k : ℕ) → length (partial_of line) ≤ LONGEST_LINE → at_line k (length_fault line) ≡ None
 within_limit line k short = elim (cases_Bool (is_comment line)) [
   | inl yes' ↦ rw yes' refl
   | inr no' ↦
       let len : length line ≤ LONGEST_LINE = rw (partial_of-plain line no') at short in
-      let not_long : nat_lt LONGEST_LINE (length line) ≡ false = search (std_rules, arith) in
-      rw (no', not_long) refl
+      rw (length_fault-short line no' len) refl
 ]
 
 -- what is buffered of the line as far as it has come
@@ -127,7 +126,6 @@ pub Tells-buffers : {K : Type 0} (rules : Rules K) (known_of : List (List ℕ) �
 Tells-buffers rules known_of old new b tail refusal none r h =
     let plain : is_comment (rest b ++ tail) ≡ false = rw (← partial_plain rules known_of old b r h.0) h.2 in
     let len : LONGEST_LINE < length (rest b ++ tail) = rw (← partial_plain rules known_of old b r h.0) h.3 in
-    let long : nat_lt LONGEST_LINE (length (rest b ++ tail)) ≡ true = search (std_rules, arith) in
-    rw (h.4, early-within rules known_of b tail none r.fine, plain, long)
+    rw (h.4, early-within rules known_of b tail none r.fine, length_fault-long (rest b ++ tail) plain len)
     (ap (λ (n : ℕ). Some (n, LineTooLong))
     (sym (told-more (length (ended b))) ∙ ap (λ (n : ℕ). told (n + 1)) (sym (h.1 ∙ r.counts))))

@@ -1,12 +1,15 @@
 -- The fault of a solution's line and what it adds, by its fields.
-use Rattle.std.proofs.Common.{◌≡◌, ℕ, Bool, true, false, cond, not, ◌&&◌, ◌||◌, List, [], ◌∷◌, ◌++◌, length, take, refl}
-use Rattle.std.proofs.Common.{ap, ◌∙◌, sym, ◌<◌, arith, Some, None, nat_lt, nat_le, is_some, rules as std_rules}
+use Rattle.std.proofs.Common.{◌≡◌, ℕ, true, false, List, [], ◌∷◌, ◌++◌, length, take, refl}
+use Rattle.std.proofs.Common.{ap, ◌∙◌, sym, ◌<◌, arith, Some, None, nat_le, is_some, rules as std_rules}
 use Rattle.std.proofs.lemmas.Grind.{common_steps}
 use Rattle.std.specs.Str.{bytes_eq}
-use Rattle.std.specs.Prelude.{codes}
+use Rattle.std.specs.Prelude.{codes, if◌then◌else◌}
+use Rattle.std.proofs.Common.{map, ◌==◌, inl, inr}
+use Rattle.std.proofs.lemmas.Bool.{cases_Bool}
+use Rattle.std.proofs.lemmas.List.{map-append}
 use Rattle.flow_text.specs.Fields.{fields_of}
 use Rattle.flow_text.specs.Tests.{first_failed}
-use Rattle.flow_text.specs.Rules.{is_comment, names, is_kind, fault_of}
+use Rattle.flow_text.specs.Rules.{is_comment, names, fault_of}
 use Rattle.flow_text.specs.Solution.{Stated, stated_of, solution_record_fault, solution_rules}
 use Rattle.flow_text.specs.SolutionReading.{solution_tests}
 use Rattle.flow_text.specs.Solution.{flow_tests}
@@ -15,9 +18,9 @@ use Rattle.flow_text.specs.Reading.{with_line, Adds}
 use Rattle.flow_text.specs.declared.solutions.FlowLine.{FlowLine}
 use Rattle.flow_text.specs.declared.faults.FaultCode.TheVariants.{UnknownLine, FlowOutOfRange}
 use Rattle.flow_text.specs.UsualLines.{IsUsual}
-use Rattle.flow_text.proofs.RuleLemmas.{of_fields}
+use Rattle.flow_text.proofs.RuleLemmas.{of_fields, record-fine, has_some}
 use Rattle.flow_text.proofs.UsualLemmas.{ends-pass}
-use Rattle.flow_text.proofs.KindLemmas.{both, none_from, has_field, first-push, list-push}
+use Rattle.flow_text.proofs.KindLemmas.{none_from, has_field, comment_is_none, kind_is_plain, first-push, list-push}
 use Rattle.flow_text.specs.declared.limits.TheConstants.{MOST_FLOW_LINES}
 
 -- a line has one kind at most
@@ -45,35 +48,38 @@ unfolding solution_record_fault
 of_unknown k kind others s f = simp (s, f)
 
 -- a second solution line has a fault
-no_value : (k : Stated) (line : List ℕ) → is_kind (codes "s") line ≡ true → fault_of solution_rules k line ≡ None
-    → k.value ≡ None
-unfolding fault_of solution_record_fault
+no_value : (k : Stated) (line : List ℕ) → names (codes "s") (fields_of line) ≡ true
+    → fault_of solution_rules k line ≡ None → k.value ≡ None
+unfolding solution_record_fault
 no_value k line is fine =
-    let parts = both (is_comment line) (names (codes "s") (fields_of line)) is in
-    let has = has_field 115 (fields_of line) parts.1 in
-    none_from k.value (grind (arith, common_steps, parts.0, parts.1, has, is, fine))
+    let fault = record-fine solution_rules k line (kind_is_plain 115 line is refl) (has_field 115 (fields_of line) is)
+    fine in
+    none_from k.value (grind (arith, common_steps, is, fault))
 
--- what fields add, where a comment adds nothing
-by_kind : (comment : Bool) (fields : List (List ℕ)) (known : Stated)
-    → ◌≡◌ {A = Stated} (record {
-      nodes = known.nodes;
-      value = cond (not comment && names (codes "s") fields) (Some (given_of fields)) known.value;
-      lines = cond (not comment && names (codes "f") fields) (known.lines ++ flow_of fields ∷ []) known.lines;
-    }) (cond (comment || not (nat_lt 0 (length fields))) known (with_solution_record known fields))
-unfolding with_solution_record
-by_kind true fields known = refl
-by_kind false [] known = refl
-by_kind false (f ∷ fields) known = let is : nat_lt 0 (length (f ∷ fields)) ≡ true = search std_rules in rw is refl
+-- what a line adds: a comment, which is of no kind, and a line without fields add nothing
+by_kind : (known : Stated) (line : List ℕ)
+    → with_solution_record known (fields_of line) ≡ with_line with_solution_record known line
+unfolding with_solution_record with_line
+by_kind known line = elim (cases_Bool (is_comment line)) [
+  | inl comment ↦ rw (comment, comment_is_none 115 line comment refl, comment_is_none 102 line comment refl) refl
+  | inr plain ↦ rw plain (by_fields (fields_of line))
+] where
+  by_fields : (fields : List (List ℕ)) → with_solution_record known fields
+      ≡ (if length fields == 0 then known else with_solution_record known fields)
+  by_fields [] = refl
+  by_fields (f ∷ fields) = rw (has_some f fields) refl
 
 pub Adds-solution : (nodes : ℕ) → Adds solution_rules (stated_of nodes) with_solution_record
-unfolding stated_of with_line
+unfolding stated_of with_line with_solution_record
 Adds-solution nodes = λ before line fine.
+    let records = map fields_of before in
     rw (
-      first-push (λ (l : List ℕ). given_of (fields_of l)) (is_kind (codes "s")) before line
+      map-append fields_of before (line ∷ []),
+      first-push given_of (names (codes "s")) records (fields_of line)
           (λ is. no_value (stated_of nodes before) line is fine),
-      list-push (λ (l : List ℕ). flow_of (fields_of l)) (is_kind (codes "f")) before line,
+      list-push flow_of (names (codes "f")) records (fields_of line),
     )
-    (by_kind (is_comment line) (fields_of line) (stated_of nodes before))
+    (by_kind (stated_of nodes before) line)
 
 -- a flow line of the usual form, with no fault
 pub of_usual : (old : Stated) (text : List ℕ) (flow : FlowLine) (at : ℕ)

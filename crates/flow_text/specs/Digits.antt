@@ -1,16 +1,16 @@
 -- The value of a field.
 use Rattle.std.specs.Prelude.{ℕ, ◌+◌, ◌*◌, ◌-◌, ◌^◌, Bool, ◌&&◌, List, [], ◌∷◌, length}
 use Rattle.std.specs.Str.{all_ascii_digits}
-use Rattle.flow_text.specs.Fields.{has_bytes, fields_of, field_at}
+use Rattle.flow_text.specs.Fields.{has_bytes, field_at}
 
 -- each digit times 10 to the number of digits after it
 unfoldable pub value_of : List ℕ → ℕ
 value_of [] = 0
 value_of (digit ∷ digits) = (digit - 48) * 10 ^ length digits + value_of digits
 
--- the value of a line's field at a place, counted from 0
-abbrev pub number_at : List ℕ → ℕ → ℕ
-number_at line k = value_of (field_at (fields_of line) k)
+-- the value of the field at a place, counted from 0
+abbrev pub number_at : List (List ℕ) → ℕ → ℕ
+number_at fields k = value_of (field_at fields k)
 
 -- one digit or more, and nothing else
 abbrev pub is_number : List ℕ → Bool

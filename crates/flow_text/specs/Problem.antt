@@ -8,16 +8,16 @@ use Rattle.flow_net.specs.Nets.{Instance}
 use Rattle.flow_net.specs.NodeSets.{one_of}
 use Rattle.flow_text.specs.Lines.{lines}
 use Rattle.flow_text.specs.Fields.{fields_of, field_at}
-use Rattle.flow_text.specs.Digits.{value_of, number_at}
+use Rattle.flow_text.specs.Digits.{number_at}
 use Rattle.flow_text.specs.Tests.{first_failed, number_tests, ends_tests, Test}
-use Rattle.flow_text.specs.Rules.{Rules, names, is_kind, early_fault, whole_fault}
+use Rattle.flow_text.specs.Rules.{Rules, names, early_fault, whole_fault}
 use Rattle.flow_text.specs.declared.faults.FaultCode.{FaultCode}
 use Rattle.flow_text.specs.declared.faults.FaultCode.TheVariants.{UnknownLine, WrongFields, SecondProblemLine, ProblemLineMissing, NotMax, NodesOutOfRange, ArcsOutOfRange, NodeOutOfRange, NodeLineAfterArcLine, NotTerminal, TerminalsMissing, AlreadyTerminal, TooManyArcs, CapacityOutOfRange, TooFewArcs}
 use Rattle.flow_net.specs.declared.limits.TheConstants.{MOST_ARCS, MOST_NODES, FEWEST_NODES}
 
--- a node line with this letter in its third field
-abbrev pub is_terminal : List ℕ → List ℕ → Bool
-is_terminal letter line = is_kind (codes "n") line && bytes_eq (field_at (fields_of line) 2) letter
+-- the fields of a node line with this letter in the third
+abbrev pub is_terminal : List ℕ → List (List ℕ) → Bool
+is_terminal letter fields = names (codes "n") fields && bytes_eq (field_at fields 2) letter
 
 -- What the lines before a line say: NODES and ARCS, the terminals, and the arcs.
 pub record Known : Type 0 where
@@ -27,14 +27,15 @@ pub record Known : Type 0 where
   pub arcs : List Arc
 
 -- NODES and ARCS of the first line `p max NODES ARCS`, the sources of the lines `n ID s` and the sinks of the lines
--- `n ID t`, and the arcs of the lines `a SRC DST CAP`, in order
+-- `n ID t`, and the arcs of the lines `a SRC DST CAP`, in order. A comment is none of these: its first field begins
+-- with 'c'.
 unfoldable pub known_of : List (List ℕ) → Known
-known_of before = record {
-  size = option_map (λ line. (number_at line 2, number_at line 3)) (find (is_kind (codes "p")) before);
-  sources = map (λ line. number_at line 1) (filter (is_terminal (codes "s")) before);
-  sinks = map (λ line. number_at line 1) (filter (is_terminal (codes "t")) before);
-  arcs = map (λ line. record { src = number_at line 1; dst = number_at line 2; cap = number_at line 3 })
-      (filter (is_kind (codes "a")) before);
+known_of before = let records = map fields_of before in record {
+  size = option_map (λ fields. (number_at fields 2, number_at fields 3)) (find (names (codes "p")) records);
+  sources = map (λ fields. number_at fields 1) (filter (is_terminal (codes "s")) records);
+  sinks = map (λ fields. number_at fields 1) (filter (is_terminal (codes "t")) records);
+  arcs = map (λ fields. record { src = number_at fields 1; dst = number_at fields 2; cap = number_at fields 3 })
+      (filter (names (codes "a")) records);
 }
 
 abbrev pub nodes : Known → ℕ
@@ -61,8 +62,7 @@ mark_tests nodes sources sinks fields =
     (not (length fields == 3), WrongFields)
     ∷ number_tests (field_at fields 1) 1 nodes NodeOutOfRange
     ++ (not (bytes_eq (field_at fields 2) (codes "s") || bytes_eq (field_at fields 2) (codes "t")), NotTerminal)
-    ∷ (one_of sources (value_of (field_at fields 1)) || one_of sinks (value_of (field_at fields 1)), AlreadyTerminal)
-    ∷ []
+    ∷ (one_of sources (number_at fields 1) || one_of sinks (number_at fields 1), AlreadyTerminal) ∷ []
 
 abbrev pub node_tests : Known → List (List ℕ) → List Test
 node_tests known fields =
@@ -91,8 +91,7 @@ abbrev pub end_tests : Known → List Test
 end_tests known =
     (not (is_some known.size), ProblemLineMissing)
     ∷ (lacks_terminals known, TerminalsMissing)
-    ∷ (nat_lt (length known.arcs) (arc_count known), TooFewArcs)
-    ∷ []
+    ∷ (nat_lt (length known.arcs) (arc_count known), TooFewArcs) ∷ []
 
 -- the rules of a problem file
 abbrev pub problem_rules : Rules Known

@@ -1,5 +1,5 @@
 -- What a reader keeps of a text that comes in pieces, and what it answers.
-use Rattle.std.specs.Prelude.{◌≡◌, ℕ, ◌+◌, ◌<◌, ◌≤◌, Bool, true, false, not, ◌||◌, nat_lt, min, List, [], ◌∷◌, ◌++◌, length, take, Option, None, Some, Result, Ok, Err, if◌then◌else◌}
+use Rattle.std.specs.Prelude.{◌≡◌, ℕ, ◌+◌, ◌<◌, ◌≤◌, Bool, true, false, ◌||◌, ◌==◌, min, List, [], ◌∷◌, ◌++◌, length, take, Option, None, Some, Result, Ok, Err, if◌then◌else◌}
 use Rattle.std.specs.Option.{option_map_or}
 use Rattle.memchr.specs.Find.{IsFirstByte, is_byte}
 use Rattle.flow_text.specs.Lines.{ended, rest, lines}
@@ -73,7 +73,7 @@ AnswersAs answer (Err OutOfMemory) = Unit {0}
 -- what a line adds, where `with_record` tells what fields add: a comment and a line without fields add nothing
 unfoldable pub with_line : {K : Type 0} → (K → List (List ℕ) → K) → K → List ℕ → K
 with_line with_record known line =
-    if is_comment line || not (nat_lt 0 (length (fields_of line))) then known else with_record known (fields_of line)
+    if is_comment line || length (fields_of line) == 0 then known else with_record known (fields_of line)
 
 -- a line without a fault adds to what is known what it adds to what the lines say
 abbrev pub Adds : {K : Type 0} → Rules K → (List (List ℕ) → K) → (K → List (List ℕ) → K) → Type 0

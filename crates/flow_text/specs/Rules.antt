@@ -1,5 +1,5 @@
 -- What holds for every kind of file: comments, empty lines, lines that are too long, and which fault is the first.
-use Rattle.std.specs.Prelude.{ℕ, ◌+◌, Bool, false, not, ◌&&◌, ◌==◌, nat_lt, min, List, [], ◌∷◌, ◌++◌, length, Option, None, Some, if◌then◌else◌}
+use Rattle.std.specs.Prelude.{ℕ, ◌+◌, Bool, not, ◌&&◌, ◌||◌, ◌==◌, nat_lt, min, List, [], ◌∷◌, ◌++◌, length, slice_index_or, Option, None, Some, if◌then◌else◌}
 use Rattle.std.specs.Option.{option_map, option_or}
 use Rattle.std.specs.Str.{bytes_eq}
 use Rattle.flow_text.specs.Lines.{ended, rest, lines}
@@ -16,24 +16,20 @@ pub record Rules (K : Type 0) : Type 0 where
 
 -- a line whose first byte is 'c'
 abbrev pub is_comment : List ℕ → Bool
-is_comment [] = false
-is_comment (c ∷ line) = c == 99
+is_comment line = slice_index_or line 0 0 == 99
 
 -- the first field is exactly the letter
 abbrev pub names : List ℕ → List (List ℕ) → Bool
 names letter fields = bytes_eq (field_at fields 0) letter
 
--- a line of a kind is no comment, and its first field is exactly the letter
-abbrev pub is_kind : List ℕ → List ℕ → Bool
-is_kind letter line = not (is_comment line) && names letter (fields_of line)
+-- the fault of a line's length, also where the line goes on: a comment has none, any other line isn't too long
+abbrev pub length_fault : List ℕ → Option FaultCode
+length_fault line = if not (is_comment line) && nat_lt LONGEST_LINE (length line) then Some LineTooLong else None
 
--- the fault of a line: a comment has none, any other line isn't too long, and a line without fields is ignored
+-- the fault of a line: that of its length, else that of its fields; a comment and a line without fields are ignored
 unfoldable pub fault_of : {K : Type 0} → Rules K → K → List ℕ → Option FaultCode
-fault_of rules known line =
-    if is_comment line then None
-    else if nat_lt LONGEST_LINE (length line) then Some LineTooLong
-    else if not (nat_lt 0 (length (fields_of line))) then None
-    else rules.record_fault known (fields_of line)
+fault_of rules known line = option_or (length_fault line)
+    (if is_comment line || length (fields_of line) == 0 then None else rules.record_fault known (fields_of line))
 
 -- a fault with its line, if there is one; every line past the greatest number that is told has that number
 abbrev pub at_line : ℕ → Option FaultCode → Option (ℕ × FaultCode)
@@ -48,14 +44,10 @@ first_fault rules known_of before (line ∷ after) =
     option_or (at_line (length before + 1) (fault_of rules (known_of before) line))
     (first_fault rules known_of (before ++ line ∷ []) after)
 
--- a line that goes on can be too long already
-abbrev pub unended_fault : List ℕ → Option FaultCode
-unended_fault line = if not (is_comment line) && nat_lt LONGEST_LINE (length line) then Some LineTooLong else None
-
--- the early fault of a text that may go on: that of its ended lines, else that of the line which goes on
+-- the early fault of a text that may go on: that of its ended lines, else that of the length of the line which goes on
 unfoldable pub early_fault : {K : Type 0} → Rules K → (List (List ℕ) → K) → List ℕ → Option (ℕ × FaultCode)
 early_fault rules known_of b =
-    option_or (first_fault rules known_of [] (ended b)) (at_line (length (ended b) + 1) (unended_fault (rest b)))
+    option_or (first_fault rules known_of [] (ended b)) (at_line (length (ended b) + 1) (length_fault (rest b)))
 
 -- the first fault of a whole text: that of its lines, else that of its end, at the line after the last
 unfoldable pub whole_fault : {K : Type 0} → Rules K → (List (List ℕ) → K) → List ℕ → Option (ℕ × FaultCode)

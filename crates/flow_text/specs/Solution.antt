@@ -3,10 +3,10 @@ use Rattle.std.specs.Prelude.{ℕ, not, ◌==◌, nat_le, List, ◌∷◌, lengt
 use Rattle.std.specs.List.{find}
 use Rattle.std.specs.Option.{option_map, option_map_or, unwrap_or}
 use Rattle.flow_text.specs.Lines.{lines}
-use Rattle.flow_text.specs.Fields.{field_at}
+use Rattle.flow_text.specs.Fields.{fields_of, field_at}
 use Rattle.flow_text.specs.Digits.{number_at}
 use Rattle.flow_text.specs.Tests.{first_failed, number_tests, ends_tests, Test}
-use Rattle.flow_text.specs.Rules.{Rules, names, is_kind, early_fault, whole_fault}
+use Rattle.flow_text.specs.Rules.{Rules, names, early_fault, whole_fault}
 use Rattle.flow_text.specs.declared.faults.FaultCode.{FaultCode}
 use Rattle.flow_text.specs.declared.faults.FaultCode.TheVariants.{UnknownLine, WrongFields, SecondSolutionLine, SolutionLineMissing, TooManyFlowLines, FlowOutOfRange, ValueOutOfRange}
 use Rattle.flow_text.specs.declared.solutions.FlowLine.{FlowLine}
@@ -18,13 +18,14 @@ pub record Stated : Type 0 where
   pub value : Option ℕ
   pub lines : List FlowLine
 
--- VALUE of the first line `s VALUE`, and SRC, DST and FLOW of the lines `f SRC DST FLOW`, in order
+-- VALUE of the first line `s VALUE`, and SRC, DST and FLOW of the lines `f SRC DST FLOW`, in order. A comment is
+-- none of these: its first field begins with 'c'.
 unfoldable pub stated_of : ℕ → List (List ℕ) → Stated
-stated_of nodes before = record {
+stated_of nodes before = let records = map fields_of before in record {
   nodes = nodes;
-  value = option_map (λ line. number_at line 1) (find (is_kind (codes "s")) before);
-  lines = map (λ line. record { src = number_at line 1; dst = number_at line 2; flow = number_at line 3 })
-      (filter (is_kind (codes "f")) before);
+  value = option_map (λ fields. number_at fields 1) (find (names (codes "s")) records);
+  lines = map (λ fields. record { src = number_at fields 1; dst = number_at fields 2; flow = number_at fields 3 })
+      (filter (names (codes "f")) records);
 }
 
 -- the tests of a solution line, but for that of a second one

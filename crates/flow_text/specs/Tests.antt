@@ -18,8 +18,7 @@ first_failed (test ∷ tests) = if test.0 then Some test.1 else first_failed tes
 abbrev pub number_tests : List ℕ → ℕ → ℕ → FaultCode → List Test
 number_tests field least greatest code =
     (not (is_number field), BadNumber)
-    ∷ (nat_lt (value_of field) least || nat_lt greatest (value_of field), code)
-    ∷ []
+    ∷ (nat_lt (value_of field) least || nat_lt greatest (value_of field), code) ∷ []
 
 -- a line of a letter, SRC, DST and a number of 64 bits, where a greater number has this fault
 unfoldable pub ends_tests : ℕ → FaultCode → List (List ℕ) → List Test

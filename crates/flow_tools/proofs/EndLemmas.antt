@@ -5,16 +5,14 @@ use Rattle.std.specs.Io.KnownBytes.{Appends}
 use Rattle.std.proofs.KnownBytes.{Consumes-nil, Appends-nil}
 use Rattle.flow_net.specs.Nets.{Instance}
 use Rattle.flow_net.specs.NodeSets.{one_of}
-use Rattle.flow_net.specs.MarkedNodes.{marked}
 use Rattle.flow_net.specs.Flows.{HasValue}
-use Rattle.flow_solve.specs.Sides.{IsLeastSourceSide, IsLeastSinkSide}
 use Rattle.flow_text.specs.Problem.{early, problem}
 use Rattle.flow_text.specs.Solution.{early_solution, solution}
 use Rattle.flow_tools.specs.Streams.{Stream}
 use Rattle.flow_tools.specs.Sending.{Stops}
 use Rattle.flow_tools.proofs.StreamParts.{stream}
 use Rattle.flow_tools.specs.Reading.{IsRead}
-use Rattle.flow_tools.specs.Answers.{IsAnswer, IsCutOf}
+use Rattle.flow_tools.specs.Answers.{IsAnswer}
 use Rattle.flow_tools.specs.Exits.{Runs, EndsAt, IsCheck}
 use Rattle.flow_tools.specs.AnswerExits.{Puts, PutsAt, Checks, ChecksAt}
 use Rattle.flow_tools.specs.declared.jobs.Job.{Job}
@@ -32,30 +30,15 @@ module _ (job : Job) (p : Instance) (before after : Option (List ℕ)) (fb fa : 
   pub puts_some : Stops before after text → fa ≡ true → Puts job p [] (stream before after fb fa) (Err WriteFailed)
   puts_some put failed = record { o = put.sent; put_o = put.taken; exit = (failed, (text, 0, answers, put.part)) }
 
-module _ (p : Instance) (value : ℕ) (flows : List ℕ) (valued : HasValue p.net (one_of p.sources) flows value)
-    (cells : List Bool) where
+module _ (p : Instance) (value : ℕ) (flows : List ℕ) (valued : HasValue p.net (one_of p.sources) flows value) where
   -- a flow has one value
-  same_value : (k : ℕ) → HasValue p.net (one_of p.sources) flows k → k ≡ value
+  pub same_value : (k : ℕ) → HasValue p.net (one_of p.sources) flows k → k ≡ value
   same_value k h = omega (arith, h, valued)
 
-  -- the cells mark the least source side
-  pub cut_of_sources : IsLeastSourceSide p.net p.sources p.sinks flows (marked cells)
-      → IsCutOf p value false (marked cells)
-  cut_of_sources side = record { minimum = side.minimum; valued = same_value _ side.value; nearest = side.nodes }
-
-  -- the opposite of a test holds where the test fails
-  false_of_not : (b : Bool) (P : Type 0) → IsTrue b ↔ P → IsFalse (not b) ↔ P
-  false_of_not true P h = (λ e. h.0 refl, λ q. refl)
-  false_of_not false P h = (λ e. absurd (true≢false e), λ q. absurd (true≢false (sym (h.1 q))))
-
-  -- the cells mark the least sink side
-  pub cut_of_sinks : IsLeastSinkSide p.net p.sources p.sinks flows (marked cells)
-      → IsCutOf p value true (λ v. not (marked cells v))
-  cut_of_sinks side = record {
-    minimum = side.minimum;
-    valued = same_value _ side.value;
-    nearest = λ v within. false_of_not (marked cells v) _ (side.nodes v within);
-  }
+-- the opposite of a test holds where the test fails
+pub false_of_not : (b : Bool) (P : Type 0) → IsTrue b ↔ P → IsFalse (not b) ↔ P
+false_of_not true P h = (λ e. h.0 refl, λ q. refl)
+false_of_not false P h = (λ e. absurd (true≢false e), λ q. absurd (true≢false (sym (h.1 q))))
 
 module _ (source : Stream) (q : Option (List ℕ)) (qf : Bool) (job : Job) where
   -- the problem is refused, or can't be read

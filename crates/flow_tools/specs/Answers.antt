@@ -24,12 +24,6 @@ abbrev pub IsNearest : Net → (ℕ → Bool) → (ℕ → Bool) → Bool → (�
 IsNearest net s t false X = (v : ℕ) → IsNode net v → IsTrue (X v) ↔ IsInLeastSourceSide net s t v
 IsNearest net s t true X = (v : ℕ) → IsNode net v → IsFalse (X v) ↔ IsInLeastSinkSide net s t v
 
--- A minimum cut of that capacity: the one nearest the sources, or nearest the sinks.
-pub record IsCutOf (p : Instance) (value : ℕ) (sink : Bool) (X : ℕ → Bool) : Type 0 where
-  pub minimum : IsMinimumCut p.net (one_of p.sources) (one_of p.sinks) X
-  pub valued : capacity p.net X ≡ value
-  pub nearest : IsNearest p.net (one_of p.sources) (one_of p.sinks) sink X
-
 -- What `solve` puts: the value, and some feasible flow that has it, in which self-loops carry nothing.
 pub record IsSolveText (p : Instance) (value_only : Bool) (text : List ℕ) : Type 0 where
   pub value : ℕ
@@ -40,12 +34,15 @@ pub record IsSolveText (p : Instance) (value_only : Bool) (text : List ℕ) : Ty
   pub no_loops : HasNoLoops p.net flows
   pub text_is : text ≡ solve_text value_only p.net value flows
 
--- What `cut` puts: the value, and the source side of the minimum cut that is asked for.
+-- What `cut` puts: the value, and the source side of a minimum cut of that capacity: the one nearest the sources, or
+-- nearest the sinks.
 pub record IsCutText (p : Instance) (arcs sink : Bool) (text : List ℕ) : Type 0 where
   pub value : ℕ
   pub X : ℕ → Bool
   pub value_is : IsValueOf p value
-  pub cut_is : IsCutOf p value sink X
+  pub minimum : IsMinimumCut p.net (one_of p.sources) (one_of p.sinks) X
+  pub valued : capacity p.net X ≡ value
+  pub nearest : IsNearest p.net (one_of p.sources) (one_of p.sinks) sink X
   pub text_is : text ≡ cut_text arcs p.net value X
 
 -- the connectivity that is asked for: the least number of arcs that leave a set or, undirected, that have exactly one

@@ -4,5 +4,4 @@ use Rattle.flow_text.specs.declared.faults.FaultCode.{FaultCode}
 
 -- some beginning of the text that lacks at most what one pull delivers has no early fault
 abbrev pub IsOnePass : (List ℕ → Option (ℕ × FaultCode)) → List ℕ → Type 0
-IsOnePass early text =
-    (front : List ℕ) × (last : List ℕ) × (text ≡ front ++ last) × (length last ≤ 4096) × (early front ≡ None)
+IsOnePass early text = (front last : List ℕ) × (text ≡ front ++ last) × (length last ≤ 4096) × (early front ≡ None)

@@ -2,8 +2,9 @@
 ghost use Rattle.std.specs.Prelude.{◌≡◌, [], ◌≤◌, length, IfOk};
 ghost use Rattle.flow_net.specs.NodeSets.{one_of};
 ghost use Rattle.flow_net.specs.Flows.{Fits, IsFeasible, HasValue, HasNoLoops};
+ghost use Rattle.flow_net.specs.Cuts.{IsMinimumCut, capacity};
 ghost use Rattle.flow_solve.specs.Bounds.{work_cells};
-ghost use Rattle.flow_tools.specs.Answers.{IsValueOf, IsCutOf};
+ghost use Rattle.flow_tools.specs.Answers.{IsValueOf, IsNearest};
 ghost use Rattle.flow_tools.specs.AnswerExits.{Puts};
 ghost use Rattle.flow_tools.specs.Sides.{side_of};
 ghost use Rattle.flow_tools.specs.Streams.{over};
@@ -135,7 +136,11 @@ fn find_cut<M: Method>(problem: &Problem, room: &mut Room, sink: bool, side: &mu
     requires cells { work_cells problem.now.net ≤ length room.old.work.items }
     requires side { length side.old ≡ problem.now.net.nodes }
     ensures value { IsValueOf problem.now result }
-    ensures cut { IsCutOf problem.now result sink (side_of sink side.new) }
+    ensures minimum { let p = problem.now in
+        IsMinimumCut p.net (one_of p.sources) (one_of p.sinks) (side_of sink side.new) }
+    ensures valued { capacity problem.now.net (side_of sink side.new) ≡ result }
+    ensures nearest { let p = problem.now in
+        IsNearest p.net (one_of p.sources) (one_of p.sinks) sink (side_of sink side.new) }
 {
     let net = problem.net();
     let (s, t) = (problem.sources(), problem.sinks());

@@ -16,7 +16,9 @@ returns-in-Ok g c =
         value = c.find_cut-value.result;
         X = X;
         value_is = c.find_cut-value.ensures.value;
-        cut_is = c.find_cut-value.ensures.cut;
+        minimum = c.find_cut-value.ensures.minimum;
+        valued = c.find_cut-value.ensures.valued;
+        nearest = c.find_cut-value.ensures.nearest;
         text_is = refl;
       },
       refl,
@@ -32,7 +34,9 @@ returns g c =
         value = c.find_cut-value.result;
         X = X;
         value_is = c.find_cut-value.ensures.value;
-        cut_is = c.find_cut-value.ensures.cut;
+        minimum = c.find_cut-value.ensures.minimum;
+        valued = c.find_cut-value.ensures.valued;
+        nearest = c.find_cut-value.ensures.nearest;
         text_is = refl;
       },
       refl,

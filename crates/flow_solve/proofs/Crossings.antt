@@ -87,33 +87,34 @@ tail_group net h n =
     (ne_eqb (arc_at net (h / 2)).src (arc_at net (h / 2)).dst
     (λ e. n (loop_ends (eqb (h % 2) 0) (arc_at net (h / 2)).src (arc_at net (h / 2)).dst e)))
 
--- a search came over a half-arc that leaves a marked place
-pub come_new : (net : Net) (flows : List ℕ) (dir : Direction) (dist via : List ℕ) (p h place : ℕ) → IsNet net
-    → h < 2 * length net.arcs → place < net.nodes → group_of net h ≡ place → head_of net h ≡ p + 1
-    → 1 ≤ residual net flows (crossed dir h) → IsMarked dist place → get_or dist p 0 ≡ get_or dist place 0 + 1
-    → get_or via p 0 ≡ crossed dir h → IsCome net flows dir dist via p
-come_new net flows dir dist via p h place n l inside e leads r m level by =
-    let near : near_end dir net (crossed dir h) ≡ place + 1 =
-    near_crossed dir net h ∙ group_tail net h place n l e inside in
-    let back : place + 1 - 1 ≡ place = omega arith in
-    let at : near_end dir net (get_or via p 0) ≡ place + 1 = ap (near_end dir net) by ∙ near in
-    let at_place : near_end dir net (get_or via p 0) - 1 ≡ place = ap (λ v. v - 1) at ∙ back in
-    record {
-      in_range = subst (λ g. g < 2 * length net.arcs) (sym by) (crossed_within dir h (length net.arcs) l);
-      far = ap (far_end dir net) by ∙ far_crossed dir net h ∙ leads;
-      remains = subst (λ g. 1 ≤ residual net flows g) (sym by) r;
-      near = omega arith;
-      within = omega arith;
-      marked = subst (IsMarked dist) (sym at_place) m;
-      level = ap (λ v. get_or dist v 0 + 1) at_place ∙ sym level;
-    }
+-- a half-arc among those of a place
+module _ {net : Net} (flows : List ℕ) (dir : Direction) (h : ℕ) {place : ℕ} (n : IsNet net)
+    (l : h < 2 * length net.arcs) (inside : place < net.nodes) (e : group_of net h ≡ place) where
+  -- a search came over a half-arc that leaves a marked place
+  pub come_new : {dist via : List ℕ} {p : ℕ} → head_of net h ≡ p + 1 → 1 ≤ residual net flows (crossed dir h)
+      → IsMarked dist place → get_or dist p 0 ≡ get_or dist place 0 + 1 → get_or via p 0 ≡ crossed dir h
+      → IsCome net flows dir dist via p
+  come_new {dist} {via} {p} leads r m level by =
+      let near : near_end dir net (crossed dir h) ≡ place + 1 =
+      near_crossed dir net h ∙ group_tail net h place n l e inside in
+      let back : place + 1 - 1 ≡ place = omega arith in
+      let at : near_end dir net (get_or via p 0) ≡ place + 1 = ap (near_end dir net) by ∙ near in
+      let at_place : near_end dir net (get_or via p 0) - 1 ≡ place = ap (λ v. v - 1) at ∙ back in
+      record {
+        in_range = subst (λ g. g < 2 * length net.arcs) (sym by) (crossed_within dir h (length net.arcs) l);
+        far = ap (far_end dir net) by ∙ far_crossed dir net h ∙ leads;
+        remains = subst (λ g. 1 ≤ residual net flows g) (sym by) r;
+        near = omega arith;
+        within = omega arith;
+        marked = subst (IsMarked dist) (sym at_place) m;
+        level = ap (λ v. get_or dist v 0 + 1) at_place ∙ sym level;
+      }
 
--- a closed set takes in where it leads
-pub closed_step : (net : Net) (flows : List ℕ) (dir : Direction) (side : ℕ → Bool) (h place : ℕ) → IsNet net
-    → h < 2 * length net.arcs → place < net.nodes → group_of net h ≡ place → IsClosedFor dir net flows side
-    → IsTrue (side (place + 1)) → 1 ≤ residual net flows (crossed dir h) → IsTrue (side (head_of net h))
-closed_step net flows dir side h place n l inside e closed t r =
-    let near : near_end dir net (crossed dir h) ≡ place + 1 =
-    near_crossed dir net h ∙ group_tail net h place n l e inside in
-    subst (λ v. IsTrue (side v)) (far_crossed dir net h)
-    (closed (crossed dir h) (crossed_within dir h (length net.arcs) l) (subst (λ v. IsTrue (side v)) (sym near) t) r)
+  -- a closed set takes in where it leads
+  pub closed_step : (side : ℕ → Bool) → IsClosedFor dir net flows side → IsTrue (side (place + 1))
+      → 1 ≤ residual net flows (crossed dir h) → IsTrue (side (head_of net h))
+  closed_step side closed t r =
+      let near : near_end dir net (crossed dir h) ≡ place + 1 =
+      near_crossed dir net h ∙ group_tail net h place n l e inside in
+      subst (λ v. IsTrue (side v)) (far_crossed dir net h)
+      (closed (crossed dir h) (crossed_within dir h (length net.arcs) l) (subst (λ v. IsTrue (side v)) (sym near) t) r)

@@ -110,10 +110,10 @@ others_closed : (net : Net) (xs : List ℕ) (X : ℕ → Bool) → IsClosedFor B
     → IsClosed net xs (λ v. not (X v))
 others_closed net xs X c h l i r = turn (X (head_of net h)) (X (tail_of net h)) (λ e. c h l e r) i
 
-pub raised_parted : (dir : Direction) (net : Net) (order : List ℕ) (k : ℕ) (xs : List ℕ) (v : ℕ) (X : ℕ → Bool)
+pub raised_parted : (dir : Direction) {net : Net} {order : List ℕ} {k : ℕ} {xs : List ℕ} {v : ℕ} (X : ℕ → Bool)
     → IsNet net → All (λ a. a.cap ≡ 1) net.arcs → IsRaised dir net order k xs v
     → IsCut (just (slice_index order k)) (before order k) X → IsClosedFor dir net xs X → parted dir net X ≡ v
-raised_parted Forwards net order k xs v X n one r c closed =
+raised_parted Forwards {net} {order} {k} {xs} X n one r c closed =
     let z = zip_from_fits net xs r.feasible.fits in
     let b = closed_by_arcs net xs X r.feasible.fits.count closed in
     omega (
@@ -124,7 +124,7 @@ raised_parted Forwards net order k xs v X n one r c closed =
       closed_empty X net.arcs xs b,
       cap_counts (leaves X) net.arcs (units net one),
     )
-raised_parted Backwards net order k xs v X n one r c closed =
+raised_parted Backwards {net} {order} {k} {xs} X n one r c closed =
     let z = zip_from_fits net xs r.feasible.fits in
     let Y : ℕ → Bool = λ u. not (X u) in
     let b = closed_by_arcs net xs Y r.feasible.fits.count (others_closed net xs X closed) in
@@ -199,31 +199,30 @@ abbrev pub IsUnderWay : Direction → Net → (ℕ → Bool) → (ℕ → Bool) 
 IsUnderWay Forwards net s t xs w x ys = IsMoved net s t xs 1 w x ys
 IsUnderWay Backwards net s t xs w x ys = IsMoved net s t xs 1 x w ys
 
-pub way_begins : (dir : Direction) (net : Net) (s t : ℕ → Bool) (xs : List ℕ) (w : ℕ) → IsFeasible net s t xs
-    → IsUnderWay dir net s t xs w w xs
-way_begins Forwards net s t xs w f = moved_nothing net s t xs 1 w f
-way_begins Backwards net s t xs w f = moved_nothing net s t xs 1 w f
+module _ (net : Net) (s t : ℕ → Bool) (xs : List ℕ) (w : ℕ) where
+  pub way_begins : (dir : Direction) → IsFeasible net s t xs → IsUnderWay dir net s t xs w w xs
+  way_begins Forwards f = moved_nothing net s t xs 1 w f
+  way_begins Backwards f = moved_nothing net s t xs 1 w f
 
-pub way_on : (dir : Direction) (net : Net) (s t : ℕ → Bool) (xs : List ℕ) (w x h : ℕ) (ys : List ℕ)
-    → h < 2 * length net.arcs → 1 ≤ residual net ys h → near_end dir net h ≡ x → IsUnderWay dir net s t xs w x ys
-    → IsUnderWay dir net s t xs w (far_end dir net h) (pushed ys h 1)
-way_on Forwards net s t xs w x h ys l r e m =
-    moved_on net s t xs 1 w h ys l r (subst (λ z. IsMoved net s t xs 1 w z ys) (sym e) m)
-way_on Backwards net s t xs w x h ys l r e m =
-    moved_before net s t xs 1 w h ys l r (subst (λ z. IsMoved net s t xs 1 z w ys) (sym e) m)
+  pub way_on : (dir : Direction) (x h : ℕ) (ys : List ℕ) → h < 2 * length net.arcs → 1 ≤ residual net ys h
+      → near_end dir net h ≡ x → IsUnderWay dir net s t xs w x ys
+      → IsUnderWay dir net s t xs w (far_end dir net h) (pushed ys h 1)
+  way_on Forwards x h ys l r e m = moved_on net s t xs 1 w h ys l r (subst (λ z. IsMoved net s t xs 1 w z ys) (sym e) m)
+  way_on Backwards x h ys l r e m =
+      moved_before net s t xs 1 w h ys l r (subst (λ z. IsMoved net s t xs 1 z w ys) (sym e) m)
 
-pub way_ends : (dir : Direction) (net : Net) (order : List ℕ) (k x : ℕ) (xs ys : List ℕ) (v : ℕ) → IsOrder net order
-    → k < length order → before order k x ≡ true → IsRaised dir net order k xs v
+pub way_ends : (dir : Direction) {net : Net} {order : List ℕ} {k : ℕ} (x : ℕ) {xs : List ℕ} (ys : List ℕ) {v : ℕ}
+    → IsOrder net order → k < length order → before order k x ≡ true → IsRaised dir net order k xs v
     → IsUnderWay dir net (just (slice_index order k)) (before order k) xs (slice_index order k) x ys
     → IsRaised dir net order k ys (v + 1)
-way_ends Forwards net order k x xs ys v o l i r m =
+way_ends Forwards {net} {order} {k} x {xs} ys o l i r m =
     let w = slice_index order k in
     let other : just w x ≡ false = ne_eqb x w (not_before net order k x o l i) in
     record {
       feasible = moved_feasible net (just w) (before order k) xs 1 w x ys (just_self w) i m;
       sent = omega (arith, r.sent, moved_value net (just w) (before order k) xs 1 w x ys (just_self w) other m);
     }
-way_ends Backwards net order k x xs ys v o l i r m =
+way_ends Backwards {net} {order} {k} x ys o l i r m =
     let w = slice_index order k in
     let other : just w x ≡ false = ne_eqb x w (not_before net order k x o l i) in
     record {
@@ -241,15 +240,15 @@ way_ends Backwards net order k x xs ys v o l i r m =
     }
 
 -- a unit over one half-arc, from the node of the turn to one before it
-pub raised_directly : (dir : Direction) (net : Net) (order : List ℕ) (k : ℕ) (xs : List ℕ) (v h : ℕ) → IsOrder net order
-    → k < length order → h < 2 * length net.arcs → 1 ≤ residual net xs h → near_end dir net h ≡ slice_index order k
-    → before order k (far_end dir net h) ≡ true → IsRaised dir net order k xs v
-    → IsRaised dir net order k (pushed xs h 1) (v + 1)
-raised_directly dir net order k xs v h o l i room near t r =
+pub raised_directly : {dir : Direction} {net : Net} {order : List ℕ} {k : ℕ} {xs : List ℕ} {v : ℕ} (h : ℕ)
+    → IsOrder net order → k < length order → h < 2 * length net.arcs → 1 ≤ residual net xs h
+    → near_end dir net h ≡ slice_index order k → before order k (far_end dir net h) ≡ true
+    → IsRaised dir net order k xs v → IsRaised dir net order k (pushed xs h 1) (v + 1)
+raised_directly {dir} {net} {order} {k} {xs} h o l i room near t r =
     let w = slice_index order k in
-    way_ends dir net order k (far_end dir net h) xs (pushed xs h 1) v o l t r
-    (way_on dir net (just w) (before order k) xs w w h xs i room near
-    (way_begins dir net (just w) (before order k) xs w r.feasible))
+    way_ends dir (far_end dir net h) (pushed xs h 1) o l t r
+    (way_on net (just w) (before order k) xs w dir w h xs i room near
+    (way_begins net (just w) (before order k) xs w dir r.feasible))
 
 -- ---- the connectivity
 

@@ -214,7 +214,7 @@ sinks_at : (net : Net) (t xs dist via : List ℕ) → IsSearched net xs Backward
 sinks_at net t xs dist via f nodes v i =
     let at = cell_at dist v i.0 in (
       (λ k. (zero_sink net t xs dist via v f nodes k).0),
-      (λ e. sink_at net xs t dist via v f i.0 i.1 (omega arith) (omega arith)),
+      (λ e. sink_at v f i.0 i.1 (omega arith) (omega arith)),
     )
 
 -- a queue whose places have their ranks

@@ -67,24 +67,6 @@ zero_flow net s t = record {
   no_loops = zeros_no_loops net;
 }
 
--- a flow after an augmentation
-pub raised : (net : Net) (s t xs dist via : List ℕ) (value d v : ℕ) → AreApart (one_of s) (one_of t)
-    → IsFlow net s t xs value → length via ≡ net.nodes → IsSearched net xs Backwards t dist via → IsTrue (one_of s v)
-    → IsNode net v → IsMarked dist (v - 1) → HasRoom net xs d (trail_from net dist via v)
-    → IsFlow net s t (push_all xs (trail_from net dist via v) d) (value + d)
-raised net s t xs dist via value d v a f size q i node m room =
-    let trails = searched_trails net xs t dist via size q in
-    let r = trail_is net xs dist via (get_or dist (v - 1) 0) v trails node.0 node.1 m refl in
-    let sink = sink_at net xs t dist via r.last q r.node.0 r.node.1 r.marked r.over in
-    let apart = climbs_apart net (nearness net dist) v r.last (trail_from net dist via v) r.leads r.climbs in
-    let more = augmented net (one_of s) (one_of t) xs d v r.last (trail_from net dist via v) f.feasible i sink
-    (sink_no_source (one_of s) (one_of t) a r.last sink) r.leads apart room in
-    record {
-      feasible = more.0;
-      value = omega (arith, f.value, more.1);
-      no_loops = no_loops_climbed net (nearness net dist) xs d (trail_from net dist via v) r.climbs f.no_loops;
-    }
-
 -- the steps of one more augmentation
 pub paid_more : (before now value d n m : ℕ) → now ≤ before + value * (2 * m + 2 * n) + 2 * m + 2 * n → 1 ≤ d
     → now ≤ before + (value + d) * (2 * m + 2 * n)
@@ -110,17 +92,35 @@ paid_all net before now value n l p =
     (let two = n.nodes_least in omega arith) in
     omega arith
 
--- the same of a table's flows before the search, after it and after the pushes
-pub raised_by : (net : Net) (s t xs dist via : List ℕ) (value d v : ℕ) (zs ys : List ℕ) → AreTerminals net s t
-    → IsFlow net s t xs value → length via ≡ net.nodes → IsSearched net xs Backwards t dist via → IsTrue (one_of s v)
-    → IsNode net v → IsMarked dist (v - 1) → zs ≡ xs → HasRoom net zs d (trail_from net dist via v)
-    → ys ≡ push_all zs (trail_from net dist via v) d → IsFlow net s t ys (value + d)
-raised_by net s t xs dist via value d v zs ys a f size q i node m kept room pushed =
-    let r = raised net s t xs dist via value d v (terminals_apart net s t a) f size q i node m
-    (subst (λ (us : List ℕ). HasRoom net us d (trail_from net dist via v)) kept room) in
-    let same : ys ≡ push_all xs (trail_from net dist via v) d =
-    pushed ∙ ap (λ (us : List ℕ). push_all us (trail_from net dist via v) d) kept in
-    subst (λ (us : List ℕ). IsFlow net s t us (value + d)) (sym same) r
+-- a search backwards has seen a source, and the trail from it is filled
+module _ {net : Net} {s t xs dist via : List ℕ} {value : ℕ} (d v : ℕ) (flow : IsFlow net s t xs value)
+    (size : length via ≡ net.nodes) (f : IsSearched net xs Backwards t dist via) (i : IsTrue (one_of s v))
+    (node : IsNode net v) (m : IsMarked dist (v - 1)) where
+  -- a flow after an augmentation
+  pub raised : AreApart (one_of s) (one_of t) → HasRoom net xs d (trail_from net dist via v)
+      → IsFlow net s t (push_all xs (trail_from net dist via v) d) (value + d)
+  raised a room =
+      let trails = searched_trails size f in
+      let r = trail_is trails (get_or dist (v - 1) 0) v node.0 node.1 m refl in
+      let sink = sink_at r.last f r.node.0 r.node.1 r.marked r.over in
+      let apart = climbs_apart net (nearness net dist) v r.last (trail_from net dist via v) r.leads r.climbs in
+      let more = augmented net (one_of s) (one_of t) xs d v r.last (trail_from net dist via v) flow.feasible i sink
+      (sink_no_source (one_of s) (one_of t) a r.last sink) r.leads apart room in
+      record {
+        feasible = more.0;
+        value = omega (arith, flow.value, more.1);
+        no_loops = no_loops_climbed net (nearness net dist) xs d (trail_from net dist via v) r.climbs flow.no_loops;
+      }
+
+  -- the same of a table's flows before the search, after it and after the pushes
+  pub raised_by : {zs ys : List ℕ} → AreTerminals net s t → zs ≡ xs → HasRoom net zs d (trail_from net dist via v)
+      → ys ≡ push_all zs (trail_from net dist via v) d → IsFlow net s t ys (value + d)
+  raised_by {ys} a kept room pushed =
+      let r = raised (terminals_apart net s t a) (subst (λ (us : List ℕ). HasRoom net us d (trail_from net dist via v))
+      kept room) in
+      let same : ys ≡ push_all xs (trail_from net dist via v) d =
+      pushed ∙ ap (λ (us : List ℕ). push_all us (trail_from net dist via v) d) kept in
+      subst (λ (us : List ℕ). IsFlow net s t us (value + d)) (sym same) r
 
 -- no trail: the flow's value is the greatest, and the least capacity
 pub settled : (net : Net) (s t xs : List ℕ) (X : ℕ → Bool) (value : ℕ) → IsNet net → IsFlow net s t xs value

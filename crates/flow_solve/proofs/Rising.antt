@@ -22,10 +22,10 @@ use Rattle.flow_solve.proofs.Routes.{sink_no_source, terminals_apart}
 abbrev pub level_by : List ℕ → ℕ → ℕ
 level_by cells v = key_of (slice_index cells v)
 
-rising_cons : (net : Net) (level : ℕ → ℕ) (xs : List ℕ) (d u v h w : ℕ) (rest : List ℕ) → h < 2 * length net.arcs
-    → tail_of net h ≡ u → v ≡ head_of net h → level u < level v → d ≤ residual net xs h
+rising_cons : {net : Net} {level : ℕ → ℕ} {xs : List ℕ} {d u v : ℕ} (h : ℕ) {w : ℕ} {rest : List ℕ}
+    → h < 2 * length net.arcs → tail_of net h ≡ u → v ≡ head_of net h → level u < level v → d ≤ residual net xs h
     → IsRising net level xs d v rest w → IsRising net level xs d u (h ∷ rest) w
-rising_cons net level xs d u v h w rest half from to up room r =
+rising_cons {net} {level} h {w} {rest} half from to up room r =
     let low = ap level from in let high = ap level to in
     record {
       leads = (half, from, subst (λ z. IsPath net z rest w) to r.leads);
@@ -34,13 +34,13 @@ rising_cons net level xs d u v h w rest half from to up room r =
     }
 
 -- the rest of a path is longer by the half-arc before it
-pub rising_more : (net : Net) (level : ℕ → ℕ) (xs path : List ℕ) (d u v w i : ℕ) → i < length path
+pub rising_more : {net : Net} {level : ℕ → ℕ} {xs : List ℕ} (path : List ℕ) {d u v w : ℕ} (i : ℕ) → i < length path
     → get_or path i 0 < 2 * length net.arcs → tail_of net (get_or path i 0) ≡ u → v ≡ head_of net (get_or path i 0)
     → level u < level v → d ≤ residual net xs (get_or path i 0) → IsRising net level xs d v (drop (i + 1) path) w
     → IsRising net level xs d u (drop i path) w
-rising_more net level xs path d u v w i l half from to up room r =
+rising_more {net} {level} {xs} path {d} {u} {w} i l half from to up room r =
     subst (λ hs. IsRising net level xs d u hs w) (sym (drop_more path i 0 l))
-    (rising_cons net level xs d u v (get_or path i 0) w (drop (i + 1) path) half from to up room r)
+    (rising_cons (get_or path i 0) half from to up room r)
 
 -- nothing of it is left at its end
 pub rising_end : (net : Net) (level : ℕ → ℕ) (xs path : List ℕ) (d w i : ℕ) → length path ≤ i
@@ -80,9 +80,9 @@ flow_pushed net s t xs path d k n f a =
       no_loops = no_loops_climbed net a.level xs d path a.rising.rises f.no_loops;
     }
 
-pub flow_on : (net : Net) (s t xs zs ys path : List ℕ) (d k : ℕ) → AreTerminals net s t → IsFlow net s t xs k
+pub flow_on : {net : Net} {s t xs zs ys path : List ℕ} {d k : ℕ} → AreTerminals net s t → IsFlow net s t xs k
     → IsAugmenting net s t xs path d → zs ≡ xs → ys ≡ push_all zs path d → IsFlow net s t ys (k + d)
-flow_on net s t xs zs ys path d k n f a z y =
+flow_on {net} {s} {t} {xs} {path} {d} {k} n f a z y =
     subst (λ ws. IsFlow net s t ws (k + d)) (sym (y ∙ ap (λ ws. push_all ws path d) z))
     (flow_pushed net s t xs path d k n f a)
 

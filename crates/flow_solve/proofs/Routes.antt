@@ -55,13 +55,13 @@ pub record IsWay (net : Net) (xs : List ℕ) (from : ℕ → Bool) (level : ℕ 
   pub climbs : Climbs net level path
   pub room : HasRoom net xs 1 path
 
-pub way_to : (net : Net) (xs s dist via : List ℕ) → IsSearched net xs Forwards s dist via → (d v w : ℕ) (hs : List ℕ)
-    → 1 ≤ v → v ≤ net.nodes → IsMarked dist (v - 1) → get_or dist (v - 1) 0 ≡ d → IsPath net v hs w
+pub way_to : {net : Net} {xs s dist via : List ℕ} → IsSearched net xs Forwards s dist via → (d v w : ℕ) (hs : List ℕ)
+    → IsNode net v → IsMarked dist (v - 1) → get_or dist (v - 1) 0 ≡ d → IsPath net v hs w
     → Climbs net (λ u. get_or dist (u - 1) 0) hs → HasRoom net xs 1 hs
     → IsWay net xs (one_of s) (λ u. get_or dist (u - 1) 0) w
-way_to net xs s dist via f zero v w hs o l m e p c r = elim (f.come (v - 1) (omega arith) m) [
+way_to {s} f zero v w hs i m e p c r = elim (f.come (v - 1) (omega (arith, i)) m) [
   | inl start ↦
-      let node : v - 1 + 1 ≡ v = omega arith in
+      let node : v - 1 + 1 ≡ v = omega (arith, i) in
       record {
         first = v;
         path = hs;
@@ -72,22 +72,22 @@ way_to net xs s dist via f zero v w hs o l m e p c r = elim (f.come (v - 1) (ome
       }
   | inr came ↦ absurd (omega (arith, came.level))
 ]
-way_to net xs s dist via f (suc d) v w hs o l m e p c r = elim (f.come (v - 1) (omega arith) m) [
+way_to {net} {dist} {via} f (suc d) v w hs i m e p c r = elim (f.come (v - 1) (omega (arith, i)) m) [
   | inl start ↦ absurd (omega (arith, start.0))
   | inr came ↦
       let h = get_or via (v - 1) 0 in
       let head : head_of net h ≡ v = let far = came.far in omega arith in
       let there : get_or dist (head_of net h - 1) 0 ≡ get_or dist (v - 1) 0 = ap (λ u. get_or dist (u - 1) 0) head in
-      way_to net xs s dist via f d (tail_of net h) w (h ∷ hs) came.near came.within came.marked
-      (omega (arith, came.level)) (came.in_range, refl, subst (λ u. IsPath net u hs w) (sym head) p)
-      (omega (arith, came.level), c) (came.remains, r)
+      way_to f d (tail_of net h) w (h ∷ hs) (came.near, came.within) came.marked (omega (arith, came.level))
+      (came.in_range, refl, subst (λ u. IsPath net u hs w) (sym head) p) (omega (arith, came.level), c)
+      (came.remains, r)
 ]
 
-pub forward_route : (net : Net) (xs s dist via : List ℕ) (t : ℕ → Bool) (p : ℕ) → IsSearched net xs Forwards s dist via
+pub forward_route : {net : Net} {xs s dist via : List ℕ} (t : ℕ → Bool) (p : ℕ) → IsSearched net xs Forwards s dist via
     → p < net.nodes → IsMarked dist p → IsTrue (t (p + 1)) → IsRoute net xs (one_of s) t
-forward_route net xs s dist via t p f l m i =
+forward_route {net} {xs} {s} {dist} {via} t p f l m i =
     let back : p + 1 - 1 ≡ p = omega arith in
-    let w = way_to net xs s dist via f (get_or dist (p + 1 - 1) 0) (p + 1) (p + 1) [] (omega arith) (omega arith)
+    let w = way_to f (get_or dist (p + 1 - 1) 0) (p + 1) (p + 1) [] (omega arith, omega arith)
     (subst (IsMarked dist) (sym back) m) refl refl tt tt in
     record {
       first = w.first;
@@ -104,9 +104,9 @@ forward_route net xs s dist via t p f l m i =
 abbrev pub nearness : Net → List ℕ → ℕ → ℕ
 nearness net dist v = net.nodes - get_or dist (v - 1) 0
 
-pub searched_trails : (net : Net) (xs t dist via : List ℕ) → length via ≡ net.nodes
+pub searched_trails : {net : Net} {xs t dist via : List ℕ} → length via ≡ net.nodes
     → IsSearched net xs Backwards t dist via → AreTrails net xs dist via
-searched_trails net xs t dist via size f = record {
+searched_trails size f = record {
   dist_size = f.size;
   via_size = size;
   come = λ p l m o. elim (f.come p l m) [
@@ -127,21 +127,6 @@ pub record IsNext (net : Net) (xs dist via : List ℕ) (v : ℕ) : Type 0 where
   pub parts : trail_from net dist via v
       ≡ get_or via (v - 1) 0 ∷ trail_from net dist via (head_of net (get_or via (v - 1) 0))
 
-pub next_on : (net : Net) (xs dist via : List ℕ) (v : ℕ) → AreTrails net xs dist via → 1 ≤ v → v ≤ net.nodes
-    → IsMarked dist (v - 1) → 1 ≤ get_or dist (v - 1) 0 → IsNext net xs dist via v
-next_on net xs dist via v a o l m d =
-    let came = a.come (v - 1) (omega arith) m d in let h = get_or via (v - 1) 0 in
-    let more : get_or dist (v - 1) 0 ≡ suc (get_or dist (head_of net h - 1) 0) = omega (arith, came.level) in
-    record {
-      in_range = came.in_range;
-      begins = let far = came.far in omega arith;
-      remains = came.remains;
-      node = (came.near, came.within);
-      marked = came.marked;
-      level = came.level;
-      parts = ap (λ k. trail net via k v) more;
-    }
-
 -- a trail is a path that climbs, with room; it ends where the distance is 0
 pub record IsTrail (net : Net) (xs dist via : List ℕ) (v d : ℕ) : Type 0 where
   pub last : ℕ
@@ -152,75 +137,88 @@ pub record IsTrail (net : Net) (xs dist via : List ℕ) (v d : ℕ) : Type 0 whe
   pub climbs : Climbs net (nearness net dist) (trail net via d v)
   pub room : HasRoom net xs 1 (trail net via d v)
 
-pub trail_is : (net : Net) (xs dist via : List ℕ) (d v : ℕ) → AreTrails net xs dist via → 1 ≤ v → v ≤ net.nodes
-    → IsMarked dist (v - 1) → get_or dist (v - 1) 0 ≡ d → IsTrail net xs dist via v d
-trail_is net xs dist via zero v a o l m e = record {
-  last = v;
-  node = (o, l);
-  marked = m;
-  over = e;
-  leads = refl;
-  climbs = tt;
-  room = tt;
-}
-trail_is net xs dist via (suc d) v a o l m e =
-    let n = next_on net xs dist via v a o l m (omega arith) in let h = get_or via (v - 1) 0 in
-    let rest = trail_is net xs dist via d (head_of net h) a n.node.0 n.node.1 n.marked (omega (arith, n.level)) in
-    let here : get_or dist (tail_of net h - 1) 0 ≡ get_or dist (v - 1) 0 = ap (λ u. get_or dist (u - 1) 0) n.begins in
-    let low = a.levels (v - 1) (omega arith) m in
-    record {
-      last = rest.last;
-      node = rest.node;
-      marked = rest.marked;
-      over = rest.over;
-      leads = (n.in_range, n.begins, rest.leads);
-      climbs = (omega (arith, n.level), rest.climbs);
-      room = (n.remains, rest.room);
-    }
+-- trails that lead on to where the search began
+module _ {net : Net} {xs dist via : List ℕ} (a : AreTrails net xs dist via) where
+  pub next_on : (v : ℕ) → 1 ≤ v → v ≤ net.nodes → IsMarked dist (v - 1) → 1 ≤ get_or dist (v - 1) 0
+      → IsNext net xs dist via v
+  next_on v o l m d =
+      let came = a.come (v - 1) (omega arith) m d in let h = get_or via (v - 1) 0 in
+      let more : get_or dist (v - 1) 0 ≡ suc (get_or dist (head_of net h - 1) 0) = omega (arith, came.level) in
+      record {
+        in_range = came.in_range;
+        begins = let far = came.far in omega arith;
+        remains = came.remains;
+        node = (came.near, came.within);
+        marked = came.marked;
+        level = came.level;
+        parts = ap (λ k. trail net via k v) more;
+      }
+
+  pub trail_is : (d v : ℕ) → 1 ≤ v → v ≤ net.nodes → IsMarked dist (v - 1) → get_or dist (v - 1) 0 ≡ d
+      → IsTrail net xs dist via v d
+  trail_is zero v o l m e = record {
+    last = v;
+    node = (o, l);
+    marked = m;
+    over = e;
+    leads = refl;
+    climbs = tt;
+    room = tt;
+  }
+  trail_is (suc d) v o l m e =
+      let n = next_on v o l m (omega arith) in let h = get_or via (v - 1) 0 in
+      let rest = trail_is d (head_of net h) n.node.0 n.node.1 n.marked (omega (arith, n.level)) in
+      let here : get_or dist (tail_of net h - 1) 0 ≡ get_or dist (v - 1) 0 = ap (λ u. get_or dist (u - 1) 0) n.begins in
+      let low = a.levels (v - 1) (omega arith) m in
+      record {
+        last = rest.last;
+        node = rest.node;
+        marked = rest.marked;
+        over = rest.over;
+        leads = (n.in_range, n.begins, rest.leads);
+        climbs = (omega (arith, n.level), rest.climbs);
+        room = (n.remains, rest.room);
+      }
+
+  -- no two half-arcs of a trail are of one arc
+  pub trail_parted : (v : ℕ) → 1 ≤ v → v ≤ net.nodes → IsMarked dist (v - 1) → IsApart (trail_from net dist via v)
+  trail_parted v o l m =
+      let r = trail_is (get_or dist (v - 1) 0) v o l m refl in
+      climbs_apart net (nearness net dist) v r.last (trail_from net dist via v) r.leads r.climbs
+
+  pub trail_apart : (v h : ℕ) (rest : List ℕ) → 1 ≤ v → v ≤ net.nodes → IsMarked dist (v - 1)
+      → trail_from net dist via v ≡ h ∷ rest → AllByRecursion (λ g. g / 2 ≢ h / 2) rest
+  trail_apart v h rest o l m e = (subst IsApart e (trail_parted v o l m)).0
 
 -- where the distance is 0 a search backwards began
-pub sink_at : (net : Net) (xs t dist via : List ℕ) (v : ℕ) → IsSearched net xs Backwards t dist via → 1 ≤ v
+pub sink_at : {net : Net} {xs t dist via : List ℕ} (v : ℕ) → IsSearched net xs Backwards t dist via → 1 ≤ v
     → v ≤ net.nodes → IsMarked dist (v - 1) → get_or dist (v - 1) 0 ≡ 0 → one_of t v ≡ true
-sink_at net xs t dist via v f o l m e = elim (f.come (v - 1) (omega arith) m) [
+sink_at {t} v f o l m e = elim (f.come (v - 1) (omega arith) m) [
   | inl start ↦ let node : v - 1 + 1 ≡ v = omega arith in subst (λ u. IsTrue (one_of t u)) node start.1
   | inr came ↦ absurd (omega (arith, came.level))
 ]
 
-pub backward_route : (net : Net) (xs t dist via : List ℕ) (s : ℕ → Bool) (p : ℕ) → length via ≡ net.nodes
+pub backward_route : {net : Net} {xs t dist via : List ℕ} (s : ℕ → Bool) (p : ℕ) → length via ≡ net.nodes
     → IsSearched net xs Backwards t dist via → p < net.nodes → IsMarked dist p → IsTrue (s (p + 1))
     → IsRoute net xs s (one_of t)
-backward_route net xs t dist via s p size f l m i =
+backward_route {net} {dist} {via} s p size f l m i =
     let back : p + 1 - 1 ≡ p = omega arith in
-    let r = trail_is net xs dist via (get_or dist (p + 1 - 1) 0) (p + 1) (searched_trails net xs t dist via size f)
-    (omega arith) (omega arith) (subst (IsMarked dist) (sym back) m) refl in
+    let r = trail_is (searched_trails size f) (get_or dist (p + 1 - 1) 0) (p + 1) (omega arith) (omega arith)
+    (subst (IsMarked dist) (sym back) m) refl in
     record {
       first = p + 1;
       last = r.last;
       path = trail_from net dist via (p + 1);
       begins = i;
-      ends = sink_at net xs t dist via r.last f r.node.0 r.node.1 r.marked r.over;
+      ends = sink_at r.last f r.node.0 r.node.1 r.marked r.over;
       leads = r.leads;
       apart = climbs_apart net (nearness net dist) (p + 1) r.last (trail_from net dist via (p + 1)) r.leads r.climbs;
       room = r.room;
     }
 
 -- in the search's direction
-pub has_route : (dir : Direction) (net : Net) (xs starts until dist via : List ℕ) (p : ℕ) → length via ≡ net.nodes
-    → IsSearched net xs dir starts dist via → p < net.nodes → IsMarked dist p → IsTrue (one_of until (p + 1))
-    → HasRoute dir net xs starts until
-has_route Forwards net xs starts until dist via p size f l m i =
-    forward_route net xs starts dist via (one_of until) p f l m i
-has_route Backwards net xs starts until dist via p size f l m i =
-    backward_route net xs starts dist via (one_of until) p size f l m i
-
--- no two half-arcs of a trail are of one arc
-pub trail_parted : (net : Net) (xs dist via : List ℕ) (v : ℕ) → AreTrails net xs dist via → 1 ≤ v → v ≤ net.nodes
-    → IsMarked dist (v - 1) → IsApart (trail_from net dist via v)
-trail_parted net xs dist via v a o l m =
-    let r = trail_is net xs dist via (get_or dist (v - 1) 0) v a o l m refl in
-    climbs_apart net (nearness net dist) v r.last (trail_from net dist via v) r.leads r.climbs
-
-pub trail_apart : (net : Net) (xs dist via : List ℕ) (v h : ℕ) (rest : List ℕ) → AreTrails net xs dist via → 1 ≤ v
-    → v ≤ net.nodes → IsMarked dist (v - 1) → trail_from net dist via v ≡ h ∷ rest
-    → AllByRecursion (λ g. g / 2 ≢ h / 2) rest
-trail_apart net xs dist via v h rest a o l m e = (subst IsApart e (trail_parted net xs dist via v a o l m)).0
+pub has_route : (dir : Direction) {net : Net} {xs starts : List ℕ} (until : List ℕ) {dist via : List ℕ} (p : ℕ)
+    → length via ≡ net.nodes → IsSearched net xs dir starts dist via → p < net.nodes → IsMarked dist p
+    → IsTrue (one_of until (p + 1)) → HasRoute dir net xs starts until
+has_route Forwards until p size f l m i = forward_route (one_of until) p f l m i
+has_route Backwards until p size f l m i = backward_route (one_of until) p size f l m i

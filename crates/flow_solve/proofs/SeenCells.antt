@@ -36,44 +36,45 @@ places_marked n order cells p v l m a q h k = elim (set_cases cells p v q l) [
   | inr o ↦ ap (λ z. get_or order z 0) o.1 ∙ a q h (omega (arith, o.1))
 ]
 
--- a node that comes to be seen, at the end of the queue
-pub queued_more : (n : ℕ) (order cells queue : List ℕ) (tail p v : ℕ) → length queue ≡ n → length cells ≡ n → p < n
-    → tail < n → get_or cells p 0 < n → n ≤ v → ArePlaces n order cells → IsQueued n order cells queue tail
-    → IsQueued n order (set cells p v) (set queue tail (get_or cells p 0)) (tail + 1)
-queued_more n order cells queue tail p v ql cl l t c m a q = record {
-  few = omega arith;
-  places = λ i h. elim (set_cases queue tail (get_or cells p 0) i (omega arith)) [
-    | inl e ↦ omega (arith, e.1)
-    | inr o ↦ omega (arith, o.1, q.places i (let d = o.0 in omega arith))
-  ];
-  waits = λ j h k. elim (set_cases cells p v j (omega arith)) [
-    | inl e ↦ (
-      tail,
-      omega arith,
-      ap (λ z. get_or order z 0) (get_or-set_same queue tail (get_or cells p 0) 0 (omega arith)) ∙ a p l c
-          ∙ ap (λ z. z + 1) (sym e.0),
-    )
-    | inr o ↦
-        let r = q.waits j h (omega (arith, o.1)) in (
-          r.0,
-          omega (arith, r.1),
-          ap (λ z. get_or order z 0)
-              (get_or-set_other queue tail r.0 (get_or cells p 0) 0 (λ f. absurd (omega (arith, r.1)))) ∙ r.2,
-        )
-  ];
-}
+module _ (n : ℕ) (order cells queue : List ℕ) (tail : ℕ) where
+  -- a node that comes to be seen, at the end of the queue
+  pub queued_more : (p v : ℕ) → length queue ≡ n → length cells ≡ n → p < n → tail < n → get_or cells p 0 < n → n ≤ v
+      → ArePlaces n order cells → IsQueued n order cells queue tail
+      → IsQueued n order (set cells p v) (set queue tail (get_or cells p 0)) (tail + 1)
+  queued_more p v ql cl l t c m a q = record {
+    few = omega arith;
+    places = λ i h. elim (set_cases queue tail (get_or cells p 0) i (omega arith)) [
+      | inl e ↦ omega (arith, e.1)
+      | inr o ↦ omega (arith, o.1, q.places i (let d = o.0 in omega arith))
+    ];
+    waits = λ j h k. elim (set_cases cells p v j (omega arith)) [
+      | inl e ↦ (
+        tail,
+        omega arith,
+        ap (λ z. get_or order z 0) (get_or-set_same queue tail (get_or cells p 0) 0 (omega arith)) ∙ a p l c
+            ∙ ap (λ z. z + 1) (sym e.0),
+      )
+      | inr o ↦
+          let r = q.waits j h (omega (arith, o.1)) in (
+            r.0,
+            omega (arith, r.1),
+            ap (λ z. get_or order z 0)
+                (get_or-set_other queue tail r.0 (get_or cells p 0) 0 (λ f. absurd (omega (arith, r.1)))) ∙ r.2,
+          )
+    ];
+  }
 
--- a node that is seen stays so where its cell gets another such number
-pub queued_same : (n : ℕ) (order cells queue : List ℕ) (tail p v : ℕ) → p < length cells → n ≤ get_or cells p 0
-    → IsQueued n order cells queue tail → IsQueued n order (set cells p v) queue tail
-queued_same n order cells queue tail p v l m q = record {
-  few = q.few;
-  places = q.places;
-  waits = λ j h k. elim (set_cases cells p v j l) [
-    | inl e ↦ q.waits j h (let f = e.0 in omega (arith, ap (λ z. get_or cells z 0) f))
-    | inr o ↦ q.waits j h (omega (arith, o.1))
-  ];
-}
+  -- a node that is seen stays so where its cell gets another such number
+  pub queued_same : (p v : ℕ) → p < length cells → n ≤ get_or cells p 0 → IsQueued n order cells queue tail
+      → IsQueued n order (set cells p v) queue tail
+  queued_same p v l m q = record {
+    few = q.few;
+    places = q.places;
+    waits = λ j h k. elim (set_cases cells p v j l) [
+      | inl e ↦ q.waits j h (let f = e.0 in omega (arith, ap (λ z. get_or cells z 0) f))
+      | inr o ↦ q.waits j h (omega (arith, o.1))
+    ];
+  }
 
 -- where no node is seen the queue is empty
 pub queued_none : (n : ℕ) (order cells queue : List ℕ) → IsClean n cells → IsQueued n order cells queue 0
@@ -113,34 +114,6 @@ pub record IsLeft (n : ℕ) (order cells queue : List ℕ) (at tail : ℕ) : Typ
   pub waits : (p : ℕ) → p < n → n ≤ slice_index cells p
       → (i : ℕ) × (at ≤ i) × (i < tail) × (slice_index order (slice_index queue i) ≡ p + 1)
 
-pub left_all : (n : ℕ) (order cells queue : List ℕ) (tail : ℕ) → IsQueued n order cells queue tail
-    → IsLeft n order cells queue 0 tail
-left_all n order cells queue tail q = record {
-  waits = λ p h k. (let r = q.waits p h k in (r.0, omega arith, r.1, r.2));
-}
-
-pub left_next : (n : ℕ) (order cells queue : List ℕ) (at tail : ℕ) → length cells ≡ n → slice_index queue at < n
-    → 1 ≤ slice_index order (slice_index queue at) → slice_index order (slice_index queue at) ≤ n
-    → IsLeft n order cells queue at tail
-    → IsLeft n order (set cells (slice_index order (slice_index queue at) - 1) (slice_index queue at)) queue (at + 1)
-    tail
-left_next n order cells queue at tail cl b low high q = record {
-  waits = λ p h k.
-      elim (set_cases cells (slice_index order (slice_index queue at) - 1) (slice_index queue at) p (omega arith)) [
-        | inl e ↦ absurd (omega (arith, e.1))
-        | inr o ↦
-            let r = q.waits p h (omega (arith, o.1)) in
-            (r.0, later r.0 p r.1 r.3 o.0, r.2, r.3)
-      ];
-}
-  where
-    later : (i p : ℕ) → at ≤ i → slice_index order (slice_index queue i) ≡ p + 1
-        → p ≢ slice_index order (slice_index queue at) - 1 → at + 1 ≤ i
-    later i p l e d = elim (cases_eq i at) [
-      | inl f ↦ absurd (d (let g = ap (λ z. slice_index order (slice_index queue z)) f in omega (arith, e, g)))
-      | inr g ↦ omega arith
-    ]
-
 pub places_back : (n : ℕ) (order cells : List ℕ) (q : ℕ) → length cells ≡ n → 1 ≤ slice_index order q
     → slice_index order q ≤ n → ArePlaces n order cells → ArePlaces n order (set cells (slice_index order q - 1) q)
 places_back n order cells q cl low high a p h k = elim (set_cases cells (slice_index order q - 1) q p (omega arith)) [
@@ -148,12 +121,39 @@ places_back n order cells q cl low high a p h k = elim (set_cases cells (slice_i
   | inr o ↦ ap (λ z. get_or order z 0) o.1 ∙ a p h (omega (arith, o.1))
 ]
 
-pub clean_after : (n : ℕ) (order cells queue : List ℕ) (at tail : ℕ) → tail ≤ at → IsLeft n order cells queue at tail
-    → IsClean n cells
-clean_after n order cells queue at tail t q p h = elim (cases_lt (slice_index cells p) n) [
-  | inl l ↦ l
-  | inr g ↦ (let r = q.waits p h g in absurd (omega (arith, r.1, r.2)))
-]
+module _ (n : ℕ) (order cells queue : List ℕ) where
+  pub left_all : (tail : ℕ) → IsQueued n order cells queue tail → IsLeft n order cells queue 0 tail
+  left_all tail q = record {
+    waits = λ p h k. (let r = q.waits p h k in (r.0, omega arith, r.1, r.2));
+  }
+
+  pub left_next : (at tail : ℕ) → length cells ≡ n → slice_index queue at < n
+      → 1 ≤ slice_index order (slice_index queue at) → slice_index order (slice_index queue at) ≤ n
+      → IsLeft n order cells queue at tail
+      → IsLeft n order (set cells (slice_index order (slice_index queue at) - 1) (slice_index queue at)) queue (at + 1)
+      tail
+  left_next at tail cl b low high q = record {
+    waits = λ p h k.
+        elim (set_cases cells (slice_index order (slice_index queue at) - 1) (slice_index queue at) p (omega arith)) [
+          | inl e ↦ absurd (omega (arith, e.1))
+          | inr o ↦
+              let r = q.waits p h (omega (arith, o.1)) in
+              (r.0, later r.0 p r.1 r.3 o.0, r.2, r.3)
+        ];
+  }
+    where
+      later : (i p : ℕ) → at ≤ i → slice_index order (slice_index queue i) ≡ p + 1
+          → p ≢ slice_index order (slice_index queue at) - 1 → at + 1 ≤ i
+      later i p l e d = elim (cases_eq i at) [
+        | inl f ↦ absurd (d (let g = ap (λ z. slice_index order (slice_index queue z)) f in omega (arith, e, g)))
+        | inr g ↦ omega arith
+      ]
+
+  pub clean_after : (at tail : ℕ) → tail ≤ at → IsLeft n order cells queue at tail → IsClean n cells
+  clean_after at tail t q p h = elim (cases_lt (slice_index cells p) n) [
+    | inl l ↦ l
+    | inr g ↦ (let r = q.waits p h g in absurd (omega (arith, r.1, r.2)))
+  ]
 
 -- ---- the nodes that are seen
 
@@ -179,59 +179,59 @@ seen_place n cells (suc p) m l h =
     le_of : (x y : ℕ) → leb x y ≡ true → x ≤ y
     le_of x y e = grind (arith, nat_tests)
 
--- the nodes that are seen part the node of the turn from those before it
-pub seen_cut : (net : Net) (order cells queue : List ℕ) (tail k : ℕ) → IsOrder net order → length order ≡ net.nodes
-    → length cells ≡ net.nodes → 1 ≤ net.nodes → k < length order
-    → net.nodes ≤ slice_index cells (slice_index order k - 1) → IsQueued net.nodes order cells queue tail
-    → ((i : ℕ) → i < tail → k ≤ slice_index queue i)
-    → IsCut (just (slice_index order k)) (before order k) (seen_in net.nodes cells)
-seen_cut net order cells queue tail k o s cl some l here q late = record {
-  sources = λ v e.
-      (let at = o.within k l in
-      subst (λ z. seen_in net.nodes cells z ≡ true) (omega (arith, eqb-true v (slice_index order k) e, at.0))
-      (seen_above net.nodes cells (slice_index order k - 1) here));
-  sinks = λ v t. elim (cases_Bool (seen_in net.nodes cells v)) [
-    | inl e ↦ absurd (never v t (seen_place net.nodes cells v some cl e))
-    | inr e ↦ e
-  ];
-}
-  where
-    never : (v : ℕ) → before order k v ≡ true → ((1 ≤ v) × (v ≤ net.nodes) × (net.nodes ≤ slice_index cells (v - 1)))
-        → ⊥
-    never v t at =
-        let r = q.waits (v - 1) (omega (arith, at.0, at.1)) at.2 in
-        let j = before_place order k v t in
-        let kept = late r.0 r.1 in
-        let low = q.places r.0 r.1 in
-        o.distinct j.0 (slice_index queue r.0) (omega (arith, j.1)) (omega arith)
-        (j.3 ∙ sym (r.2 ∙ omega (arith, at.0)))
+-- the nodes that are seen are those that wait
+module _ (net : Net) {order cells queue : List ℕ} {tail : ℕ} (one : 1 ≤ net.nodes) (size : length cells ≡ net.nodes)
+    (q : IsQueued net.nodes order cells queue tail) where
+  -- the nodes that are seen part the node of the turn from those before it
+  pub seen_cut : (k : ℕ) → IsOrder net order → length order ≡ net.nodes → k < length order
+      → net.nodes ≤ slice_index cells (slice_index order k - 1) → ((i : ℕ) → i < tail → k ≤ slice_index queue i)
+      → IsCut (just (slice_index order k)) (before order k) (seen_in net.nodes cells)
+  seen_cut k o s l here late = record {
+    sources = λ v e.
+        (let at = o.within k l in
+        subst (λ z. seen_in net.nodes cells z ≡ true) (omega (arith, eqb-true v (slice_index order k) e, at.0))
+        (seen_above net.nodes cells (slice_index order k - 1) here));
+    sinks = λ v t. elim (cases_Bool (seen_in net.nodes cells v)) [
+      | inl e ↦ absurd (never v t (seen_place net.nodes cells v one size e))
+      | inr e ↦ e
+    ];
+  }
+    where
+      never : (v : ℕ) → before order k v ≡ true → ((1 ≤ v) × (v ≤ net.nodes) × (net.nodes ≤ slice_index cells (v - 1)))
+          → ⊥
+      never v t at =
+          let r = q.waits (v - 1) (omega (arith, at.0, at.1)) at.2 in
+          let j = before_place order k v t in
+          let kept = late r.0 r.1 in
+          let low = q.places r.0 r.1 in
+          o.distinct j.0 (slice_index queue r.0) (omega (arith, j.1)) (omega arith)
+          (j.3 ∙ sym (r.2 ∙ omega (arith, at.0)))
 
--- no half-arc with a residual capacity goes out from them
-pub seen_closed : (dir : Direction) (net : Net) (order cells queue xs : List ℕ) (tail : ℕ) → IsNet net → 1 ≤ net.nodes
-    → length cells ≡ net.nodes → IsQueued net.nodes order cells queue tail
-    → ((i : ℕ) → i < tail → IsPassed dir net xs cells (slice_index order (slice_index queue i)))
-    → IsClosedFor dir net xs (seen_in net.nodes cells)
-seen_closed dir net order cells queue xs tail n some cl q done h l i r =
-    let g = crossed dir h in
-    let back : crossed dir g ≡ h = crossed_crossed dir h in
-    let tail_is : tail_of net g ≡ near_end dir net h = sym (near_crossed dir net g) ∙ ap (near_end dir net) back in
-    let head_is : head_of net g ≡ far_end dir net h = sym (far_crossed dir net g) ∙ ap (far_end dir net) back in
-    elim (cases_eq (tail_of net g) (head_of net g)) [
-      | inl e ↦ subst (λ z. seen_in net.nodes cells z ≡ true) (sym tail_is ∙ e ∙ head_is) i
-      | inr apart ↦
-          let v = seen_place net.nodes cells (near_end dir net h) some cl i in
-          let w = q.waits (near_end dir net h - 1) (omega (arith, v.0, v.1)) v.2 in
-          let group : group_of net g ≡ slice_index order (slice_index queue w.0) - 1 =
-          tail_group net g apart ∙ omega (arith, tail_is, w.2) in
-          let far = done w.0 w.1 g (crossed_within dir h (length net.arcs) l) group
-          (subst (λ z. 1 ≤ residual net xs z) (sym back) r) in
-          behind (head_of net g) (far_end dir net h) head_is
-          (head_is_node net g n (crossed_within dir h (length net.arcs) l)).0 far
-    ]
-  where
-    behind : (x y : ℕ) → x ≡ y → 1 ≤ x → net.nodes ≤ slice_index cells (x - 1) → seen_in net.nodes cells y ≡ true
-    behind x y e low b =
-        subst (λ z. seen_in net.nodes cells z ≡ true) (omega arith) (seen_above net.nodes cells (x - 1) b)
+  -- no half-arc with a residual capacity goes out from them
+  pub seen_closed : (dir : Direction) (xs : List ℕ) → IsNet net
+      → ((i : ℕ) → i < tail → IsPassed dir net xs cells (slice_index order (slice_index queue i)))
+      → IsClosedFor dir net xs (seen_in net.nodes cells)
+  seen_closed dir xs n done h l i r =
+      let g = crossed dir h in
+      let back : crossed dir g ≡ h = crossed_crossed dir h in
+      let tail_is : tail_of net g ≡ near_end dir net h = sym (near_crossed dir net g) ∙ ap (near_end dir net) back in
+      let head_is : head_of net g ≡ far_end dir net h = sym (far_crossed dir net g) ∙ ap (far_end dir net) back in
+      elim (cases_eq (tail_of net g) (head_of net g)) [
+        | inl e ↦ subst (λ z. seen_in net.nodes cells z ≡ true) (sym tail_is ∙ e ∙ head_is) i
+        | inr apart ↦
+            let v = seen_place net.nodes cells (near_end dir net h) one size i in
+            let w = q.waits (near_end dir net h - 1) (omega (arith, v.0, v.1)) v.2 in
+            let group : group_of net g ≡ slice_index order (slice_index queue w.0) - 1 =
+            tail_group net g apart ∙ omega (arith, tail_is, w.2) in
+            let far = done w.0 w.1 g (crossed_within dir h (length net.arcs) l) group
+            (subst (λ z. 1 ≤ residual net xs z) (sym back) r) in
+            behind (head_of net g) (far_end dir net h) head_is
+            (head_is_node net g n (crossed_within dir h (length net.arcs) l)).0 far
+      ]
+    where
+      behind : (x y : ℕ) → x ≡ y → 1 ≤ x → net.nodes ≤ slice_index cells (x - 1) → seen_in net.nodes cells y ≡ true
+      behind x y e low b =
+          subst (λ z. seen_in net.nodes cells z ≡ true) (omega arith) (seen_above net.nodes cells (x - 1) b)
 
 -- ---- an order that is whole
 

@@ -91,20 +91,23 @@ few_more : (b : Bool) (out o x i : ℕ) → o ≡ cond b x 0 → x ≤ GREATEST_
 few_more true out o x i e l h = omega arith
 few_more false out o x i e l h = omega arith
 
+-- the flow x of an arc is taken from its source's balance and added to its target's, and o and n are what of it leaves
+-- the sources and enters them
+pub record IsTallied (roles before between after : List ℕ) (a : Arc) (x o n : ℕ) : Type 0 where
+  pub size : length after ≡ length before
+  pub lost : (v : ℕ) → 1 ≤ v → get_or roles (v - 1) 0 ≡ INNER
+      → pair_at between (v - 1) + cond (eqb a.src v) x 0 ≡ pair_at before (v - 1)
+  pub gained : (v : ℕ) → 1 ≤ v → get_or roles (v - 1) 0 ≡ INNER
+      → pair_at after (v - 1) ≡ pair_at between (v - 1) + cond (eqb a.dst v) x 0
+  pub left : o ≡ cond (eqb (get_or roles (a.src - 1) 0) SOURCE) x 0
+  pub entered : n ≡ cond (eqb (get_or roles (a.dst - 1) 0) SOURCE) x 0
+
 -- what the balances, the roles and the sums are after one arc more
-pub sums_more : (net : Net) (s t xs before between after roles : List ℕ) (a : Arc) (x i out inward o n : ℕ) → IsNet net
+pub sums_more : {net : Net} {s t xs before between after roles : List ℕ} {a : Arc} {x i out inward o n : ℕ} → IsNet net
     → AreTerminals net s t → Fits net xs → AreRoles net s t roles → i < length net.arcs → a ≡ arc_at net i
-    → x ≡ get_or xs i 0
-    → (a.src ≡ a.dst → x ≡ 0) → length after ≡ length before
-    → ((v : ℕ) → 1 ≤ v → get_or roles (v - 1) 0 ≡ INNER
-    → pair_at between (v - 1) + cond (eqb a.src v) x 0 ≡ pair_at before (v - 1))
-    → ((v : ℕ) → 1 ≤ v → get_or roles (v - 1) 0 ≡ INNER
-    → pair_at after (v - 1) ≡ pair_at between (v - 1) + cond (eqb a.dst v) x 0)
-    → o ≡ cond (eqb (get_or roles (a.src - 1) 0) SOURCE) x 0
-    → n ≡ cond (eqb (get_or roles (a.dst - 1) 0) SOURCE) x 0
+    → x ≡ get_or xs i 0 → (a.src ≡ a.dst → x ≡ 0) → IsTallied roles before between after a x o n
     → AreSums net s t xs before i out inward → AreSums net s t xs after (i + 1) (out + o) (inward + n)
-sums_more net s t xs before between after roles a x i out inward o n is_net terminals fits r l ea ex loop size lost
-    gained left entered old =
+sums_more {net} {s} {t} {xs} {roles} {a} {x} {i} {out} {inward} {o} {n} is_net terminals fits r l ea ex loop m old =
     let w = arc_within net i is_net l in
     let src = ap (λ b. b.src) ea in
     let dst = ap (λ b. b.dst) ea in
@@ -114,24 +117,23 @@ sums_more net s t xs before between after roles a x i out inward o n is_net term
     λ v low high. ap (λ k. cond (eqb k SOURCE) x 0) (r.stand v low high)
     ∙ ap (λ b. cond b x 0) (source_by_role net s t v terminals) in
     let o_is : o ≡ cond (one_of s a.src) x 0 =
-    left ∙ source a.src (omega (arith, src, w.src_least)) (omega (arith, src, w.src_most)) in
+    m.left ∙ source a.src (omega (arith, src, w.src_least)) (omega (arith, src, w.src_most)) in
     let n_is : n ≡ cond (one_of s a.dst) x 0 =
-    entered ∙ source a.dst (omega (arith, dst, w.dst_least)) (omega (arith, dst, w.dst_most)) in
-    let more : (p : Arc → Bool)
-    → flow_over p (take (i + 1) net.arcs) (take (i + 1) xs)
+    m.entered ∙ source a.dst (omega (arith, dst, w.dst_least)) (omega (arith, dst, w.dst_most)) in
+    let more : (p : Arc → Bool) → flow_over p (take (i + 1) net.arcs) (take (i + 1) xs)
     ≡ flow_over p (take i net.arcs) (take i xs) + cond (p a) x 0 =
     λ p. one_more p net xs i l fits.count
     ∙ sym (ap (λ b. flow_over p (take i net.arcs) (take i xs) + cond (p b) x 0) ea
     ∙ ap (λ y. flow_over p (take i net.arcs) (take i xs) + cond (p (arc_at net i)) y 0) ex) in
     record {
-      size = size ∙ old.size;
+      size = m.size ∙ old.size;
       balanced = λ v low high inner.
           let at : get_or roles (v - 1) 0 ≡ INNER = r.stand v low high ∙ inner in
           omega (
             arith,
             old.balanced v low high inner,
-            lost v low at,
-            gained v low at,
+            m.lost v low at,
+            m.gained v low at,
             more (λ b. just v b.src),
             more (λ b. just v b.dst),
           );
@@ -163,11 +165,11 @@ filled_even n k l =
     omega (arith, get_or-replicate n (2 * k) HALF 0 (omega arith), get_or-replicate n (2 * k + 1) HALF 0 (omega arith))
 
 -- all arcs, and even balances
-pub settled : (net : Net) (s t xs balances roles : List ℕ) (out inward k : ℕ) → Fits net xs → AreRoles net s t roles
+pub settled : {net : Net} {s t xs balances roles : List ℕ} {out inward k : ℕ} → Fits net xs → AreRoles net s t roles
     → AreSums net s t xs balances (length net.arcs) out inward
     → ((p : ℕ) → p < length roles → get_or roles p 0 ≡ INNER → pair_at balances p ≡ EVEN) → out ≡ k + inward
     → IsFlow net s t xs k
-settled net s t xs balances roles out inward k fits r sums even value = record {
+settled {net} {s} {t} {xs} fits r sums even value = record {
   feasible = record {
     fits = fits;
     conserved = λ v low high e f.

@@ -29,8 +29,8 @@ loop-half-preserved c =
         steps = omega (arith, old.looks.steps, look.steps);
       };
       ahead = λ d w l r. old.ahead d w (omega (arith, l, c.min-least.ensures))
-          (rising_more net (level_by cells) xs path d c.loop-half.node c.look-next.result.0 w c.loop-half.half-index
-          c.loop-half-test.true inside (omega (arith, c.tail.ensures.tail, c.if-tail-node.false)) look.head
+          (rising_more path c.loop-half.half-index c.loop-half-test.true inside
+          (omega (arith, c.tail.ensures.tail, c.if-tail-node.false)) look.head
           (omega (arith, low, high, c.if-key.false)) (omega (arith, l, c.min-least.ensures, look.residual, same)) r);
     }
 

@@ -15,8 +15,7 @@ pub overflow_add-lifted : goal.overflow_add-lifted
 overflow_add-lifted c =
     let task = c.args.ranked.task in let net = task.packed.net.now in let s = task.s.now in let t = task.t.now in
     let walk = c.args.lifted.now.walk in let xs = c.args.flow.now.flows in let ys = c.push_over.new.flow.flows in
-    let now = flow_on net s t xs xs ys (take walk.depth c.args.trail.now) walk.least c.args.lifted.now.value
-    c.requires.ranked.task.terminals c.requires.flow c.requires.path refl c.push_over.ensures.flows in
+    let now = flow_on c.requires.ranked.task.terminals c.requires.flow c.requires.path refl c.push_over.ensures.flows in
     let fits = flow_fits net s t ys (c.args.lifted.now.value + walk.least) c.nodes.ensures.is_net
     c.requires.ranked.task.terminals now in
     omega (arith, fits, c.from.ensures)
@@ -25,8 +24,7 @@ pub go_back-lifted-requires-clause-fits : goal.go_back-lifted-requires-clause-fi
 go_back-lifted-requires-clause-fits c =
     let task = c.args.ranked.task in let net = task.packed.net.now in let s = task.s.now in let t = task.t.now in
     let walk = c.args.lifted.now.walk in let xs = c.args.flow.now.flows in let ys = c.push_over.new.flow.flows in
-    let now = flow_on net s t xs xs ys (take walk.depth c.args.trail.now) walk.least c.args.lifted.now.value
-    c.requires.ranked.task.terminals c.requires.flow c.requires.path refl c.push_over.ensures.flows in
+    let now = flow_on c.requires.ranked.task.terminals c.requires.flow c.requires.path refl c.push_over.ensures.flows in
     now.feasible.fits
 
 pub go_back-lifted-requires-clause-halves : goal.go_back-lifted-requires-clause-halves
@@ -39,8 +37,7 @@ returns-clause-flow c =
     let task = c.args.ranked.task in let net = task.packed.net.now in let s = task.s.now in let t = task.t.now in
     let walk = c.args.lifted.now.walk in let xs = c.args.flow.now.flows in let ys = c.push_over.new.flow.flows in
     let zs = c.go_back-lifted.new.flow.flows in
-    let now = flow_on net s t xs xs ys (take walk.depth c.args.trail.now) walk.least c.args.lifted.now.value
-    c.requires.ranked.task.terminals c.requires.flow c.requires.path refl c.push_over.ensures.flows in
+    let now = flow_on c.requires.ranked.task.terminals c.requires.flow c.requires.path refl c.push_over.ensures.flows in
     subst (λ (k : ℕ). HasFlow task zs (c.args.lifted.now.value + k)) (sym c.from.ensures)
     (flow_same net s t ys zs (c.args.lifted.now.value + walk.least) c.go_back-lifted.ensures.looks.flows now)
 

@@ -14,7 +14,7 @@ loop-node-preserved c =
     let via = c.args.via.now in
     let xs = c.args.flow.now.flows in
     let half = get_or via (c.loop-node.node - 1) 0 in
-    let n = next_on net xs dist via c.loop-node.node c.requires.trails old.node.0 old.node.1 old.marked
+    let n = next_on c.requires.trails c.loop-node.node old.node.0 old.node.1 old.marked
     (omega (arith, c.loop-node-test.true)) in
     let to = c.look-next.ensures.head in
     let here : residual net c.loop-node.flow.flows half ≡ residual net xs half =

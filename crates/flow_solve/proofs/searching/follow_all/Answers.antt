@@ -81,9 +81,8 @@ loop-spot-preserved c =
               ]
               | inr new ↦
                   inr (subst (λ q. IsCome net flows dir dist' via' q) (sym new)
-                  (come_new net flows dir dist' via' there half place c.nodes-place.ensures.is_net own.0 inside
-                  own.1 to.head remains still (omega (arith, now.arrived.level, to.level, level))
-                  (now.arrived.half ∙ to.half)))
+                  (come_new flows dir half c.nodes-place.ensures.is_net own.0 inside own.1 to.head remains still
+                  (omega (arith, now.arrived.level, to.level, level)) (now.arrived.half ∙ to.half)))
             ];
             next_level = λ p m. elim (now.come p m) [
               | inl was ↦ elim (old.next_level p was) [
@@ -97,8 +96,8 @@ loop-spot-preserved c =
               | inr new ↦
                   subst (λ q. IsTrue (side (q + 1))) (sym new)
                   (subst (λ v. IsTrue (side v)) to.head
-                  (closed_step net flows dir side half place c.nodes-place.ensures.is_net own.0 inside own.1 closed
-                  in_side remains))
+                  (closed_step flows dir half c.nodes-place.ensures.is_net own.0 inside own.1 side closed in_side
+                  remains))
             ];
             never_lowered = omega (arith, old.never_lowered, looks.never_lowered);
             steps = omega (arith, old.steps, looks.steps, old.begun);

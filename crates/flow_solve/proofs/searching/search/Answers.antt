@@ -138,32 +138,24 @@ places-preserved c =
     }
 
 pub returns-else-progress-plan-clause-searched : goal.returns-else-progress-plan-clause-searched
-returns-else-progress-plan-clause-searched c =
-    searched c.args.plan.packed.net.now c.args.flow.now.flows c.args.plan.direction c.args.plan.starts.now c.places.dist
-    c.places.via c.places.queue c.places.progress.seen c.places.progress.followed c.places.invariant.swept
+returns-else-progress-plan-clause-searched c = searched c.places.invariant.swept
 
 pub returns-after-places-clause-searched : goal.returns-after-places-clause-searched
-returns-after-places-clause-searched c =
-    searched c.args.plan.packed.net.now c.args.flow.now.flows c.args.plan.direction c.args.plan.starts.now c.places.dist
-    c.places.via c.places.queue c.places.progress.seen c.places.progress.followed c.places.invariant.swept
+returns-after-places-clause-searched c = searched c.places.invariant.swept
 
 pub returns-after-places-clause-whole : goal.returns-after-places-clause-whole
 returns-after-places-clause-whole c = λ few.
-    all_done c.args.plan.packed.net.now c.args.flow.now.flows c.args.plan.direction c.args.plan.starts.now c.places.dist
-    c.places.via c.places.queue c.places.progress.seen c.places.progress.followed c.places.invariant.swept
-    c.places-test.false
+    all_done c.places.invariant.swept c.places-test.false
 
 pub returns-after-places-clause-missed : goal.returns-after-places-clause-missed
 returns-after-places-clause-missed c = λ none some.
     let swept = c.places.invariant.swept in let net = c.args.plan.packed.net.now in let dir = c.args.plan.direction in
-    let found = searched net c.args.flow.now.flows dir c.args.plan.starts.now c.places.dist c.places.via c.places.queue
-    c.places.progress.seen c.places.progress.followed swept in
+    let found = searched swept in
     record {
       whole =
           whole_seen net c.args.flow.now.flows dir c.args.plan.starts.now c.places.dist c.places.via
           c.nodes.ensures.is_net c.requires.starts found
-          (all_done net c.args.flow.now.flows dir c.args.plan.starts.now c.places.dist c.places.via c.places.queue
-          c.places.progress.seen c.places.progress.followed swept c.places-test.false);
+          (all_done swept c.places-test.false);
       outside = λ v i.
           none_seen c.args.plan.until.now c.places.dist c.places.progress.wanted v c.places.invariant.count none i;
     }
@@ -171,9 +163,7 @@ returns-after-places-clause-missed c = λ none some.
 pub returns-else-progress-plan-clause-looks : goal.returns-else-progress-plan-clause-looks
 returns-else-progress-plan-clause-looks c =
     let s = c.places.invariant.swept in
-    let all = queued_halves c.args.plan.packed.net.now c.args.plan.packed.first.now c.args.plan.packed.halves.now
-    c.places.dist c.places.queue c.places.progress.seen c.places.progress.followed c.requires.packed s.cells s.order
-    s.begun in
+    let all = queued_halves c.places.progress.followed c.requires.packed s.cells s.order s.begun in
     record {
       flows = c.places.invariant.flows;
       never_lowered = c.places.invariant.never_lowered;
@@ -183,9 +173,7 @@ returns-else-progress-plan-clause-looks c =
 pub returns-after-places-clause-looks : goal.returns-after-places-clause-looks
 returns-after-places-clause-looks c =
     let s = c.places.invariant.swept in
-    let all = queued_halves c.args.plan.packed.net.now c.args.plan.packed.first.now c.args.plan.packed.halves.now
-    c.places.dist c.places.queue c.places.progress.seen c.places.progress.followed c.requires.packed s.cells s.order
-    s.begun in
+    let all = queued_halves c.places.progress.followed c.requires.packed s.cells s.order s.begun in
     record {
       flows = c.places.invariant.flows;
       never_lowered = c.places.invariant.never_lowered;

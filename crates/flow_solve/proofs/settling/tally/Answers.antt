@@ -1,7 +1,7 @@
 -- `tally`: one arc more is booked.
 use Rattle.std.proofs.Common.{◌≡◌, ℕ, List, get_or, refl, ◌∙◌, ap, arith}
 use Rattle.flow_net.proofs.Zips.{against}
-use Rattle.flow_solve.proofs.Settled.{sums_more}
+use Rattle.flow_solve.proofs.Settled.{IsTallied, sums_more}
 use Rattle.flow_solve.proofs.settling.tally.Goals.{else-arc-via-then-arc+else-amount-gt0, else-arc-via-else-arc}
 use Rattle.flow_solve.proofs.settling.tally.Goals as goal
 
@@ -17,16 +17,21 @@ loop-i-preserved c =
       | else-arc-via-then-arc+else-amount-gt0 w ↦ omega (arith, w.if-amount-gt0.false)
       | else-arc-via-else-arc w ↦ absurd (w.if-arc.false e)
     ] in
+    let tallied : IsTallied c.args.roles.now c.loop-i.balances c.lose.new.balances c.gain.new.balances a x
+    c.at_source-out.result c.at_source-inward.result =
+    record {
+      size = c.gain.ensures.size ∙ c.lose.ensures.size;
+      lost = c.if-not-lose.ensures.booked refl;
+      gained = c.if-not-gain.ensures.booked refl;
+      left = c.at_source-out.ensures;
+      entered = c.at_source-inward.ensures;
+    } in
     record {
       range = old.range;
       fits = c.look-amount.ensures.still_fits;
       sums =
-          sums_more net task.s.now task.t.now xs c.loop-i.balances c.lose.new.balances c.gain.new.balances
-          c.args.roles.now a x i c.loop-i.out c.loop-i.inward c.at_source-out.result c.at_source-inward.result
-          c.len-i-end.ensures.is_net c.requires.task.terminals c.requires.fits c.requires.roles (omega arith)
-          c.arc-arc.ensures.arc carried loop (c.gain.ensures.size ∙ c.lose.ensures.size)
-          (c.if-not-lose.ensures.booked refl) (c.if-not-gain.ensures.booked refl) c.at_source-out.ensures
-          c.at_source-inward.ensures old.sums;
+          sums_more c.len-i-end.ensures.is_net c.requires.task.terminals c.requires.fits c.requires.roles (omega arith)
+          c.arc-arc.ensures.arc carried loop tallied old.sums;
       looks = record {
         flows = c.look-amount.ensures.flows ∙ old.looks.flows;
         never_lowered = omega (arith, old.looks.never_lowered, c.look-amount.ensures.steps);

@@ -32,4 +32,4 @@ returns-clause-raised c =
     let same : c.push.new.self.flows ≡ pushed xs over 1 =
     c.push.ensures.flows ∙ ap (λ (z : List ℕ). pushed z over 1) c.look-room.ensures.flows in
     subst (λ (z : List ℕ). IsRaised dir net order k z (c.args.sent.value + 1)) (sym same)
-    (raised_directly dir net order k xs c.args.sent.value over turn.ordered here within room near far c.requires.raised)
+    (raised_directly over turn.ordered here within room near far c.requires.raised)

@@ -10,15 +10,14 @@ returns-clause-cut c =
     let here : c.args.turn.packed.net.now.nodes
     ≤ slice_index c.args.cells.now (slice_index c.args.turn.order.now c.args.turn.place - 1) =
     omega arith in
-    seen_cut c.args.turn.packed.net.now c.args.turn.order.now c.args.cells.now c.args.queue.now c.args.tail
-    c.args.turn.place turn.ordered turn.size c.requires.size (omega (arith, turn.place))
-    (omega (arith, turn.place, turn.size)) here c.requires.queued
+    seen_cut c.args.turn.packed.net.now (omega (arith, turn.place)) c.requires.size c.requires.queued c.args.turn.place
+    turn.ordered turn.size (omega (arith, turn.place, turn.size)) here
     (λ i h. j.late i (omega (arith, c.loop-at-test.false)))
 
 pub returns-clause-closed : goal.returns-clause-closed
 returns-clause-closed c =
     let j = c.loop-at.invariant in
     let turn = c.requires.turn in
-    seen_closed c.args.turn.direction c.args.turn.packed.net.now c.args.turn.order.now c.args.cells.now c.args.queue.now
-    c.args.flow.now.flows c.args.tail c.nodes-n.ensures.is_net (omega (arith, turn.place)) c.requires.size
-    c.requires.queued (λ i h. j.done i (omega (arith, c.loop-at-test.false)))
+    seen_closed c.args.turn.packed.net.now (omega (arith, turn.place)) c.requires.size c.requires.queued
+    c.args.turn.direction c.args.flow.now.flows c.nodes-n.ensures.is_net
+    (λ i h. j.done i (omega (arith, c.loop-at-test.false)))

@@ -7,6 +7,5 @@ returns-clause-queued c =
     let low = c.head-place.ensures.node.0 in let high = c.head-place.ensures.node.1 in
     queued_more c.args.turn.packed.net.now.nodes c.args.turn.order.now c.args.cells.now c.args.queue.now
     c.args.frontier.tail (c.head-place.result - 1) c.args.exit.level c.requires.queue_size c.requires.cells.size
-    (omega arith)
-    (omega (arith, c.if-frontier-n.false)) (omega (arith, c.if-cell-n.false)) c.requires.level c.requires.cells.places
-    c.requires.queued
+    (omega arith) (omega (arith, c.if-frontier-n.false)) (omega (arith, c.if-cell-n.false)) c.requires.level
+    c.requires.cells.places c.requires.queued

@@ -14,9 +14,8 @@ returns-then-frontier-eq0-clause-parted c = λ less.
     c.in_ok-left.ensures.closed in (
       X,
       c.in_ok-left.ensures.cut,
-      raised_parted dir net c.args.turn.order.now c.args.turn.place c.loop-raised.flow.flows
-          c.loop-raised.raised.value X
-          c.nodes-n.ensures.is_net c.requires.unit c.loop-raised.invariant.raised c.in_ok-left.ensures.cut closed,
+      raised_parted dir X c.nodes-n.ensures.is_net c.requires.unit c.loop-raised.invariant.raised
+          c.in_ok-left.ensures.cut closed,
     )
 
 pub forget-requires-in-loop-raised-clause-queued : goal.forget-requires-in-loop-raised-clause-queued

@@ -14,9 +14,9 @@ loop-half-init c = record {
   fits = c.requires.fits;
   node = c.requires.turn.ordered.within c.args.turn.place (omega (arith, c.requires.turn.place, c.requires.turn.size));
   way = λ f.
-      way_begins c.args.turn.direction c.args.turn.packed.net.now
-      (just (slice_index c.args.turn.order.now c.args.turn.place)) (before c.args.turn.order.now c.args.turn.place)
-      c.args.flow.now.flows (slice_index c.args.turn.order.now c.args.turn.place) f;
+      way_begins c.args.turn.packed.net.now (just (slice_index c.args.turn.order.now c.args.turn.place))
+      (before c.args.turn.order.now c.args.turn.place) c.args.flow.now.flows
+      (slice_index c.args.turn.order.now c.args.turn.place) c.args.turn.direction f;
   never_lowered = omega arith;
   steps = omega arith;
 }
@@ -39,7 +39,7 @@ loop-half-preserved c =
       node = c.far-node.ensures.node;
       way = λ f. subst (λ z. IsUnderWay dir net (just w) t xs w z c.push.new.self.flows) (sym c.far-node.ensures.far)
           (subst (λ z. IsUnderWay dir net (just w) t xs w (far_end dir net half) z) (sym same)
-          (way_on dir net (just w) t xs w c.loop-half.node half ys
+          (way_on net (just w) t xs w dir c.loop-half.node half ys
           (omega (arith, c.if-half-len.false, c.len.ensures.len)) room from (j.way f)));
       never_lowered = omega (arith, j.never_lowered, c.look-room.ensures.steps, c.push.ensures.steps);
       steps = omega (arith, j.steps, c.look-room.ensures.steps, c.push.ensures.steps);
@@ -52,6 +52,5 @@ returns-clause-raised c = λ yes value r.
     let end = terminal_at c.args.turn.packed.net.now c.args.turn.order.now c.args.cells.now c.args.turn.place
     c.loop-half.node turn.size turn.place j.node c.requires.cells.places
     (ltb-true (slice_index c.args.cells.now (c.loop-half.node - 1)) c.args.turn.place yes) in
-    way_ends c.args.turn.direction c.args.turn.packed.net.now c.args.turn.order.now c.args.turn.place c.loop-half.node
-    c.args.flow.now.flows c.loop-half.flow.flows value turn.ordered (omega (arith, turn.place, turn.size)) end r
-    (j.way r.feasible)
+    way_ends c.args.turn.direction c.loop-half.node c.loop-half.flow.flows turn.ordered
+    (omega (arith, turn.place, turn.size)) end r (j.way r.feasible)

@@ -9,8 +9,7 @@ use Rattle.flow_solve.proofs.paths.PathsRaise.raise.Goals as goal
 pub augment-requires-clause-trails : goal.augment-requires-clause-trails
 augment-requires-clause-trails c =
     let found = c.in-Some.ensures in
-    rw found.looks.flows (searched_trails c.args.task.packed.net.now c.loop-source.flow.flows c.args.task.t.now
-    c.find_trail.new.dist c.find_trail.new.via (omega arith) found.searched)
+    rw found.looks.flows (searched_trails (omega arith) found.searched)
 
 pub overflow_add-raised : goal.overflow_add-raised
 overflow_add-raised c =
@@ -18,10 +17,9 @@ overflow_add-raised c =
     let found = c.in-Some.ensures in
     let node = found.some in
     let net = c.args.task.packed.net.now in
-    let now = raised_by net c.args.task.s.now c.args.task.t.now c.loop-source.flow.flows c.find_trail.new.dist
-    c.find_trail.new.via c.loop-source.raised c.augment.result c.in-Some.source c.find_trail.new.flow.flows
-    c.augment.new.flow.flows c.requires.task.terminals old.flow (omega arith) found.searched node.0
-    (node.1, omega (arith, node.2)) node.3 found.looks.flows c.augment.ensures.room c.augment.ensures.flows in
+    let now = raised_by c.augment.result c.in-Some.source old.flow (omega arith) found.searched node.0
+    (node.1, omega (arith, node.2)) node.3 c.requires.task.terminals found.looks.flows c.augment.ensures.room
+    c.augment.ensures.flows in
     let most = value_most net (one_of c.args.task.s.now) (one_of c.args.task.t.now) c.augment.new.flow.flows
     (c.loop-source.raised + c.augment.result) c.nodes-n.ensures.is_net
     (terminals_apart net c.args.task.s.now c.args.task.t.now c.requires.task.terminals) now.feasible now.value in
@@ -34,10 +32,9 @@ loop-source-smaller c =
     let found = c.in-Some.ensures in
     let node = found.some in
     let net = c.args.task.packed.net.now in
-    let now = raised_by net c.args.task.s.now c.args.task.t.now c.loop-source.flow.flows c.find_trail.new.dist
-    c.find_trail.new.via c.loop-source.raised c.augment.result c.in-Some.source c.find_trail.new.flow.flows
-    c.augment.new.flow.flows c.requires.task.terminals old.flow (omega arith) found.searched node.0
-    (node.1, omega (arith, node.2)) node.3 found.looks.flows c.augment.ensures.room c.augment.ensures.flows in
+    let now = raised_by c.augment.result c.in-Some.source old.flow (omega arith) found.searched node.0
+    (node.1, omega (arith, node.2)) node.3 c.requires.task.terminals found.looks.flows c.augment.ensures.room
+    c.augment.ensures.flows in
     let most = value_most net (one_of c.args.task.s.now) (one_of c.args.task.t.now) c.augment.new.flow.flows
     (c.loop-source.raised + c.augment.result) c.nodes-n.ensures.is_net
     (terminals_apart net c.args.task.s.now c.args.task.t.now c.requires.task.terminals) now.feasible now.value in
@@ -51,10 +48,9 @@ loop-source-preserved c =
     let found = c.in-Some.ensures in
     let node = found.some in
     let net = c.args.task.packed.net.now in
-    let now = raised_by net c.args.task.s.now c.args.task.t.now c.loop-source.flow.flows c.find_trail.new.dist
-    c.find_trail.new.via c.loop-source.raised c.augment.result c.in-Some.source c.find_trail.new.flow.flows
-    c.augment.new.flow.flows c.requires.task.terminals old.flow (omega arith) found.searched node.0
-    (node.1, omega (arith, node.2)) node.3 found.looks.flows c.augment.ensures.room c.augment.ensures.flows in
+    let now = raised_by c.augment.result c.in-Some.source old.flow (omega arith) found.searched node.0
+    (node.1, omega (arith, node.2)) node.3 c.requires.task.terminals found.looks.flows c.augment.ensures.room
+    c.augment.ensures.flows in
     record {
       flow = rw c.from-raised.ensures now;
       never_lowered = omega (arith, old.never_lowered, found.looks.never_lowered, c.augment.ensures.never_lowered);

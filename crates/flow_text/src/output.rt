@@ -2,10 +2,10 @@
 //!
 //! They follow the DIMACS maximum flow format (1990) where it has them: `s` and `f` lines are those of its solution
 //! files, `n` and `a` lines name nodes and arcs as its problem files do.
-ghost use Rattle.std.specs.Prelude.{◌≡◌, ◌+◌, ◌<◌, ◌≤◌, ◌∷◌, ◌++◌, length, drop, codes, decimal};
+ghost use Rattle.std.specs.Prelude.{◌≡◌, ◌+◌, ◌<◌, ◌≤◌, [], ◌∷◌, ◌++◌, length, drop, codes, decimal};
 ghost use Rattle.arrayvec.specs.ArrayVec.{array_vec_len};
 ghost use Rattle.flow_text.specs.FaultTexts.{fault_text};
-ghost use Rattle.flow_text.specs.Output.{arc_line, connect_line, fault_line, flow_line, node_line, solution_line, verdict_line};
+ghost use Rattle.flow_text.specs.Output.{arc_line, fault_line, line_of, verdict_line};
 
 use crate::{FaultCode, Verdict};
 use arrayvec::ArrayVec;
@@ -22,17 +22,17 @@ pub const MOST_LINE_BYTES: usize = 128;
 pub type Line = ArrayVec<u8, MOST_LINE_BYTES>;
 
 /// The line `s VALUE` that begins a solution or a cut.
-#[tactic(auto, unfolding(crate::specs::Output::solution_line))]
+#[tactic(auto, unfolding(crate::specs::Output::line_of))]
 pub fn solution_line(value: u128) -> Line
-    ensures { result.items ≡ solution_line value }
+    ensures { result.items ≡ line_of "s" (value ∷ []) }
 {
     number_line(b"s ", value)
 }
 
 /// The line `f SRC DST FLOW` of the flow on an arc.
-#[tactic(auto, unfolding(crate::specs::Output::flow_line))]
+#[tactic(auto, unfolding(crate::specs::Output::line_of))]
 pub fn flow_line(src: u32, dst: u32, flow: u64) -> Line
-    ensures { result.items ≡ flow_line src dst flow }
+    ensures { result.items ≡ line_of "f" (src ∷ dst ∷ flow ∷ []) }
 {
     let mut line = Line::new();
     push_pair(&mut line, b'f', src, dst, flow);
@@ -40,15 +40,15 @@ pub fn flow_line(src: u32, dst: u32, flow: u64) -> Line
 }
 
 /// The line `n NODE` of a node on the source side of a cut.
-#[tactic(auto, unfolding(crate::specs::Output::node_line))]
+#[tactic(auto, unfolding(crate::specs::Output::line_of))]
 pub fn node_line(node: u32) -> Line
-    ensures { result.items ≡ node_line node }
+    ensures { result.items ≡ line_of "n" (node ∷ []) }
 {
     number_line(b"n ", node)
 }
 
 /// The line `a SRC DST CAP` of an arc that leaves the source side of a cut.
-#[tactic(auto, unfolding(crate::specs::Output::arc_line))]
+#[tactic(auto, unfolding(crate::specs::Output::line_of))]
 pub fn arc_line(arc: Arc) -> Line
     ensures { result.items ≡ arc_line arc }
 {
@@ -58,17 +58,17 @@ pub fn arc_line(arc: Arc) -> Line
 }
 
 /// Appends the line `f SRC DST FLOW` to lines that have room for one, as `flow_line` makes it.
-#[tactic(auto, unfolding(crate::specs::Output::flow_line))]
+#[tactic(auto, unfolding(crate::specs::Output::line_of))]
 #[inline(always)]
 pub fn push_flow_line<const N: usize>(lines: &mut ArrayVec<u8, N>, src: u32, dst: u32, flow: u64)
     requires { array_vec_len lines.old + MOST_LINE_BYTES ≤ N }
-    ensures { lines.new.items ≡ lines.old.items ++ flow_line src dst flow }
+    ensures { lines.new.items ≡ lines.old.items ++ line_of "f" (src ∷ dst ∷ flow ∷ []) }
 {
     push_pair(lines, b'f', src, dst, flow);
 }
 
 /// Appends the line `a SRC DST CAP` to lines that have room for one, as `arc_line` makes it.
-#[tactic(auto, unfolding(crate::specs::Output::arc_line))]
+#[tactic(auto, unfolding(crate::specs::Output::line_of))]
 #[inline(always)]
 pub fn push_arc_line<const N: usize>(lines: &mut ArrayVec<u8, N>, arc: Arc)
     requires { array_vec_len lines.old + MOST_LINE_BYTES ≤ N }
@@ -78,11 +78,11 @@ pub fn push_arc_line<const N: usize>(lines: &mut ArrayVec<u8, N>, arc: Arc)
 }
 
 /// Appends the line `n NODE` to lines that have room for one, as `node_line` makes it.
-#[tactic(auto, unfolding(crate::specs::Output::node_line), using(crate::proofs::OutputLemmas::decimal_10))]
+#[tactic(auto, unfolding(crate::specs::Output::line_of), using(crate::proofs::OutputLemmas::decimal_10))]
 #[inline(always)]
 pub fn push_node_line<const N: usize>(lines: &mut ArrayVec<u8, N>, node: u32)
     requires { array_vec_len lines.old + MOST_LINE_BYTES ≤ N }
-    ensures { lines.new.items ≡ lines.old.items ++ node_line node }
+    ensures { lines.new.items ≡ lines.old.items ++ line_of "n" (node ∷ []) }
 {
     let mut bytes = [b'\n'; 16];
     let end = put_number(&mut bytes, node as u64, 15);
@@ -92,9 +92,9 @@ pub fn push_node_line<const N: usize>(lines: &mut ArrayVec<u8, N>, node: u32)
 }
 
 /// The line `k VALUE` of the edge connectivity.
-#[tactic(auto, unfolding(crate::specs::Output::connect_line))]
+#[tactic(auto, unfolding(crate::specs::Output::line_of))]
 pub fn connect_line(value: u64) -> Line
-    ensures { result.items ≡ connect_line value }
+    ensures { result.items ≡ line_of "k" (value ∷ []) }
 {
     number_line(b"k ", value)
 }
@@ -102,7 +102,7 @@ pub fn connect_line(value: u64) -> Line
 /// The line of a verdict: its word and its numbers, in the order of the variant's fields.
 ///
 /// The value found may be negative; then `-` stands before its digits.
-#[tactic(auto, unfolding(crate::specs::Output::verdict_line))]
+#[tactic(auto, unfolding(crate::specs::Output::line_of, crate::specs::Output::verdict_line))]
 pub fn verdict_line(verdict: &Verdict) -> Line
     ensures { result.items ≡ verdict_line verdict.now }
 {
@@ -183,34 +183,28 @@ fn put_number(bytes: &mut [u8], n: u64, end: usize) -> usize
     start
 }
 
-#[tactic(auto, unfolding(crate::specs::Output::verdict_line))]
 fn over_line(src: u32, dst: u32, flow: u128, cap: u128) -> Line
-    ensures { result.items ≡ verdict_line (Verdict.Over src dst flow cap) }
+    ensures { result.items ≡ line_of "over" (src ∷ dst ∷ flow ∷ cap ∷ []) }
 {
     let mut line = Line::new();
-    push_bytes(&mut line, b"over ");
-    push_number(&mut line, src);
-    push_bytes(&mut line, b" ");
-    push_number(&mut line, dst);
-    push_bytes(&mut line, b" ");
-    push_number(&mut line, flow);
-    push_bytes(&mut line, b" ");
-    push_number(&mut line, cap);
+    push_bytes(&mut line, b"over");
+    push_field(&mut line, src);
+    push_field(&mut line, dst);
+    push_field(&mut line, flow);
+    push_field(&mut line, cap);
     push_bytes(&mut line, b"\n");
     line
 }
 
-#[tactic(auto, unfolding(crate::specs::Output::verdict_line))]
+#[tactic(auto, unfolding(crate::specs::Output::line_of))]
 fn unbalanced_line(node: u32, into: u128, out: u128) -> Line
-    ensures { result.items ≡ verdict_line (Verdict.Unbalanced node into out) }
+    ensures { result.items ≡ line_of "unbalanced" (node ∷ into ∷ out ∷ []) }
 {
     let mut line = Line::new();
-    push_bytes(&mut line, b"unbalanced ");
-    push_number(&mut line, node);
-    push_bytes(&mut line, b" ");
-    push_number(&mut line, into);
-    push_bytes(&mut line, b" ");
-    push_number(&mut line, out);
+    push_bytes(&mut line, b"unbalanced");
+    push_field(&mut line, node);
+    push_field(&mut line, into);
+    push_field(&mut line, out);
     push_bytes(&mut line, b"\n");
     line
 }
@@ -220,10 +214,9 @@ fn value_line(given: u128, found: i128) -> Line
     ensures { result.items ≡ verdict_line (Verdict.Value given found) }
 {
     let mut line = Line::new();
-    push_bytes(&mut line, b"value ");
-    push_number(&mut line, given);
-    push_bytes(&mut line, b" ");
-    push_number(&mut line, found);
+    push_bytes(&mut line, b"value");
+    push_field(&mut line, given);
+    push_field(&mut line, found);
     push_bytes(&mut line, b"\n");
     line
 }
@@ -277,4 +270,15 @@ fn push_number<I: Integer>(line: &mut Line, n: I)
 {
     let mut buffer = Buffer::new();
     push_bytes(line, buffer.format(n).as_bytes());
+}
+
+/// Appends a blank and a number, for which there is room.
+#[inline]
+fn push_field<I: Integer>(line: &mut Line, n: I)
+    requires { array_vec_len line.old + I.MAX_STR_LEN < MOST_LINE_BYTES }
+    ensures items { line.new.items ≡ line.old.items ++ codes " " ++ I.text n }
+    ensures short { length (I.text n) ≤ I.MAX_STR_LEN }
+{
+    push_bytes(line, b" ");
+    push_number(line, n);
 }

@@ -1,5 +1,5 @@
 -- Which line is the next.
-use Rattle.std.proofs.Common.{◌≡◌, ◌+◌, ◌<◌, ℕ, Bool, true, false, not, List, [], ◌++◌, length, filter, get_or}
+use Rattle.std.proofs.Common.{◌≡◌, ◌+◌, ◌<◌, ℕ, Bool, true, false, not, List, [], ◌∷◌, ◌++◌, length, filter, get_or}
 use Rattle.std.proofs.Common.{slice_index, refl, sym, append-nil, ◌∙◌, arith, Option}
 use Rattle.std.specs.List.{flat_map, zip, range_with_len}
 use Rattle.std.proofs.lemmas.Slice.Zip.{get_or-zip, length-zip}
@@ -8,7 +8,7 @@ use Rattle.flow_net.specs.Nets.{Net, arc_at}
 use Rattle.flow_net.specs.Arcs.{no_arc}
 use Rattle.flow_net.specs.declared.networks.Arc.{Arc}
 use Rattle.flow_net.specs.Cuts.{leaves}
-use Rattle.flow_text.specs.Output.{flow_line, arc_flow_line, arc_line, node_line, solution_line}
+use Rattle.flow_text.specs.Output.{flow_line, arc_line, line_of}
 use Rattle.flow_tools.specs.Sides.{nodes_inside}
 use Rattle.flow_text.specs.Output.{solve_text, cut_text}
 use Rattle.flow_tools.specs.Sending.{Stops}
@@ -22,11 +22,15 @@ module _ (net : Net) (flows : List ℕ) (same : length flows ≡ length net.arcs
 
   -- the line of an arc's flow is that of the arc and the flow at its place
   pub flow_line_is : (i : ℕ) (arc : Arc) (line : List ℕ) → i < length net.arcs → arc ≡ arc_at net i
-      → line ≡ flow_line arc.src arc.dst (slice_index flows i)
-      → line ≡ arc_flow_line (get_or (zip net.arcs flows) i (no_arc, 0))
+      → line ≡ flow_line (arc, slice_index flows i)
+      → line ≡ flow_line (get_or (zip net.arcs flows) i (no_arc, 0))
   flow_line_is i arc line within e is =
       let within_flows : i < length flows = omega arith in
       rw (get_or-zip net.arcs flows i (no_arc, 0) within within_flows, ← e) is
+
+-- a node's line
+abbrev pub node_line : ℕ → List ℕ
+node_line node = line_of "n" (node ∷ [])
 
 module _ (p : ℕ → Bool) (n i : ℕ) (within : i < n) where
   -- a node inside has its line, and a node outside none
@@ -52,9 +56,9 @@ module _ (p : Arc → Bool) (net : Net) (i : ℕ) (arc : Arc) where
 
 -- the text of the value alone
 pub value_text_is : (net : Net) (value : ℕ) (flows : List ℕ) (value_only : Bool) → value_only ≡ true
-    → solution_line value ≡ solve_text value_only net value flows
+    → line_of "s" (value ∷ []) ≡ solve_text value_only net value flows
 unfolding solve_text
-value_text_is net value flows value_only e = rw e (sym (append-nil (solution_line value)))
+value_text_is net value flows value_only e = rw e (sym (append-nil (line_of "s" (value ∷ []))))
 
 -- a test by its opposite
 pub false_of_not : (b : Bool) → not b ≡ true → b ≡ false
@@ -66,10 +70,10 @@ true_of_not true e = refl
 true_of_not false e = sym e
 
 -- The whole texts, from their first line.
-module _ (net : Net) (value : ℕ) (first : List ℕ) (begun : first ≡ solution_line value) where
+module _ (net : Net) (value : ℕ) (first : List ℕ) (begun : first ≡ line_of "s" (value ∷ [])) where
   -- the value and the flows
   pub solution_text_is : (flows : List ℕ) (value_only : Bool) → value_only ≡ false
-      → first ++ flat_map arc_flow_line (zip net.arcs flows) ≡ solve_text value_only net value flows
+      → first ++ flat_map flow_line (zip net.arcs flows) ≡ solve_text value_only net value flows
   unfolding solve_text
   solution_text_is flows value_only e = rw (e, begun) refl
 
@@ -78,7 +82,7 @@ module _ (net : Net) (value : ℕ) (first : List ℕ) (begun : first ≡ solutio
         → first ++ flat_map node_line (nodes_inside net X) ≡ cut_text arcs net value X
     unfolding cut_text
     without_arcs_is arcs e =
-        rw (e, begun) (sym (append-nil (solution_line value ++ flat_map node_line (nodes_inside net X))))
+        rw (e, begun) (sym (append-nil (line_of "s" (value ∷ []) ++ flat_map node_line (nodes_inside net X))))
 
     pub with_arcs_is : (arcs : Bool) → arcs ≡ true
         → (first ++ flat_map node_line (nodes_inside net X)) ++ flat_map arc_line (filter (leaves X) net.arcs)

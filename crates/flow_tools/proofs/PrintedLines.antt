@@ -17,7 +17,7 @@ use Rattle.flow_text.specs.Fields.{fields_of, is_blank}
 use Rattle.flow_text.specs.Digits.{value_of, is_number}
 use Rattle.flow_text.specs.Tests.{first_failed}
 use Rattle.flow_text.specs.Rules.{fault_of, first_fault, whole_fault}
-use Rattle.flow_text.specs.Output.{solution_line, flow_line, arc_flow_line, solve_text}
+use Rattle.flow_text.specs.Output.{line_of, flow_line, solve_text}
 use Rattle.flow_text.specs.Reading.{with_line}
 use Rattle.flow_text.specs.Solution.{Stated, stated_of, solution_rules, value_tests, flow_tests}
 use Rattle.flow_text.specs.SolutionReading.{solution_tests}
@@ -32,7 +32,7 @@ use Rattle.flow_text.proofs.FieldLemmas.{fields_of-blank, fields_of-last, fields
 use Rattle.flow_text.proofs.RuleLemmas.{of_fields}
 use Rattle.flow_text.proofs.SolutionLemmas.{of_solution, of_flow, Adds-solution}
 use Rattle.flow_text.proofs.UsualLemmas.{ends-pass}
-use Rattle.flow_text.proofs.OutputLemmas.{solution_line_short, flow_line_short}
+use Rattle.flow_text.proofs.OutputLemmas.{number_line_short, flow_line_short}
 use Rattle.flow_tools.specs.SolvedTexts.{carried_line, written_flow}
 use Rattle.flow_tools.proofs.PrintedNumbers.{IsPrinted, printed, digits_solid, number_printed}
 
@@ -49,28 +49,32 @@ abbrev pub body_of : Arc × ℕ → List ℕ
 body_of (arc, flow) = flow_body arc.src arc.dst flow
 
 -- with byte 10 behind they are the printed lines
-value_line_is : (value : ℕ) → solution_line value ≡ value_body value ++ 10 ∷ []
-unfolding solution_line
+value_line_is : (value : ℕ) → line_of "s" (value ∷ []) ≡ value_body value ++ 10 ∷ []
+unfolding line_of
 value_line_is value = simp append_assoc
 
-flow_line_is : (src dst flow : ℕ) → flow_line src dst flow ≡ flow_body src dst flow ++ 10 ∷ []
-unfolding flow_line
-flow_line_is src dst flow = simp append_assoc
+regroup : (w s a b c e : List ℕ)
+    → w ++ ((s ++ a) ++ ((s ++ b) ++ ((s ++ c) ++ []))) ++ e ≡ (w ++ (s ++ (a ++ (s ++ (b ++ (s ++ c)))))) ++ e
+regroup w s a b c e = simp append_assoc
+
+flow_line_is : (src dst flow : ℕ) → line_of "f" (src ∷ dst ∷ flow ∷ []) ≡ flow_body src dst flow ++ 10 ∷ []
+unfolding line_of
+flow_line_is src dst flow = regroup (102 ∷ []) (32 ∷ []) (decimal src) (decimal dst) (decimal flow) (10 ∷ [])
 
 -- the printed text is these lines, joined
-flows_joined : (zs : List (Arc × ℕ)) → flat_map arc_flow_line zs ≡ joined (map body_of zs) []
+flows_joined : (zs : List (Arc × ℕ)) → flat_map flow_line zs ≡ joined (map body_of zs) []
 flows_joined [] = refl
 flows_joined ((a, x) ∷ zs) =
-    ap (λ l. l ++ flat_map arc_flow_line zs) (flow_line_is a.src a.dst x)
-    ∙ append_assoc (flow_body a.src a.dst x) (10 ∷ []) (flat_map arc_flow_line zs)
+    ap (λ l. l ++ flat_map flow_line zs) (flow_line_is a.src a.dst x)
+    ∙ append_assoc (flow_body a.src a.dst x) (10 ∷ []) (flat_map flow_line zs)
     ∙ ap (λ l. flow_body a.src a.dst x ++ 10 ∷ l) (flows_joined zs)
 
 text_joined : (net : Net) (value : ℕ) (flows : List ℕ)
     → solve_text false net value flows ≡ joined (value_body value ∷ map body_of (zip net.arcs flows)) []
 unfolding solve_text
 text_joined net value flows =
-    ap (λ l. l ++ flat_map arc_flow_line (zip net.arcs flows)) (value_line_is value)
-    ∙ append_assoc (value_body value) (10 ∷ []) (flat_map arc_flow_line (zip net.arcs flows))
+    ap (λ l. l ++ flat_map flow_line (zip net.arcs flows)) (value_line_is value)
+    ∙ append_assoc (value_body value) (10 ∷ []) (flat_map flow_line (zip net.arcs flows))
     ∙ ap (λ l. value_body value ++ 10 ∷ l) (flows_joined (zip net.arcs flows))
 
 -- ---- their fields
@@ -140,7 +144,7 @@ value_added : (nodes value : ℕ) → value ≤ GREATEST_VALUE
 value_added nodes value h =
     let ds = decimal value in
     let p = printed value (omega arith) in
-    let size : length (solution_line value) ≤ 128 = solution_line_short value (omega arith) in
+    let size : length (line_of "s" (value ∷ [])) ≤ 128 = number_line_short value (omega arith) in
     let short : length (value_body value) ≤ LONGEST_LINE =
     omega (arith, ap length (value_line_is value), length-append (value_body value) (10 ∷ [])) in
     let of = of_fields solution_rules with_solution_record (stated_of nodes []) (value_body value) (115 ∷ []) (ds ∷ [])
@@ -164,7 +168,7 @@ flow_added old flow n some room s_least s_most d_least d_most fits =
     let q = printed flow.dst (omega arith) in
     let r = printed flow.flow (omega arith) in
     let body = flow_body flow.src flow.dst flow.flow in
-    let size : length (flow_line flow.src flow.dst flow.flow) ≤ 128 =
+    let size : length (line_of "f" (flow.src ∷ flow.dst ∷ flow.flow ∷ [])) ≤ 128 =
     flow_line_short flow.src flow.dst flow.flow (omega arith) (omega arith) fits in
     let short : length body ≤ LONGEST_LINE =
     omega (arith, ap length (flow_line_is flow.src flow.dst flow.flow), length-append body (10 ∷ [])) in

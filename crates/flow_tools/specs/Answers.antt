@@ -1,11 +1,11 @@
 -- What each job puts for an accepted problem, and with which status it ends.
-use Rattle.std.specs.Prelude.{◌≡◌, ◌↔◌, ℕ, Bool, true, false, List, IsTrue, IsFalse, Ok}
+use Rattle.std.specs.Prelude.{◌≡◌, ◌↔◌, ℕ, Bool, true, false, List, [], ◌∷◌, IsTrue, IsFalse, Ok}
 use Rattle.flow_net.specs.Nets.{Net, Instance, IsNode}
 use Rattle.flow_net.specs.NodeSets.{one_of, IsLeastOver}
 use Rattle.flow_net.specs.Flows.{IsFeasible, HasValue, IsGreatest, HasNoLoops}
 use Rattle.flow_net.specs.Cuts.{IsCut, IsMinimumCut, capacity, IsInLeastSourceSide, IsInLeastSinkSide}
 use Rattle.flow_net.specs.Connectivity.{leaving, crossing, IsProper}
-use Rattle.flow_text.specs.Output.{solve_text, cut_text, connect_line, verdict_line}
+use Rattle.flow_text.specs.Output.{line_of, solve_text, cut_text, verdict_line}
 use Rattle.flow_text.specs.Solution.{Written, solution}
 use Rattle.flow_text.specs.declared.verdicts.Verdict.{Verdict}
 use Rattle.flow_text.specs.declared.verdicts.Verdict.TheVariants.{Feasible, Optimal}
@@ -66,7 +66,7 @@ abbrev pub IsAnswer : Job → Instance → List ℕ → List ℕ → ℕ → Typ
 IsAnswer (Solve value_only) p q text status = IsSolveText p value_only text × (status ≡ 0)
 IsAnswer (Cut arcs sink) p q text status = IsCutText p arcs sink text × (status ≡ 0)
 IsAnswer (Connect undirected pair) p q text status =
-    (value : ℕ) × IsConnectivityOf p undirected pair value × (text ≡ connect_line value) × (status ≡ 0)
+    (value : ℕ) × IsConnectivityOf p undirected pair value × (text ≡ line_of "k" (value ∷ [])) × (status ≡ 0)
 IsAnswer (Check feasible_only) p q text status =
     (written : Written) × (verdict : Verdict) × (solution q p.net.nodes ≡ Ok written)
     × IsVerdict p written feasible_only verdict × (text ≡ verdict_line verdict) × (status ≡ verdict_status verdict)

@@ -1,7 +1,7 @@
 //! The lines of which a text has many are made in the gathered bytes themselves, so that each is copied once.
-ghost use Rattle.std.specs.Prelude.{◌+◌, ◌≤◌, ◌++◌, OnOk};
+ghost use Rattle.std.specs.Prelude.{◌+◌, ◌≤◌, [], ◌∷◌, ◌++◌, OnOk};
 ghost use Rattle.arrayvec.specs.ArrayVec.{array_vec_len};
-ghost use Rattle.flow_text.specs.Output.{arc_line, flow_line, node_line};
+ghost use Rattle.flow_text.specs.Output.{arc_line, flow_line, line_of};
 ghost use Rattle.flow_tools.specs.Streams.{over};
 ghost use Rattle.flow_tools.specs.Sending.{IsGathered};
 
@@ -37,7 +37,7 @@ pub(crate) fn gather_flow_line<O: Output>(
     arc: Arc,
     flow: u64,
 ) -> Result<(), Failed>
-    ensures { let text = waiting.old.items ++ flow_line arc.src arc.dst flow in
+    ensures { let text = waiting.old.items ++ flow_line (arc, flow) in
         IsGathered waiting.new.items text (over (O.state out.old) (O.state out.new)) result }
 {
     make_room(out, waiting)?;
@@ -57,7 +57,7 @@ pub(crate) fn gather_node_line<O: Output>(
     waiting: &mut Gathered,
     node: u32,
 ) -> Result<(), Failed>
-    ensures { let text = waiting.old.items ++ node_line node in
+    ensures { let text = waiting.old.items ++ line_of "n" (node ∷ []) in
         IsGathered waiting.new.items text (over (O.state out.old) (O.state out.new)) result }
 {
     make_room(out, waiting)?;

@@ -1,8 +1,8 @@
 //! The text of an answer is gathered line by line, and put when there is much of it.
-ghost use Rattle.std.specs.Prelude.{◌≡◌, ◌≤◌, ◌++◌, [], length, filter};
+ghost use Rattle.std.specs.Prelude.{◌≡◌, ◌≤◌, [], ◌∷◌, ◌++◌, length, filter};
 ghost use Rattle.std.specs.List.{flat_map, zip};
 ghost use Rattle.flow_net.specs.Cuts.{leaves};
-ghost use Rattle.flow_text.specs.Output.{arc_flow_line, arc_line, node_line, solution_line, solve_text, cut_text};
+ghost use Rattle.flow_text.specs.Output.{arc_line, cut_text, flow_line, line_of, solve_text};
 ghost use Rattle.flow_tools.specs.Sides.{nodes_inside};
 ghost use Rattle.flow_tools.specs.Sides.{side_of};
 ghost use Rattle.flow_tools.specs.Streams.{over};
@@ -72,7 +72,7 @@ pub(crate) fn put_cut<O: Output>(
 /// Gathers the line of the value, the first of a text.
 fn gather_value(waiting: &mut Gathered, value: u128)
     requires empty { waiting.old.items ≡ [] }
-    ensures { waiting.new.items ≡ solution_line value }
+    ensures { waiting.new.items ≡ line_of "s" (value ∷ []) }
 {
     let _ = waiting.try_extend_from_slice(solution_line(value).as_slice());
 }
@@ -85,7 +85,7 @@ fn gather_flows<O: Output>(
     flows: &[u64],
 ) -> Result<(), Failed>
     requires count { length flows.now ≡ length net.now.arcs }
-    ensures { let text = waiting.old.items ++ flat_map arc_flow_line (zip net.now.arcs flows.now) in
+    ensures { let text = waiting.old.items ++ flat_map flow_line (zip net.now.arcs flows.now) in
         IsGathered waiting.new.items text (over (O.state out.old) (O.state out.new)) result }
 {
     for i in 0..net.len() {
@@ -113,7 +113,8 @@ fn gather_nodes<O: Output>(
     sink: bool,
 ) -> Result<(), Failed>
     requires count { length side.now ≡ net.now.nodes }
-    ensures { let text = waiting.old.items ++ flat_map node_line (nodes_inside net.now (side_of sink side.now)) in
+    ensures { let text = waiting.old.items
+        ++ flat_map (λ v. line_of "n" (v ∷ [])) (nodes_inside net.now (side_of sink side.now)) in
         IsGathered waiting.new.items text (over (O.state out.old) (O.state out.new)) result }
 {
     for i in 0..net.nodes() {

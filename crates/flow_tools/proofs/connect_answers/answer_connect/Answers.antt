@@ -1,7 +1,7 @@
 -- What `answer_connect` puts: the line of the connectivity of the network with capacities of 1, which by the laws of
 -- connectivity is that of the problem's network.
-use Rattle.std.proofs.Common.{refl, ◌∙◌}
-use Rattle.flow_text.specs.Output.{connect_line}
+use Rattle.std.proofs.Common.{[], ◌∷◌, refl, ◌∙◌}
+use Rattle.flow_text.specs.Output.{line_of}
 use Rattle.flow_tools.specs.declared.jobs.Job.TheVariants.{Connect}
 use Rattle.flow_tools.proofs.ConnectAnswers.{unit_capacities, connectivity_of}
 use Rattle.flow_tools.proofs.EndLemmas.{puts_all, puts_some}
@@ -20,8 +20,9 @@ returns-in-Ok-put_all g c =
     let is = connectivity_of p c.in-Ok.net c.deref.result.now c.deref-2.result.now
     (c.deref.ensures.value ∙ parts.sources) (c.deref-2.ensures.value ∙ parts.sinks) c.args.form.undirected
     c.args.form.pair value made e.pair e.whole in
-    puts_all (Connect c.args.form.undirected c.args.form.pair) p _ _ _ _ (connect_line value) (value, is, refl, refl)
-    (rw (c.as_slice.ensures.value, c.connect_line.ensures) at c.in-Ok-put_all.ensures.ok) c.in-Ok-put_all.ensures.flag
+    puts_all (Connect c.args.form.undirected c.args.form.pair) p _ _ _ _ (line_of "k" (value ∷ []))
+    (value, is, refl, refl) (rw (c.as_slice.ensures.value, c.connect_line.ensures) at c.in-Ok-put_all.ensures.ok)
+    c.in-Ok-put_all.ensures.flag
 
 pub returns : goal.returns
 returns g c =
@@ -33,6 +34,6 @@ returns g c =
     let is = connectivity_of p c.in-Ok.net c.deref.result.now c.deref-2.result.now
     (c.deref.ensures.value ∙ parts.sources) (c.deref-2.ensures.value ∙ parts.sinks) c.args.form.undirected
     c.args.form.pair value made e.pair e.whole in
-    puts_some (Connect c.args.form.undirected c.args.form.pair) p _ _ _ _ (connect_line value) (value, is, refl, refl)
-    (rw (c.as_slice.ensures.value, c.connect_line.ensures) at c.in-Err-put_all.ensures.err)
+    puts_some (Connect c.args.form.undirected c.args.form.pair) p _ _ _ _ (line_of "k" (value ∷ []))
+    (value, is, refl, refl) (rw (c.as_slice.ensures.value, c.connect_line.ensures) at c.in-Err-put_all.ensures.err)
     c.in-Err-put_all.ensures.flag

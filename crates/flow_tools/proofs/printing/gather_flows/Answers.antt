@@ -3,7 +3,7 @@
 use Rattle.std.proofs.Common.{◌∙◌, arith, refl, rules}
 use Rattle.std.specs.List.{zip}
 use Rattle.flow_net.specs.Arcs.{no_arc}
-use Rattle.flow_text.specs.Output.{arc_flow_line}
+use Rattle.flow_text.specs.Output.{flow_line}
 use Rattle.flow_tools.proofs.SendLemmas.{on_err}
 use Rattle.flow_tools.proofs.LineLemmas.{lines_more, lines_stop, lines_end}
 use Rattle.flow_tools.proofs.PrintLemmas.{length-arc_flows, flow_line_is}
@@ -18,7 +18,7 @@ returns-in_err-gather_flow_line g c =
       ok = search rules;
       err =
           on_err c.from_residual.result
-          (lines_stop arc_flow_line (zip net.arcs flows) c.loop-i.i _ _ _ _ c.loop-i.invariant.0 (no_arc, 0) _
+          (lines_stop flow_line (zip net.arcs flows) c.loop-i.i _ _ _ _ c.loop-i.invariant.0 (no_arc, 0) _
           _ (omega arith)
           (flow_line_is net flows c.requires.count c.loop-i.i _ _ (omega arith) c.arc-arc.ensures.arc refl)
           c.in_err-gather_flow_line.ensures.err);
@@ -30,7 +30,7 @@ loop-i-preserved g c =
     let net = c.args.net.now in
     let flows = c.args.flows.now in
     let e = length-arc_flows net flows c.requires.count in (
-      lines_more arc_flow_line (zip net.arcs flows) c.loop-i.i _ _ _ _ c.loop-i.invariant.0 (no_arc, 0) _ _ _
+      lines_more flow_line (zip net.arcs flows) c.loop-i.i _ _ _ _ c.loop-i.invariant.0 (no_arc, 0) _ _ _
           (omega arith)
           (flow_line_is net flows c.requires.count c.loop-i.i _ _ (omega arith) c.arc-arc.ensures.arc refl)
           c.in_ok-gather_flow_line.ensures.ok,
@@ -43,7 +43,7 @@ returns g c =
     let flows = c.args.flows.now in
     let e = length-arc_flows net flows c.requires.count in
     record {
-      ok = lines_end arc_flow_line (zip net.arcs flows) c.loop-i.i _ _ _ _ c.loop-i.invariant.0 (omega arith);
+      ok = lines_end flow_line (zip net.arcs flows) c.loop-i.i _ _ _ _ c.loop-i.invariant.0 (omega arith);
       err = tt;
       flag = c.loop-i.invariant.1;
     }

@@ -3,11 +3,10 @@
 use Rattle.std.proofs.Common.{◌∙◌, arith, refl, rules}
 use Rattle.std.specs.List.{range_with_len}
 use Rattle.std.proofs.lemmas.List.FromFn.{length-range_with_len}
-use Rattle.flow_text.specs.Output.{node_line}
 use Rattle.flow_tools.specs.Sides.{side_of}
 use Rattle.flow_tools.proofs.SendLemmas.{on_err}
 use Rattle.flow_tools.proofs.LineLemmas.{line_if, lines_more, lines_skip, lines_stop, lines_end, flat_map-filter}
-use Rattle.flow_tools.proofs.PrintLemmas.{node_line_is, no_node_line}
+use Rattle.flow_tools.proofs.PrintLemmas.{node_line, node_line_is, no_node_line}
 use Rattle.flow_tools.proofs.printing.gather_nodes.Goals as goal
 
 pub loop-i-preserved-then-not-is_inside : goal.loop-i-preserved-then-not-is_inside

@@ -1,9 +1,9 @@
 -- The lines so far have been put or wait, and no put has failed.
 use Rattle.std.proofs.Common.{◌≡◌}
 use Rattle.std.specs.List.{range_with_len}
-use Rattle.flow_text.specs.Output.{node_line}
 use Rattle.flow_tools.specs.Sides.{side_of}
 use Rattle.flow_tools.proofs.LineLemmas.{line_if, HasSent}
+use Rattle.flow_tools.proofs.PrintLemmas.{node_line}
 use Rattle.flow_tools.proofs.printing.gather_nodes.Given as goal
 
 abbrev pub invariant-loop-i : goal.invariant-loop-i

@@ -23,7 +23,7 @@ decimal_10 n h = length-decimal-le_wide 10 n (omega arith) (omega arith) (omega 
 pub decimal_20 : (n : ℕ) → n < 2 ^ 64 → length (decimal n) ≤ 20
 decimal_20 n h = length-decimal-le_wide 20 n (omega arith) (omega arith) (omega arith)
 
-pub decimal_39 : (n : ℕ) → n < 2 ^ 128 → length (decimal n) ≤ 39
+decimal_39 : (n : ℕ) → n < 2 ^ 128 → length (decimal n) ≤ 39
 decimal_39 n h = length-decimal-le_wide 39 n (omega arith) (omega arith) (omega arith)
 
 -- a line of four numbers, as it grows
@@ -39,10 +39,10 @@ unfolding line_of
 four_numbers word a b c d =
     regroup (codes word) (codes " ") (decimal a) (decimal b) (decimal c) (decimal d) (codes "\n")
 
--- no line of one number, or of three, is longer than 128 bytes
-pub number_line_short : (value : ℕ) → value < 2 ^ 128 → length (line_of "s" (value ∷ [])) ≤ 128
+-- the line of a value has 128 bytes at most, and so has that of a flow
+pub value_line_short : (value : ℕ) → value < 2 ^ 128 → length (line_of "s" (value ∷ [])) ≤ 128
 unfolding line_of
-number_line_short value h = simp length-append (omega (arith, decimal_39 value h))
+value_line_short value h = simp length-append (omega (arith, decimal_39 value h))
 
 pub flow_line_short : (src dst flow : ℕ) → src < 2 ^ 32 → dst < 2 ^ 32 → flow < 2 ^ 64
     → length (line_of "f" (src ∷ dst ∷ flow ∷ [])) ≤ 128

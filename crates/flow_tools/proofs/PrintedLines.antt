@@ -32,7 +32,7 @@ use Rattle.flow_text.proofs.FieldLemmas.{fields_of-blank, fields_of-last, fields
 use Rattle.flow_text.proofs.RuleLemmas.{of_fields}
 use Rattle.flow_text.proofs.SolutionLemmas.{of_solution, of_flow, Adds-solution}
 use Rattle.flow_text.proofs.UsualLemmas.{ends-pass}
-use Rattle.flow_text.proofs.OutputLemmas.{number_line_short, flow_line_short}
+use Rattle.flow_text.proofs.OutputLemmas.{value_line_short, flow_line_short}
 use Rattle.flow_tools.specs.SolvedTexts.{carried_line, written_flow}
 use Rattle.flow_tools.proofs.PrintedNumbers.{IsPrinted, printed, digits_solid, number_printed}
 
@@ -48,14 +48,15 @@ flow_body src dst flow = 102 ∷ 32 ∷ (decimal src ++ 32 ∷ (decimal dst ++ 3
 abbrev pub body_of : Arc × ℕ → List ℕ
 body_of (arc, flow) = flow_body arc.src arc.dst flow
 
+-- a word and three numbers with their blanks, from the left to the right
+regroup : (w s a b c e : List ℕ)
+    → w ++ ((s ++ a) ++ ((s ++ b) ++ ((s ++ c) ++ []))) ++ e ≡ (w ++ (s ++ (a ++ (s ++ (b ++ (s ++ c)))))) ++ e
+regroup w s a b c e = simp append_assoc
+
 -- with byte 10 behind they are the printed lines
 value_line_is : (value : ℕ) → line_of "s" (value ∷ []) ≡ value_body value ++ 10 ∷ []
 unfolding line_of
 value_line_is value = simp append_assoc
-
-regroup : (w s a b c e : List ℕ)
-    → w ++ ((s ++ a) ++ ((s ++ b) ++ ((s ++ c) ++ []))) ++ e ≡ (w ++ (s ++ (a ++ (s ++ (b ++ (s ++ c)))))) ++ e
-regroup w s a b c e = simp append_assoc
 
 flow_line_is : (src dst flow : ℕ) → line_of "f" (src ∷ dst ∷ flow ∷ []) ≡ flow_body src dst flow ++ 10 ∷ []
 unfolding line_of
@@ -144,7 +145,7 @@ value_added : (nodes value : ℕ) → value ≤ GREATEST_VALUE
 value_added nodes value h =
     let ds = decimal value in
     let p = printed value (omega arith) in
-    let size : length (line_of "s" (value ∷ [])) ≤ 128 = number_line_short value (omega arith) in
+    let size : length (line_of "s" (value ∷ [])) ≤ 128 = value_line_short value (omega arith) in
     let short : length (value_body value) ≤ LONGEST_LINE =
     omega (arith, ap length (value_line_is value), length-append (value_body value) (10 ∷ [])) in
     let of = of_fields solution_rules with_solution_record (stated_of nodes []) (value_body value) (115 ∷ []) (ds ∷ [])

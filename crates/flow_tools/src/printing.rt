@@ -3,8 +3,7 @@ ghost use Rattle.std.specs.Prelude.{◌≡◌, ◌≤◌, [], ◌∷◌, ◌++�
 ghost use Rattle.std.specs.List.{flat_map, zip};
 ghost use Rattle.flow_net.specs.Cuts.{leaves};
 ghost use Rattle.flow_text.specs.Output.{arc_line, cut_text, flow_line, line_of, solve_text};
-ghost use Rattle.flow_tools.specs.Sides.{nodes_inside};
-ghost use Rattle.flow_tools.specs.Sides.{side_of};
+ghost use Rattle.flow_tools.specs.Sides.{nodes_inside, side_of};
 ghost use Rattle.flow_tools.specs.Streams.{over};
 ghost use Rattle.flow_tools.specs.Sending.{IsGathered, IsPut};
 

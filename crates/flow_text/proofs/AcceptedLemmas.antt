@@ -18,8 +18,8 @@ use Rattle.flow_text.specs.Tests.{first_failed, number_tests, ends_tests}
 use Rattle.flow_text.specs.Terminals.{Marks, is_marked, lacks_one}
 use Rattle.flow_text.specs.Rules.{whole_fault}
 use Rattle.flow_text.specs.Problem.{Known, known_of, problem, problem_rules, problem_record_fault}
-use Rattle.flow_text.specs.ProblemReading.{problem_tests}
-use Rattle.flow_text.specs.Problem.{size_tests, node_tests, mark_tests, arc_tests, end_tests, instance_of}
+use Rattle.flow_text.specs.ProblemReading.{problem_tests, mark_tests}
+use Rattle.flow_text.specs.Problem.{size_tests, node_tests, arc_tests, end_tests, instance_of}
 use Rattle.flow_text.specs.Problem.{nodes}
 use Rattle.flow_text.specs.ProblemReading.{marks_of, size_of, node_of, arc_of, with_problem_record, with_node}
 use Rattle.flow_text.specs.Solution.{Stated, Written, stated_of, solution, solution_rules, solution_record_fault}
@@ -104,7 +104,7 @@ s_not_t (c ∷ cs) is = grind (arith, common_steps)
 
 -- a node line
 marked : (n m : ℕ) (marks : Marks) (arcs : List Arc) (fields : List (List ℕ))
-    → first_failed (mark_tests n marks.sources marks.sinks fields) ≡ None → Inside n m marks arcs
+    → first_failed (mark_tests n marks fields) ≡ None → Inside n m marks arcs
     → Inside n m (with_node marks fields) arcs
 unfolding mark_tests
 marked n m marks arcs fields h p =
@@ -150,10 +150,11 @@ marked n m marks arcs fields h p =
 noded : (size : Option (ℕ × ℕ)) (marks : Marks) (arcs : List Arc) (fields : List (List ℕ))
     → first_failed (node_tests (known_by size marks arcs) fields) ≡ None
     → InsideFrom size marks arcs → InsideFrom size (with_node marks fields) arcs
+unfolding mark_tests
 noded None marks arcs fields h p = cc
 noded (Some size) marks arcs fields h p =
     let early = passed (nat_lt 0 (length arcs)) NodeLineAfterArcLine
-    (first_failed (mark_tests size.0 marks.sources marks.sinks fields))
+    (first_failed (mark_tests size.0 marks fields))
     h in
     marked size.0 size.1 marks arcs fields early.1 p
 

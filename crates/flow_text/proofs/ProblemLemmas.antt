@@ -16,7 +16,7 @@ use Rattle.flow_text.specs.Tests.{first_failed}
 use Rattle.flow_text.specs.Rules.{is_comment, names, fault_of}
 use Rattle.flow_text.specs.Terminals.{Marks, lacks_one, with_mark}
 use Rattle.flow_text.specs.Problem.{Known, known_of, problem_record_fault, problem_rules, node_tests}
-use Rattle.flow_text.specs.ProblemReading.{problem_tests}
+use Rattle.flow_text.specs.ProblemReading.{problem_tests, mark_tests}
 use Rattle.flow_text.specs.Problem.{arc_tests, is_terminal}
 use Rattle.flow_text.specs.ProblemReading.{size_of, arc_of, node_of, ProblemSoFar, known_with, with_problem_record}
 use Rattle.flow_text.specs.ProblemReading.{with_terminal, IsKept}
@@ -88,6 +88,12 @@ pub of_unknown : (k : Known) (kind : List ℕ) (others : List (List ℕ)) → by
     → problem_record_fault k (kind ∷ others) ≡ Some UnknownLine
 unfolding problem_record_fault
 of_unknown k kind others p n a = simp (p, n, a)
+
+-- a node line before the first arc line
+pub node_tests-own : (k : ProblemSoFar) (fields : List (List ℕ)) → length k.arcs ≡ 0
+    → first_failed (node_tests (known_with k) fields) ≡ first_failed (mark_tests k.nodes k.marks fields)
+unfolding mark_tests
+node_tests-own k fields none = rw none refl
 
 -- what is judged once a problem line has ended
 pub Judges-with : (fault : Option FaultCode) (after new : ProblemSoFar) (r : Result (Unit {0}) Refusal)

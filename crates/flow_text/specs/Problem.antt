@@ -56,19 +56,15 @@ size_tests fields =
     ∷ number_tests (field_at fields 2) FEWEST_NODES MOST_NODES NodesOutOfRange
     ++ number_tests (field_at fields 3) 0 MOST_ARCS ArcsOutOfRange
 
--- the tests of a node line's own fields, and of the whole line
-unfoldable pub mark_tests : ℕ → List ℕ → List ℕ → List (List ℕ) → List Test
-mark_tests nodes sources sinks fields =
-    (not (length fields == 3), WrongFields)
-    ∷ number_tests (field_at fields 1) 1 nodes NodeOutOfRange
-    ++ (not (bytes_eq (field_at fields 2) (codes "s") || bytes_eq (field_at fields 2) (codes "t")), NotTerminal)
-    ∷ (one_of sources (number_at fields 1) || one_of sinks (number_at fields 1), AlreadyTerminal) ∷ []
-
+-- the tests of a node line
 abbrev pub node_tests : Known → List (List ℕ) → List Test
 node_tests known fields =
     (not (is_some known.size), ProblemLineMissing)
     ∷ (nat_lt 0 (length known.arcs), NodeLineAfterArcLine)
-    ∷ mark_tests (nodes known) known.sources known.sinks fields
+    ∷ (not (length fields == 3), WrongFields)
+    ∷ number_tests (field_at fields 1) 1 (nodes known) NodeOutOfRange
+    ++ (not (bytes_eq (field_at fields 2) (codes "s") || bytes_eq (field_at fields 2) (codes "t")), NotTerminal)
+    ∷ (one_of known.sources (number_at fields 1) || one_of known.sinks (number_at fields 1), AlreadyTerminal) ∷ []
 
 -- the tests of an arc line
 abbrev pub arc_tests : Known → List (List ℕ) → List Test

@@ -1,5 +1,5 @@
 -- What the reader of a problem keeps and answers.
-use Rattle.std.specs.Prelude.{◌≡◌, ℕ, ◌≤◌, ◌<◌, Bool, true, false, ◌&&◌, ◌++◌, List, [], ◌∷◌, length, Option, Some, None, is_some, Result, Ok, Err, codes, if◌then◌else◌}
+use Rattle.std.specs.Prelude.{◌≡◌, ℕ, ◌≤◌, ◌<◌, Bool, true, false, ◌&&◌, ◌++◌, List, [], ◌∷◌, length, drop, Option, Some, None, is_some, Result, Ok, Err, codes, if◌then◌else◌}
 use Rattle.std.specs.Str.{bytes_eq}
 use Rattle.std.specs.List.{All}
 use Rattle.std.specs.Option.{option_map}
@@ -10,7 +10,7 @@ use Rattle.flow_text.specs.Fields.{field_at}
 use Rattle.flow_text.specs.Digits.{value_of}
 use Rattle.flow_text.specs.Rules.{names}
 use Rattle.flow_text.specs.Terminals.{Marks, lacks_one}
-use Rattle.flow_text.specs.Problem.{Known, known_of, size_tests, instance_of, problem_rules}
+use Rattle.flow_text.specs.Problem.{Known, known_of, size_tests, node_tests, instance_of, problem_rules}
 use Rattle.flow_text.specs.Tests.{Test}
 use Rattle.flow_text.specs.declared.faults.FaultCode.TheVariants.{SecondProblemLine}
 use Rattle.flow_text.specs.Reading.{State, HasRead, FeedsBy, AnswersAs}
@@ -83,6 +83,11 @@ known_with sized = record {
   sinks = sized.marks.sinks;
   arcs = sized.arcs;
 }
+
+-- the tests of a node line behind its first two, which look at other lines alone
+unfoldable pub mark_tests : ℕ → Marks → List (List ℕ) → List Test
+mark_tests nodes marks fields =
+    drop 2 (node_tests (known_with (record { nodes = nodes; declared = 0; marks = marks; arcs = [] })) fields)
 
 -- what is known: nothing before a problem line
 abbrev pub known_from : Option ProblemSoFar → Known

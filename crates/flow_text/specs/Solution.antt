@@ -47,13 +47,10 @@ solution_record_fault stated fields =
     else if names (codes "f") fields then first_failed (flow_tests stated fields)
     else Some UnknownLine
 
--- the fault of the end of input
-abbrev pub solution_end_fault : Stated → Option FaultCode
-solution_end_fault stated = if is_some stated.value then None else Some SolutionLineMissing
-
 -- the rules of a solution file
 abbrev pub solution_rules : Rules Stated
-solution_rules = record { record_fault = solution_record_fault; end_fault = solution_end_fault }
+solution_rules = let end_fault = λ (stated : Stated). if is_some stated.value then None else Some SolutionLineMissing in
+    record { record_fault = solution_record_fault; end_fault = end_fault }
 
 -- what an accepted solution says: VALUE and the flow lines
 pub record Written : Type 0 where

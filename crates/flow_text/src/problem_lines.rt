@@ -2,8 +2,8 @@
 ghost use Rattle.std.specs.Prelude.{◌≡◌, ◌≤◌, [], ◌∷◌, ◌++◌, List, ℕ, Some, None, true, false, length, IfOk, IfSome, MatchOption, MatchResult};
 ghost use Rattle.flow_text.specs.Tests.{first_failed};
 ghost use Rattle.flow_text.specs.Terminals.{is_marked, with_mark};
-ghost use Rattle.flow_text.specs.Problem.{Known, known_of, size_tests, mark_tests, node_tests, arc_tests, end_tests, problem_rules, instance_of};
-ghost use Rattle.flow_text.specs.ProblemReading.{problem_tests};
+ghost use Rattle.flow_text.specs.Problem.{Known, known_of, size_tests, node_tests, arc_tests, end_tests, problem_rules, instance_of};
+ghost use Rattle.flow_text.specs.ProblemReading.{problem_tests, mark_tests};
 ghost use Rattle.flow_text.specs.ProblemReading.{size_of, node_of, arc_of, KeepsArc, known_with, with_node, with_terminal, with_problem_record, known_net};
 ghost use Rattle.flow_text.specs.Reading.{Judges};
 
@@ -44,13 +44,13 @@ fn size_in(others: Fields<'_>) -> Result<(u32, u32), FaultCode>
 }
 
 /// What `n ID s` or `n ID t` says behind its letter: the node, and whether it is a source.
-#[tactic(auto, unfolding(crate::specs::Problem::mark_tests))]
+#[tactic(auto, unfolding(crate::specs::ProblemReading::mark_tests))]
 fn mark_in(others: Fields<'_>, nodes: u32, marks: &Terminals) -> Result<(u32, bool), FaultCode>
     ensures tests { (kind : List ℕ) → MatchResult result
-        (λ mark. (first_failed (mark_tests nodes marks.now.sources marks.now.sinks (kind ∷ others.entry)) ≡ None)
+        (λ mark. (first_failed (mark_tests nodes marks.now (kind ∷ others.entry)) ≡ None)
         × (mark.0 ≡ node_of (kind ∷ others.entry))
         × (with_mark marks.now mark.0 mark.1 ≡ with_node marks.now (kind ∷ others.entry)))
-        (λ e. first_failed (mark_tests nodes marks.now.sources marks.now.sinks (kind ∷ others.entry)) ≡ Some e) }
+        (λ e. first_failed (mark_tests nodes marks.now (kind ∷ others.entry)) ≡ Some e) }
     ensures least { IfOk result (λ mark. 1 ≤ mark.0) }
     ensures most { IfOk result (λ mark. mark.0 ≤ nodes) }
     ensures unmarked { IfOk result (λ mark. is_marked marks.now mark.0 ≡ false) }

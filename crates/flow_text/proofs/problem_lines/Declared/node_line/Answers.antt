@@ -1,5 +1,5 @@
-use Rattle.std.proofs.Common.{rules}
-use Rattle.flow_text.proofs.ProblemLemmas.{IsKept-mark}
+use Rattle.std.proofs.Common.{rules, ◌≡◌, ◌∷◌, ◌∙◌, length, arith}
+use Rattle.flow_text.proofs.ProblemLemmas.{IsKept-mark, node_tests-own}
 use Rattle.flow_text.proofs.problem_lines.Declared.node_line.Goals as goal
 use Rattle.flow_text.proofs.problem_lines.Declared.node_line.Goals.{in-Ok-add, in-Err-add}
 
@@ -16,3 +16,17 @@ invariant_of-self c = elim c.match-add.branch [
     sinks_within = search rules;
   })
 ]
+
+pub returns-after-add : goal.returns-after-add
+returns-after-add c = λ kind.
+    let none : length c.args.self.now.arcs ≡ 0 = search (rules, arith) in
+    rw (node_tests-own c.args.self.now (kind ∷ c.args.others) none) (elim c.match-add.branch [
+      | in-Ok-add w ↦ search rules
+      | in-Err-add w ↦ search rules
+    ])
+
+pub returns-in-Err : goal.returns-in-Err
+returns-in-Err c = λ kind.
+    let none : length c.args.self.now.arcs ≡ 0 = search (rules, arith) in
+    node_tests-own c.args.self.now (kind ∷ c.args.others) none
+    ∙ rw (← c.self.view_is) (rw (c.nodes.ensures.nodes) at c.in-Err.ensures.tests kind)

@@ -13,8 +13,8 @@ use Rattle.flow_tools.specs.Sending.{Stops}
 use Rattle.flow_tools.proofs.StreamParts.{stream}
 use Rattle.flow_tools.specs.Reading.{IsRead}
 use Rattle.flow_tools.specs.Answers.{IsAnswer}
-use Rattle.flow_tools.specs.Exits.{Runs, EndsAt, IsCheck}
-use Rattle.flow_tools.specs.AnswerExits.{Puts, PutsAt, Checks, ChecksAt}
+use Rattle.flow_tools.specs.Exits.{EndsAt, IsCheck}
+use Rattle.flow_tools.specs.AnswerExits.{Runs, Puts, PutsAt, Checks, ChecksAt}
 use Rattle.flow_tools.specs.declared.jobs.Job.{Job}
 use Rattle.flow_tools.specs.declared.jobs.Job.TheVariants.{Check}
 use Rattle.flow_tools.specs.declared.jobs.Stop.{Stop}
@@ -45,7 +45,8 @@ module _ (source : Stream) (q : Option (List ℕ)) (qf : Bool) (job : Job) where
   pub problem_stops : (w : Option (List ℕ)) (wf : Bool) (stop : Stop)
       → IsRead {T = Instance} early (λ b fault. problem b ≡ Err fault) (λ b p. problem b ≡ Ok p) source false (Err stop)
       → Runs job source (stream q q qf qf) (stream w w wf wf) (Err stop)
-  problem_stops w wf stop r = record {
+  problem_stops w wf stop r err status told answered = record {
+    end = Err stop;
     p = r.text;
     q = [];
     o = [];
@@ -55,6 +56,8 @@ module _ (source : Stream) (q : Option (List ℕ)) (qf : Bool) (job : Job) where
     one_pass = r.one_pass;
     solution_read = inl (refl, refl);
     exit = exit_of stop r;
+    told = told;
+    answered = answered;
   } where
     exit_of : (stop : Stop)
         (r : IsRead {T = Instance} early (λ b fault. problem b ≡ Err fault) (λ b p. problem b ≡ Ok p) source false
@@ -70,7 +73,8 @@ module _ (source : Stream) (q : Option (List ℕ)) (qf : Bool) (job : Job) where
       → IsRead {T = Instance} early (λ b fault. problem b ≡ Err fault) (λ b p. problem b ≡ Ok p) source false
       (Ok instance)
       → Puts job instance [] out end → Runs job source (stream q q qf qf) out end
-  answered out instance end no_check r a = record {
+  answered out instance end no_check r a err status told is = record {
+    end = end;
     p = r.text;
     q = [];
     o = a.o;
@@ -80,6 +84,8 @@ module _ (source : Stream) (q : Option (List ℕ)) (qf : Bool) (job : Job) where
     one_pass = r.one_pass;
     solution_read = inl (refl, refl);
     exit = exit_of end a.o a.exit;
+    told = told;
+    answered = is;
   } where
     exit_of : (end : Result ℕ Stop) (o : List ℕ) → PutsAt job instance [] out o end
         → EndsAt job source (stream q q qf qf) out r.text [] o end
@@ -95,7 +101,8 @@ module _ (source given out : Stream) (feasible_only : Bool) (instance : Instance
   pub checked : IsRead {T = Instance} early (λ b fault. problem b ≡ Err fault) (λ b p. problem b ≡ Ok p) source false
       (Ok instance)
       → Checks feasible_only instance given out end → Runs (Check feasible_only) source given out end
-  checked r a = record {
+  checked r a err status told answered = record {
+    end = end;
     p = r.text;
     q = a.q;
     o = a.o;
@@ -105,6 +112,8 @@ module _ (source given out : Stream) (feasible_only : Bool) (instance : Instance
     one_pass = r.one_pass;
     solution_read = inr (tt, r.judged.0, (instance, r.judged.1, a.one_pass));
     exit = exit_of end a.o a.exit;
+    told = told;
+    answered = answered;
   } where
     exit_of : (end : Result ℕ Stop) (o : List ℕ) → ChecksAt feasible_only instance given out a.q o end
         → EndsAt (Check feasible_only) source given out r.text a.q o end

@@ -1,4 +1,4 @@
--- How a job ends that was handed a problem.
+-- How a run ends but for its message, and a job that was handed a problem.
 use Rattle.std.specs.Prelude.{◌≡◌, ℕ, true, false, List, [], Result, Ok, Err, None, Bool}
 use Rattle.std.specs.Io.KnownBytes.{Appends, Consumes}
 use Rattle.flow_net.specs.Nets.{Instance}
@@ -6,7 +6,7 @@ use Rattle.flow_text.specs.Solution.{early_solution, solution}
 use Rattle.flow_tools.specs.Streams.{Stream, IsKept, HasFailed, HasEnded, IsBeginning}
 use Rattle.flow_tools.specs.OnePass.{IsOnePass}
 use Rattle.flow_tools.specs.Answers.{IsAnswer}
-use Rattle.flow_tools.specs.Exits.{HasFault}
+use Rattle.flow_tools.specs.Exits.{HasFault, IsTold, ending, EndsWith}
 use Rattle.flow_tools.specs.declared.jobs.Job.{Job}
 use Rattle.flow_tools.specs.declared.jobs.Job.TheVariants.{Check}
 use Rattle.flow_tools.specs.declared.jobs.Stop.{Stop}
@@ -47,3 +47,8 @@ pub record Checks (feasible_only : Bool) (instance : Instance) (given out : Stre
   pub put_o : Appends out.before.bytes out.after.bytes o
   pub one_pass : IsOnePass (λ b. early_solution b instance.net.nodes) q
   pub exit : ChecksAt feasible_only instance given out q o end
+
+-- A run but for its message: with any stream that took the message it is a whole run.
+abbrev pub Runs : Job → Stream → Stream → Stream → Result ℕ Stop → Type 0
+Runs job source given out end = (err : Stream) (status : ℕ) → IsTold err (ending end).0 → status ≡ (ending end).1
+    → EndsWith job source given out err status

@@ -51,19 +51,6 @@ EndsAt job source given out p q o (Err WriteFailed) = HasFailed out
     × ((text : List ℕ) × (status : ℕ) × IsAllowed job source given p q text status × IsBeginning o text)
 EndsAt job source given out p q o (Err OutOfMemory) = IsKept source × IsKept given × IsKept out × (o ≡ [])
 
--- A run but for its message: what the inputs delivered and what was put, in one pass, and the exit.
-pub record Runs (job : Job) (source given out : Stream) (end : Result ℕ Stop) : Type 0 where
-  pub p : List ℕ
-  pub q : List ℕ
-  pub o : List ℕ
-  pub delivered_p : Consumes source.before.bytes source.after.bytes p
-  pub delivered_q : Consumes given.before.bytes given.after.bytes q
-  pub put_o : Appends out.before.bytes out.after.bytes o
-  pub one_pass : IsOnePass early p
-  pub solution_read : ((q ≡ []) × IsKept given)
-      ⊎ HasComeToSolution job source p (λ nodes. IsOnePass (λ b. early_solution b nodes) q)
-  pub exit : EndsAt job source given out p q o end
-
 -- the message of an exit, and its status
 abbrev pub ending : Result ℕ Stop → List ℕ × ℕ
 ending (Ok status) = ([], status)
@@ -77,9 +64,18 @@ abbrev pub IsTold : Stream → List ℕ → Type 0
 IsTold err message = (e : List ℕ) × Appends err.before.bytes err.after.bytes e
     × ((IsKept err × (e ≡ message)) ⊎ (HasFailed err × IsBeginning e message))
 
--- A whole run.
-pub record EndsWith (job : Job) (source solution out err : Stream) (status : ℕ) : Type 0 where
+-- A whole run: what the inputs delivered and what was put, in one pass, the exit, and its message and status.
+pub record EndsWith (job : Job) (source given out err : Stream) (status : ℕ) : Type 0 where
   pub end : Result ℕ Stop
-  pub runs : Runs job source solution out end
+  pub p : List ℕ
+  pub q : List ℕ
+  pub o : List ℕ
+  pub delivered_p : Consumes source.before.bytes source.after.bytes p
+  pub delivered_q : Consumes given.before.bytes given.after.bytes q
+  pub put_o : Appends out.before.bytes out.after.bytes o
+  pub one_pass : IsOnePass early p
+  pub solution_read : ((q ≡ []) × IsKept given)
+      ⊎ HasComeToSolution job source p (λ nodes. IsOnePass (λ b. early_solution b nodes) q)
+  pub exit : EndsAt job source given out p q o end
   pub told : IsTold err (ending end).0
   pub answered : status ≡ (ending end).1

@@ -16,52 +16,6 @@ use Rattle.flow_solve.specs.Levels.{Descends}
 use Rattle.flow_solve.proofs.Falls.{one_falls}
 use Rattle.flow_solve.proofs.Places.{falls_apart}
 
--- a path is no longer than the rank of its first node
-pub path_length : (net : Net) (rank : ℕ → ℕ) (u w : ℕ) (hs : List ℕ) → IsPath net u hs w → Descends net rank hs
-    → length hs + rank w ≤ rank u
-path_length net rank u w [] p c = omega (arith, ap rank p)
-path_length net rank u w (h ∷ hs) p c =
-    omega (arith, c.0, ap rank p.1, path_length net rank (head_of net h) w hs p.2 c.1)
-
--- behind the half-arc at a place there are no more than the rank of the node that it leaves
-pub path_behind : (net : Net) (rank : ℕ → ℕ) (u w : ℕ) (hs : List ℕ) (e : ℕ) → IsPath net u hs w → Descends net rank hs
-    → e < length hs
-    → length hs ≤ rank (tail_of net (get_or hs e 0)) + e
-path_behind net rank u w [] e p c l = absurd (omega arith)
-path_behind net rank u w (h ∷ hs) zero p c l = omega (arith, ap rank p.1, path_length net rank u w (h ∷ hs) p c)
-path_behind net rank u w (h ∷ hs) (suc e) p c l =
-    omega (arith, path_behind net rank (head_of net h) w hs e p.2 c.1 (omega (arith, l)))
-
--- and ends below each of its tails
-pub path_above : (net : Net) (rank : ℕ → ℕ) (u w : ℕ) (hs : List ℕ) → IsPath net u hs w → Descends net rank hs
-    → AllByRecursion (λ h. rank w < rank (tail_of net h)) hs
-path_above net rank u w [] p c = tt
-path_above net rank u w (h ∷ hs) p c = (
-  omega (arith, c.0, path_length net rank (head_of net h) w hs p.2 c.1),
-  path_above net rank (head_of net h) w hs p.2 c.1,
-)
-
-below_apart : (net : Net) (rank : ℕ → ℕ) (h u w : ℕ) (hs : List ℕ) → rank (head_of net h) < rank (tail_of net h)
-    → rank u < rank (tail_of net h) → IsPath net u hs w → Descends net rank hs → AllByRecursion (λ g. g / 2 ≢ h / 2) hs
-below_apart net rank h u w [] f l p c = tt
-below_apart net rank h u w (g ∷ hs) f l p c =
-    let at : rank (tail_of net g) ≡ rank u = ap rank p.1 in
-    let c0 = c.0 in
-    let on : rank (head_of net g) < rank (tail_of net h) = omega arith in
-    (λ e. apart c0 at (one_falls net rank g h c0 f e), below_apart net rank h (head_of net g) w hs f on p.2 c.1)
-  where
-    apart : rank (head_of net g) < rank (tail_of net g) → rank (tail_of net g) ≡ rank u → g ≡ h → ⊥
-    apart a b e =
-        let same : rank (tail_of net g) ≡ rank (tail_of net h) = ap (λ z. rank (tail_of net z)) e in
-        omega arith
-
--- no two of its half-arcs are of one arc
-pub descends_apart : (net : Net) (rank : ℕ → ℕ) (u w : ℕ) (hs : List ℕ) → IsPath net u hs w → Descends net rank hs
-    → IsApart hs
-descends_apart net rank u w [] p c = tt
-descends_apart net rank u w (h ∷ hs) p c =
-    (below_apart net rank h (head_of net h) w hs c.0 c.0 p.2 c.1, descends_apart net rank (head_of net h) w hs p.2 c.1)
-
 length_pushed : (net : Net) (xs : List ℕ) (h d : ℕ) → length xs ≡ length net.arcs
     → length (pushed xs h d) ≡ length net.arcs
 length_pushed net xs h d e = length-set xs (h / 2) (half_pushed (slice_index xs (h / 2)) h d) ∙ e
@@ -72,26 +26,6 @@ rooms_others : (net : Net) (xs hs : List ℕ) (d h : ℕ) → AllByRecursion (λ
 rooms_others net xs [] d h a = refl
 rooms_others net xs (g ∷ hs) d h a =
     rooms_others net (pushed xs g d) hs d h a.1 ∙ residual-pushed_other net xs g h d (λ e. a.0 (sym e))
-
--- on a half-arc that falls no more remains after the pushes
-room_less : (net : Net) (rank : ℕ → ℕ) (xs : List ℕ) (h d g : ℕ) → length xs ≡ length net.arcs → h < 2 * length net.arcs
-    → rank (head_of net h) < rank (tail_of net h) → rank (head_of net g) < rank (tail_of net g)
-    → residual net (pushed xs h d) g ≤ residual net xs g
-room_less net rank xs h d g e l f k = elim (cases_eq (g / 2) (h / 2)) [
-  | inl s ↦ rw (one_falls net rank g h k f s) (omega (arith, residual-pushed net xs h d (omega arith)))
-  | inr n ↦ omega (arith, residual-pushed_other net xs h g d n)
-]
-
-pub rooms_less : (net : Net) (rank : ℕ → ℕ) (xs : List ℕ) (u w : ℕ) (hs : List ℕ) (d g : ℕ)
-    → length xs ≡ length net.arcs → IsPath net u hs w → Descends net rank hs
-    → rank (head_of net g) < rank (tail_of net g) → residual net (push_all xs hs d) g ≤ residual net xs g
-rooms_less net rank xs u w [] d g e p c k = omega arith
-rooms_less net rank xs u w (h ∷ hs) d g e p c k =
-    omega (
-      arith,
-      rooms_less net rank (pushed xs h d) (head_of net h) w hs d g (length_pushed net xs h d e) p.2 c.1 k,
-      room_less net rank xs h d g e p.0 c.0 k,
-    )
 
 apart_at : (h : ℕ) (hs : List ℕ) (i : ℕ) → AllByRecursion (λ g. g / 2 ≢ h / 2) hs → i < length hs
     → slice_index hs i / 2 ≢ h / 2
@@ -112,23 +46,86 @@ rooms_apart net xs (h ∷ hs) d (suc i) e k a l =
     ∙ ap (λ z. z - d) (residual-pushed_other net xs h (slice_index hs i) d (apart_at h hs i a.0 j))
 
 -- the same of a table's flows before and after its pushes
-pub rooms_after : (net : Net) (xs zs ys hs : List ℕ) (d i : ℕ) → Fits net xs → zs ≡ xs → ys ≡ push_all zs hs d
-    → All (λ h. h < 2 * length net.arcs) hs → IsApart hs → i < length hs
+pub rooms_after : {net : Net} {xs zs ys : List ℕ} (hs : List ℕ) (d i : ℕ) → Fits net xs → zs ≡ xs
+    → ys ≡ push_all zs hs d → All (λ h. h < 2 * length net.arcs) hs → IsApart hs → i < length hs
     → residual net ys (slice_index hs i) ≡ residual net xs (slice_index hs i) - d
-rooms_after net xs zs ys hs d i f kept done k a l =
+rooms_after {net} {xs} hs d i f kept done k a l =
     ap (λ (us : List ℕ). residual net us (slice_index hs i)) (done ∙ ap (λ (us : List ℕ). push_all us hs d) kept)
     ∙ rooms_apart net xs hs d i f.count (recursion_from_All (λ h. h < 2 * length net.arcs) hs k) a l
 
--- so on a path on which the ranks fall
+-- a path's half-arcs are half-arcs of the network
 halves_all : (net : Net) (u w : ℕ) (hs : List ℕ) → IsPath net u hs w → AllByRecursion (λ h. h < 2 * length net.arcs) hs
 halves_all net u w [] p = tt
 halves_all net u w (h ∷ hs) p = (p.0, halves_all net (head_of net h) w hs p.2)
 
-pub rooms_at : (net : Net) (rank : ℕ → ℕ) (xs : List ℕ) (u w : ℕ) (hs : List ℕ) (d i : ℕ) → length xs ≡ length net.arcs
-    → IsPath net u hs w → Descends net rank hs → i < length hs
-    → residual net (push_all xs hs d) (slice_index hs i) ≡ residual net xs (slice_index hs i) - d
-rooms_at net rank xs u w hs d i e p c l =
-    rooms_apart net xs hs d i e (halves_all net u w hs p) (descends_apart net rank u w hs p c) l
+-- paths along which ranks fall
+module _ (net : Net) (rank : ℕ → ℕ) where
+  -- a path is no longer than the rank of its first node
+  pub path_length : (u w : ℕ) (hs : List ℕ) → IsPath net u hs w → Descends net rank hs → length hs + rank w ≤ rank u
+  path_length u w [] p c = omega (arith, ap rank p)
+  path_length u w (h ∷ hs) p c = omega (arith, c.0, ap rank p.1, path_length (head_of net h) w hs p.2 c.1)
+
+  -- behind the half-arc at a place there are no more than the rank of the node that it leaves
+  pub path_behind : (u w : ℕ) (hs : List ℕ) (e : ℕ) → IsPath net u hs w → Descends net rank hs → e < length hs
+      → length hs ≤ rank (tail_of net (get_or hs e 0)) + e
+  path_behind u w [] e p c l = absurd (omega arith)
+  path_behind u w (h ∷ hs) zero p c l = omega (arith, ap rank p.1, path_length u w (h ∷ hs) p c)
+  path_behind u w (h ∷ hs) (suc e) p c l = omega (arith, path_behind (head_of net h) w hs e p.2 c.1 (omega (arith, l)))
+
+  -- and ends below each of its tails
+  pub path_above : (u w : ℕ) (hs : List ℕ) → IsPath net u hs w → Descends net rank hs
+      → AllByRecursion (λ h. rank w < rank (tail_of net h)) hs
+  path_above u w [] p c = tt
+  path_above u w (h ∷ hs) p c = (
+    omega (arith, c.0, path_length (head_of net h) w hs p.2 c.1),
+    path_above (head_of net h) w hs p.2 c.1,
+  )
+
+  below_apart : (h u w : ℕ) (hs : List ℕ) → rank (head_of net h) < rank (tail_of net h) → rank u < rank (tail_of net h)
+      → IsPath net u hs w → Descends net rank hs → AllByRecursion (λ g. g / 2 ≢ h / 2) hs
+  below_apart h u w [] f l p c = tt
+  below_apart h u w (g ∷ hs) f l p c =
+      let at : rank (tail_of net g) ≡ rank u = ap rank p.1 in
+      let c0 = c.0 in
+      let on : rank (head_of net g) < rank (tail_of net h) = omega arith in
+      (λ e. apart c0 at (one_falls net rank g h c0 f e), below_apart h (head_of net g) w hs f on p.2 c.1)
+    where
+      apart : rank (head_of net g) < rank (tail_of net g) → rank (tail_of net g) ≡ rank u → g ≡ h → ⊥
+      apart a b e =
+          let same : rank (tail_of net g) ≡ rank (tail_of net h) = ap (λ z. rank (tail_of net z)) e in
+          omega arith
+
+  -- no two of its half-arcs are of one arc
+  pub descends_apart : (u w : ℕ) (hs : List ℕ) → IsPath net u hs w → Descends net rank hs → IsApart hs
+  descends_apart u w [] p c = tt
+  descends_apart u w (h ∷ hs) p c =
+      (below_apart h (head_of net h) w hs c.0 c.0 p.2 c.1, descends_apart (head_of net h) w hs p.2 c.1)
+
+  -- on a half-arc that falls no more remains after the pushes
+  room_less : (xs : List ℕ) (h d g : ℕ) → length xs ≡ length net.arcs → h < 2 * length net.arcs
+      → rank (head_of net h) < rank (tail_of net h) → rank (head_of net g) < rank (tail_of net g)
+      → residual net (pushed xs h d) g ≤ residual net xs g
+  room_less xs h d g e l f k = elim (cases_eq (g / 2) (h / 2)) [
+    | inl s ↦ rw (one_falls net rank g h k f s) (omega (arith, residual-pushed net xs h d (omega arith)))
+    | inr n ↦ omega (arith, residual-pushed_other net xs h g d n)
+  ]
+
+  pub rooms_less : (xs : List ℕ) (u w : ℕ) (hs : List ℕ) (d g : ℕ) → length xs ≡ length net.arcs → IsPath net u hs w
+      → Descends net rank hs → rank (head_of net g) < rank (tail_of net g)
+      → residual net (push_all xs hs d) g ≤ residual net xs g
+  rooms_less xs u w [] d g e p c k = omega arith
+  rooms_less xs u w (h ∷ hs) d g e p c k =
+      omega (
+        arith,
+        rooms_less (pushed xs h d) (head_of net h) w hs d g (length_pushed net xs h d e) p.2 c.1 k,
+        room_less xs h d g e p.0 c.0 k,
+      )
+
+  -- so on such a path, on each of its half-arcs less remains by what was pushed
+  pub rooms_at : (xs : List ℕ) (u w : ℕ) (hs : List ℕ) (d i : ℕ) → length xs ≡ length net.arcs → IsPath net u hs w
+      → Descends net rank hs → i < length hs
+      → residual net (push_all xs hs d) (slice_index hs i) ≡ residual net xs (slice_index hs i) - d
+  rooms_at xs u w hs d i e p c l = rooms_apart net xs hs d i e (halves_all net u w hs p) (descends_apart u w hs p c) l
 
 -- the first part of a path
 pub path_take : (net : Net) (u w : ℕ) (hs : List ℕ) (i : ℕ) → IsPath net u hs w → i < length hs

@@ -54,8 +54,7 @@ weigh_kept false true m k w v h l = omega (arith, l)
 weigh_kept false false m k w v h l = omega (arith, l)
 
 pub weight_below-lost : (n : ℕ) (p q : ℕ → Bool) (w : ℕ → ℕ) (h : ℕ) → ((g : ℕ) → p g ≡ true → q g ≡ true) → h < n
-    → p h ≡ false → q h ≡ true
-    → weight_below n p w + w h ≤ weight_below n q w
+    → p h ≡ false → q h ≡ true → weight_below n p w + w h ≤ weight_below n q w
 weight_below-lost zero p q w h f l o i = absurd (omega arith)
 weight_below-lost (suc n) p q w h f l o i = elim (cases_eq h n) [
   | inl e ↦
@@ -116,33 +115,6 @@ left_on net rank place now next test up =
     count_below-le (2 * length net.arcs) (is_left net rank place next test) (is_left net rank place now test)
     (stays net rank place now next test up)
 
--- and past a half-arc that falls, fewer
-pub left_past : (net : Net) (rank place now next : ℕ → ℕ) (h : ℕ) (test : ℕ → Bool) → ((v : ℕ) → now v ≤ next v)
-    → h < 2 * length net.arcs → now (tail_of net h) ≤ place h → place h < next (tail_of net h)
-    → rank (head_of net h) < rank (tail_of net h) → test h ≡ true
-    → left net rank place next test < left net rank place now test
-left_past net rank place now next h test up l a b f i =
-    count_below-lt (2 * length net.arcs) (is_left net rank place next test) (is_left net rank place now test) h
-    (stays net rank place now next test up) l
-    (left_gone (falls net rank h) (passed net place next h) (test h) (lt-ltb (place h) (next (tail_of net h)) b))
-    (left_made (falls net rank h) (passed net place now h) (test h)
-    (lt-ltb (rank (head_of net h)) (rank (tail_of net h)) f) (le-ltb (place h) (now (tail_of net h)) a) i)
-
--- a narrower test leaves fewer, where it refuses one that is left
-pub left_filled : (net : Net) (rank place current : ℕ → ℕ) (h : ℕ) (q r : ℕ → Bool)
-    → ((g : ℕ) → rank (head_of net g) < rank (tail_of net g) → q g ≡ true → r g ≡ true) → h < 2 * length net.arcs
-    → place h ≡ current (tail_of net h) → rank (head_of net h) < rank (tail_of net h) → q h ≡ false → r h ≡ true
-    → left net rank place current q < left net rank place current r
-left_filled net rank place current h q r n l p f o i =
-    count_below-lt (2 * length net.arcs) (is_left net rank place current q) (is_left net rank place current r) h
-    (λ g e. let p = left_parts (falls net rank g) (passed net place current g) (q g) e in
-    left_made (falls net rank g) (passed net place current g) (r g) p.0 p.1
-    (n g (ltb-true (rank (head_of net g)) (rank (tail_of net g)) p.0) p.2)) l
-    (left_lost (falls net rank h) (passed net place current h) (q h) o)
-    (left_made (falls net rank h) (passed net place current h) (r h)
-    (lt-ltb (rank (head_of net h)) (rank (tail_of net h)) f)
-    (le-ltb (place h) (current (tail_of net h)) (omega arith)) i)
-
 -- what it costs to fill what is left: no more where places only move on, and less by what fills a half-arc
 pub to_fill_on : (net : Net) (rank place now next : ℕ → ℕ) (xs : List ℕ) → ((v : ℕ) → now v ≤ next v)
     → to_fill net rank place next xs ≤ to_fill net rank place now xs
@@ -151,22 +123,36 @@ to_fill_on net rank place now next xs up =
     (is_left net rank place now (is_open net xs)) (fill_cost net rank)
     (stays net rank place now next (is_open net xs) up)
 
-pub to_fill_filled : (net : Net) (rank place current : ℕ → ℕ) (h : ℕ) (xs ys : List ℕ)
-    → ((g : ℕ) → rank (head_of net g) < rank (tail_of net g) → is_open net ys g ≡ true → is_open net xs g ≡ true)
-    → h < 2 * length net.arcs
-    → place h ≡ current (tail_of net h) → rank (head_of net h) < rank (tail_of net h) → is_open net ys h ≡ false
-    → is_open net xs h ≡ true
-    → to_fill net rank place current ys + fill_cost net rank h ≤ to_fill net rank place current xs
-to_fill_filled net rank place current h xs ys n l p f o i =
-    weight_below-lost (2 * length net.arcs) (is_left net rank place current (is_open net ys))
-    (is_left net rank place current (is_open net xs)) (fill_cost net rank) h
-    (λ g e. let p = left_parts (falls net rank g) (passed net place current g) (is_open net ys g) e in
-    left_made (falls net rank g) (passed net place current g) (is_open net xs g) p.0 p.1
-    (n g (ltb-true (rank (head_of net g)) (rank (tail_of net g)) p.0) p.2)) l
-    (left_lost (falls net rank h) (passed net place current h) (is_open net ys h) o)
-    (left_made (falls net rank h) (passed net place current h) (is_open net xs h)
-    (lt-ltb (rank (head_of net h)) (rank (tail_of net h)) f)
-    (le-ltb (place h) (current (tail_of net h)) (omega arith)) i)
+-- a half-arc at its node's current place is filled
+module _ (net : Net) (rank place current : ℕ → ℕ) (h : ℕ) (l : h < 2 * length net.arcs)
+    (p : place h ≡ current (tail_of net h)) (f : rank (head_of net h) < rank (tail_of net h)) where
+  -- a narrower test leaves fewer, where it refuses one that is left
+  pub left_filled : (q r : ℕ → Bool) → ((g : ℕ) → rank (head_of net g) < rank (tail_of net g) → q g ≡ true → r g ≡ true)
+      → q h ≡ false → r h ≡ true → left net rank place current q < left net rank place current r
+  left_filled q r n o i =
+      count_below-lt (2 * length net.arcs) (is_left net rank place current q) (is_left net rank place current r) h
+      (λ g e. let p = left_parts (falls net rank g) (passed net place current g) (q g) e in
+      left_made (falls net rank g) (passed net place current g) (r g) p.0 p.1
+      (n g (ltb-true (rank (head_of net g)) (rank (tail_of net g)) p.0) p.2)) l
+      (left_lost (falls net rank h) (passed net place current h) (q h) o)
+      (left_made (falls net rank h) (passed net place current h) (r h)
+      (lt-ltb (rank (head_of net h)) (rank (tail_of net h)) f)
+      (le-ltb (place h) (current (tail_of net h)) (omega arith)) i)
+
+  pub to_fill_filled : (xs ys : List ℕ)
+      → ((g : ℕ) → rank (head_of net g) < rank (tail_of net g) → is_open net ys g ≡ true → is_open net xs g ≡ true)
+      → is_open net ys h ≡ false → is_open net xs h ≡ true
+      → to_fill net rank place current ys + fill_cost net rank h ≤ to_fill net rank place current xs
+  to_fill_filled xs ys n o i =
+      weight_below-lost (2 * length net.arcs) (is_left net rank place current (is_open net ys))
+      (is_left net rank place current (is_open net xs)) (fill_cost net rank) h
+      (λ g e. let p = left_parts (falls net rank g) (passed net place current g) (is_open net ys g) e in
+      left_made (falls net rank g) (passed net place current g) (is_open net xs g) p.0 p.1
+      (n g (ltb-true (rank (head_of net g)) (rank (tail_of net g)) p.0) p.2)) l
+      (left_lost (falls net rank h) (passed net place current h) (is_open net ys h) o)
+      (left_made (falls net rank h) (passed net place current h) (is_open net xs h)
+      (lt-ltb (rank (head_of net h)) (rank (tail_of net h)) f)
+      (le-ltb (place h) (current (tail_of net h)) (omega arith)) i)
 
 pair_step : (a b : Bool) (c k : ℕ) → (a ≡ true → b ≡ true → ⊥) → c ≤ k → c + cond a 1 0 + cond b 1 0 ≤ suc k
 pair_step true true c k n l = absurd (n refl refl)
@@ -240,15 +226,23 @@ has_room net xs h r = ap not (ne_eqb (residual net xs h) 0 (omega arith))
 pub no_room : (net : Net) (xs : List ℕ) (h : ℕ) → residual net xs h ≡ 0 → is_open net xs h ≡ false
 no_room net xs h r = ap not (eq-eqb (residual net xs h) 0 r)
 
--- a look that fails passes one that falls, and a retreat one with a residual capacity
-pub pass_any : (net : Net) (rank place now next : ℕ → ℕ) (h : ℕ) → ((v : ℕ) → now v ≤ next v) → h < 2 * length net.arcs
-    → now (tail_of net h) ≤ place h → place h < next (tail_of net h) → rank (head_of net h) < rank (tail_of net h)
-    → left net rank place next any < left net rank place now any
-pass_any net rank place now next h up l a b f = left_past net rank place now next h any up l a b f refl
+-- a half-arc that falls is passed
+module _ (net : Net) (rank place now next : ℕ → ℕ) (h : ℕ) (up : (v : ℕ) → now v ≤ next v) (l : h < 2 * length net.arcs)
+    (a : now (tail_of net h) ≤ place h) (b : place h < next (tail_of net h))
+    (f : rank (head_of net h) < rank (tail_of net h)) where
+  -- and past a half-arc that falls, fewer
+  pub left_past : (test : ℕ → Bool) → test h ≡ true → left net rank place next test < left net rank place now test
+  left_past test i =
+      count_below-lt (2 * length net.arcs) (is_left net rank place next test) (is_left net rank place now test) h
+      (stays net rank place now next test up) l
+      (left_gone (falls net rank h) (passed net place next h) (test h) (lt-ltb (place h) (next (tail_of net h)) b))
+      (left_made (falls net rank h) (passed net place now h) (test h)
+      (lt-ltb (rank (head_of net h)) (rank (tail_of net h)) f) (le-ltb (place h) (now (tail_of net h)) a) i)
 
-pub pass_open : (net : Net) (rank place now next : ℕ → ℕ) (xs : List ℕ) (h : ℕ) → ((v : ℕ) → now v ≤ next v)
-    → h < 2 * length net.arcs → now (tail_of net h) ≤ place h → place h < next (tail_of net h)
-    → rank (head_of net h) < rank (tail_of net h) → 1 ≤ residual net xs h
-    → left net rank place next (is_open net xs) < left net rank place now (is_open net xs)
-pass_open net rank place now next xs h up l a b f r =
-    left_past net rank place now next h (is_open net xs) up l a b f (has_room net xs h r)
+  -- a look that fails passes one that falls, and a retreat one with a residual capacity
+  pub pass_any : left net rank place next any < left net rank place now any
+  pass_any = left_past any refl
+
+  pub pass_open : (xs : List ℕ) → 1 ≤ residual net xs h
+      → left net rank place next (is_open net xs) < left net rank place now (is_open net xs)
+  pass_open xs r = left_past (is_open net xs) (has_room net xs h r)

@@ -47,17 +47,18 @@ least_side Backwards net s t xs dist n f m =
     }
 
 -- a test of whether it comes to one of them is false just where the flow's value is the greatest
-pub greatest_unless : (dir : Direction) (net : Net) (s t xs dist : List ℕ) (b : Bool) → IsNet net → AreTerminals net s t
-    → IsFeasible net (one_of s) (one_of t) xs → (b ≡ true → HasRoute dir net xs (starts_of dir s t) (until_of dir s t))
+pub greatest_unless : (dir : Direction) {net : Net} {s t xs : List ℕ} (dist : List ℕ) (b : Bool) → IsNet net
+    → AreTerminals net s t → IsFeasible net (one_of s) (one_of t) xs
+    → (b ≡ true → HasRoute dir net xs (starts_of dir s t) (until_of dir s t))
     → (b ≡ false → Misses dir net xs (starts_of dir s t) (until_of dir s t) dist)
     → (b ≡ false) ↔ HasGreatestValue net (one_of s) (one_of t) xs
-greatest_unless Forwards net s t xs dist b n a f route missed =
+greatest_unless Forwards {net} {s} {t} {xs} dist b n a f route missed =
     answers (HasGreatestValue net (one_of s) (one_of t) xs) b
     (λ e.
     let m = missed e in let tight = forward_tight net s (one_of t) (seen dist) xs n f m.whole m.outside in
     (capacity net (seen dist), tight.value, tight.greatest))
     (λ e. route_raises net (one_of s) (one_of t) xs (terminals_apart net s t a) f (route e))
-greatest_unless Backwards net s t xs dist b n a f route missed =
+greatest_unless Backwards {net} {s} {t} {xs} dist b n a f route missed =
     answers (HasGreatestValue net (one_of s) (one_of t) xs) b
     (λ e.
     let m = missed e in let tight = backward_tight net (one_of s) t (seen dist) xs n f m.whole m.outside in
@@ -65,10 +66,10 @@ greatest_unless Backwards net s t xs dist b n a f route missed =
     (λ e. route_raises net (one_of s) (one_of t) xs (terminals_apart net s t a) f (route e))
 
 -- marks where the first cells have distances
-pub side_marked : (dir : Direction) (net : Net) (s t xs cells : List ℕ) (marks : List Bool) (n : ℕ) → n ≡ net.nodes
+pub side_marked : (dir : Direction) (net : Net) (s t xs cells : List ℕ) (marks : List Bool) {n : ℕ} → n ≡ net.nodes
     → ((v : ℕ) → marked marks v ≡ seen (take n cells) v) → IsLeastSide dir net s t xs (seen (take net.nodes cells))
     → IsLeastSide dir net s t xs (marked marks)
-side_marked dir net s t xs cells marks n e same sees =
+side_marked dir net s t xs cells marks e same sees =
     let all : marked marks ≡ seen (take net.nodes cells) =
     subst (λ (k : ℕ). marked marks ≡ seen (take k cells)) e (fun_ext same) in
     subst (IsLeastSide dir net s t xs) (sym all) sees

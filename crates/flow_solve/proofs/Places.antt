@@ -81,46 +81,45 @@ pub record IsMine (net : Net) (halves : List ℕ) (v p h : ℕ) : Type 0 where
   pub tail : tail_of net h ≡ v
   pub place : place_of halves h ≡ p
 
-pub mine : (net : Net) (first halves : List ℕ) (v p : ℕ) → IsNet net → IsPacked net first halves → IsNode net v
-    → get_or first (v - 1) 0 ≤ p → p < get_or first v 0 → IsMine net halves v p (get_or halves p 0)
-mine net first halves v p n k i a b =
-    let up : v - 1 + 1 ≡ v = omega (arith, i) in
-    let b' : p < get_or first (v - 1 + 1) 0 = subst (λ w. p < get_or first w 0) (sym up) b in
-    let h = k.holds (v - 1) p (omega (arith, i)) a b' in
-    record {
-      half = h.0;
-      tail = group_tail net (get_or halves p 0) (v - 1) n h.0 h.1 (omega (arith, i)) ∙ up;
-      place = place_at net first halves (v - 1) p k (omega (arith, i)) a b';
-    }
-
 -- where a half-arc to another node stands
 pub record IsStanding (net : Net) (first halves : List ℕ) (h : ℕ) : Type 0 where
   pub least : get_or first (tail_of net h - 1) 0 ≤ place_of halves h
   pub most : place_of halves h < get_or first (tail_of net h) 0
   pub there : get_or halves (place_of halves h) 0 ≡ h
 
-pub standing : (net : Net) (first halves : List ℕ) (h : ℕ) → IsNet net → IsPacked net first halves
-    → h < 2 * length net.arcs → tail_of net h ≢ head_of net h → IsStanding net first halves h
-standing net first halves h n k l o =
-    let t = tail_is_node net h n l in
-    let up : tail_of net h - 1 + 1 ≡ tail_of net h = omega (arith, t.0) in
-    let s = k.stands (tail_of net h - 1) h (omega (arith, t)) l (tail_group net h o) in
-    let at : place_of halves h ≡ s.0 =
-    ap (place_of halves) (sym s.3)
-    ∙ place_at net first halves (tail_of net h - 1) s.0 k (omega (arith, t)) s.1 s.2 in
-    let below : s.0 < get_or first (tail_of net h) 0 = subst (λ w. s.0 < get_or first w 0) up s.2 in
-    record {
-      least = omega (arith, at, s.1);
-      most = omega (arith, at, below);
-      there = ap (λ i. get_or halves i 0) at ∙ s.3;
-    }
+-- packed half-arcs
+module _ {net : Net} {first halves : List ℕ} (n : IsNet net) (k : IsPacked net first halves) where
+  pub mine : (v p : ℕ) → IsNode net v → get_or first (v - 1) 0 ≤ p → p < get_or first v 0
+      → IsMine net halves v p (get_or halves p 0)
+  mine v p i a b =
+      let up : v - 1 + 1 ≡ v = omega (arith, i) in
+      let b' : p < get_or first (v - 1 + 1) 0 = subst (λ w. p < get_or first w 0) (sym up) b in
+      let h = k.holds (v - 1) p (omega (arith, i)) a b' in
+      record {
+        half = h.0;
+        tail = group_tail net (get_or halves p 0) (v - 1) n h.0 h.1 (omega (arith, i)) ∙ up;
+        place = place_at net first halves (v - 1) p k (omega (arith, i)) a b';
+      }
 
--- so no other half-arc that falls has its place
-pub one_place : (net : Net) (first halves : List ℕ) (g h : ℕ) → IsNet net → IsPacked net first halves
-    → g < 2 * length net.arcs → tail_of net g ≢ head_of net g → get_or halves (place_of halves h) 0 ≡ h
-    → place_of halves g ≡ place_of halves h → h ≡ g
-one_place net first halves g h n k l o at e =
-    sym at ∙ ap (λ i. get_or halves i 0) (sym e) ∙ (standing net first halves g n k l o).there
+  pub standing : (h : ℕ) → h < 2 * length net.arcs → tail_of net h ≢ head_of net h → IsStanding net first halves h
+  standing h l o =
+      let t = tail_is_node net h n l in
+      let up : tail_of net h - 1 + 1 ≡ tail_of net h = omega (arith, t.0) in
+      let s = k.stands (tail_of net h - 1) h (omega (arith, t)) l (tail_group net h o) in
+      let at : place_of halves h ≡ s.0 =
+      ap (place_of halves) (sym s.3)
+      ∙ place_at net first halves (tail_of net h - 1) s.0 k (omega (arith, t)) s.1 s.2 in
+      let below : s.0 < get_or first (tail_of net h) 0 = subst (λ w. s.0 < get_or first w 0) up s.2 in
+      record {
+        least = omega (arith, at, s.1);
+        most = omega (arith, at, below);
+        there = ap (λ i. get_or halves i 0) at ∙ s.3;
+      }
+
+  -- so no other half-arc that falls has its place
+  pub one_place : (g h : ℕ) → g < 2 * length net.arcs → tail_of net g ≢ head_of net g
+      → get_or halves (place_of halves h) 0 ≡ h → place_of halves g ≡ place_of halves h → h ≡ g
+  one_place g h l o at e = sym at ∙ ap (λ i. get_or halves i 0) (sym e) ∙ (standing g l o).there
 
 pub falls_apart : (net : Net) (rank : ℕ → ℕ) (h : ℕ) → rank (head_of net h) < rank (tail_of net h)
     → tail_of net h ≢ head_of net h

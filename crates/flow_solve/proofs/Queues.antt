@@ -212,10 +212,10 @@ unseen_other dist at v u m e =
     omega arith
 
 -- a place is marked and goes to the end of the queue
-pub queue_more : (dist queue : List ℕ) (tail at x : ℕ) → at < length dist → length queue ≡ length dist → x ≤ tail
+pub queue_more : {dist queue : List ℕ} {tail : ℕ} (at x : ℕ) → at < length dist → length queue ≡ length dist → x ≤ tail
     → x < WANTED → WANTED ≤ get_or dist at 0 → IsNear dist x → IsQueue dist queue tail
     → IsQueue (set dist at x) (set queue tail at) (tail + 1)
-queue_more dist queue tail at x l size low o u near q =
+queue_more {dist} {queue} {tail} at x l size low o u near q =
     let dist' = set dist at x in let queue' = set queue tail at in
     let room = queue_room dist queue tail at l u q in
     let here : get_or dist' at 0 ≡ x = get_or-set_same dist at x 0 l in

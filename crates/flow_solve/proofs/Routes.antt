@@ -55,50 +55,51 @@ pub record IsWay (net : Net) (xs : List ℕ) (from : ℕ → Bool) (level : ℕ 
   pub climbs : Climbs net level path
   pub room : HasRoom net xs 1 path
 
-pub way_to : {net : Net} {xs s dist via : List ℕ} → IsSearched net xs Forwards s dist via → (d v w : ℕ) (hs : List ℕ)
-    → IsNode net v → IsMarked dist (v - 1) → get_or dist (v - 1) 0 ≡ d → IsPath net v hs w
-    → Climbs net (λ u. get_or dist (u - 1) 0) hs → HasRoom net xs 1 hs
-    → IsWay net xs (one_of s) (λ u. get_or dist (u - 1) 0) w
-way_to {s} f zero v w hs i m e p c r = elim (f.come (v - 1) (omega (arith, i)) m) [
-  | inl start ↦
-      let node : v - 1 + 1 ≡ v = omega (arith, i) in
-      record {
-        first = v;
-        path = hs;
-        begins = subst (λ u. IsTrue (one_of s u)) node start.1;
-        leads = p;
-        climbs = c;
-        room = r;
-      }
-  | inr came ↦ absurd (omega (arith, came.level))
-]
-way_to {net} {dist} {via} f (suc d) v w hs i m e p c r = elim (f.come (v - 1) (omega (arith, i)) m) [
-  | inl start ↦ absurd (omega (arith, start.0))
-  | inr came ↦
-      let h = get_or via (v - 1) 0 in
-      let head : head_of net h ≡ v = let far = came.far in omega arith in
-      let there : get_or dist (head_of net h - 1) 0 ≡ get_or dist (v - 1) 0 = ap (λ u. get_or dist (u - 1) 0) head in
-      way_to f d (tail_of net h) w (h ∷ hs) (came.near, came.within) came.marked (omega (arith, came.level))
-      (came.in_range, refl, subst (λ u. IsPath net u hs w) (sym head) p) (omega (arith, came.level), c)
-      (came.remains, r)
-]
+-- a search forwards
+module _ {net : Net} {xs s dist via : List ℕ} (f : IsSearched net xs Forwards s dist via) where
+  pub way_to : (d v w : ℕ) (hs : List ℕ) → IsNode net v → IsMarked dist (v - 1) → get_or dist (v - 1) 0 ≡ d
+      → IsPath net v hs w → Climbs net (λ u. get_or dist (u - 1) 0) hs → HasRoom net xs 1 hs
+      → IsWay net xs (one_of s) (λ u. get_or dist (u - 1) 0) w
+  way_to zero v w hs i m e p c r = elim (f.come (v - 1) (omega (arith, i)) m) [
+    | inl start ↦
+        let node : v - 1 + 1 ≡ v = omega (arith, i) in
+        record {
+          first = v;
+          path = hs;
+          begins = subst (λ u. IsTrue (one_of s u)) node start.1;
+          leads = p;
+          climbs = c;
+          room = r;
+        }
+    | inr came ↦ absurd (omega (arith, came.level))
+  ]
+  way_to (suc d) v w hs i m e p c r = elim (f.come (v - 1) (omega (arith, i)) m) [
+    | inl start ↦ absurd (omega (arith, start.0))
+    | inr came ↦
+        let h = get_or via (v - 1) 0 in
+        let head : head_of net h ≡ v = let far = came.far in omega arith in
+        let there : get_or dist (head_of net h - 1) 0 ≡ get_or dist (v - 1) 0 = ap (λ u. get_or dist (u - 1) 0) head in
+        way_to d (tail_of net h) w (h ∷ hs) (came.near, came.within) came.marked (omega (arith, came.level))
+        (came.in_range, refl, subst (λ u. IsPath net u hs w) (sym head) p) (omega (arith, came.level), c)
+        (came.remains, r)
+  ]
 
-pub forward_route : {net : Net} {xs s dist via : List ℕ} (t : ℕ → Bool) (p : ℕ) → IsSearched net xs Forwards s dist via
-    → p < net.nodes → IsMarked dist p → IsTrue (t (p + 1)) → IsRoute net xs (one_of s) t
-forward_route {net} {xs} {s} {dist} {via} t p f l m i =
-    let back : p + 1 - 1 ≡ p = omega arith in
-    let w = way_to f (get_or dist (p + 1 - 1) 0) (p + 1) (p + 1) [] (omega arith, omega arith)
-    (subst (IsMarked dist) (sym back) m) refl refl tt tt in
-    record {
-      first = w.first;
-      last = p + 1;
-      path = w.path;
-      begins = w.begins;
-      ends = i;
-      leads = w.leads;
-      apart = climbs_apart net (λ u. get_or dist (u - 1) 0) w.first (p + 1) w.path w.leads w.climbs;
-      room = w.room;
-    }
+  pub forward_route : (t : ℕ → Bool) (p : ℕ) → p < net.nodes → IsMarked dist p → IsTrue (t (p + 1))
+      → IsRoute net xs (one_of s) t
+  forward_route t p l m i =
+      let back : p + 1 - 1 ≡ p = omega arith in
+      let w = way_to (get_or dist (p + 1 - 1) 0) (p + 1) (p + 1) [] (omega arith, omega arith)
+      (subst (IsMarked dist) (sym back) m) refl refl tt tt in
+      record {
+        first = w.first;
+        last = p + 1;
+        path = w.path;
+        begins = w.begins;
+        ends = i;
+        leads = w.leads;
+        apart = climbs_apart net (λ u. get_or dist (u - 1) 0) w.first (p + 1) w.path w.leads w.climbs;
+        room = w.room;
+      }
 
 -- backwards: the trail of a node. Levels rise toward the sinks.
 abbrev pub nearness : Net → List ℕ → ℕ → ℕ
@@ -220,5 +221,5 @@ backward_route {net} {dist} {via} s p size f l m i =
 pub has_route : (dir : Direction) {net : Net} {xs starts : List ℕ} (until : List ℕ) {dist via : List ℕ} (p : ℕ)
     → length via ≡ net.nodes → IsSearched net xs dir starts dist via → p < net.nodes → IsMarked dist p
     → IsTrue (one_of until (p + 1)) → HasRoute dir net xs starts until
-has_route Forwards until p size f l m i = forward_route (one_of until) p f l m i
+has_route Forwards until p size f l m i = forward_route f (one_of until) p l m i
 has_route Backwards until p size f l m i = backward_route (one_of until) p size f l m i

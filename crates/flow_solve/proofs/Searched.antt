@@ -78,43 +78,44 @@ one_end dir net h e =
     ap (near_end dir net) (sym (crossed_crossed dir h)) ∙ near_crossed dir net (crossed dir h) ∙ e
     ∙ sym (far_crossed dir net (crossed dir h)) ∙ ap (far_end dir net) (crossed_crossed dir h)
 
--- no half-arc with a residual capacity leads on
-pub seen_closed : (net : Net) (flows : List ℕ) (dir : Direction) (starts dist via : List ℕ) → IsNet net
-    → IsSearched net flows dir starts dist via
-    → ((p : ℕ) → p < net.nodes → IsMarked dist p → IsDone net flows dir dist p) → IsClosedFor dir net flows (seen dist)
-seen_closed net flows dir starts dist via is_net s done h l near r =
-    let g = crossed dir h in let inside = crossed_within dir h (length net.arcs) l in
-    let tail : near_end dir net h ≡ tail_of net g =
-    ap (near_end dir net) (sym (crossed_crossed dir h)) ∙ near_crossed dir net g in
-    let head : far_end dir net h ≡ head_of net g =
-    ap (far_end dir net) (sym (crossed_crossed dir h)) ∙ far_crossed dir net g in
-    elim (cases_eq (tail_of net g) (head_of net g)) [
-      | inl loop ↦ subst (λ v. seen dist v ≡ true) (one_end dir net h loop) near
-      | inr ends ↦
-          let at = marked_seen dist (tail_of net g) (subst (λ v. seen dist v ≡ true) tail near) in
-          let node = head_is_node net g is_net inside in
-          let next = done (tail_of net g - 1) (omega (arith, at.0, at.1, s.size)) at.2 g inside (tail_group net g ends)
-          (subst (λ k. 1 ≤ residual net flows k) (sym (crossed_crossed dir h)) r) in
-          subst (λ v. seen dist v ≡ true) (sym head)
-          (seen_marked dist (head_of net g) node.0 (omega (arith, node.1, s.size)) next.0)
-    ]
+-- a search
+module _ {net : Net} {flows : List ℕ} {dir : Direction} {starts dist via : List ℕ}
+    (s : IsSearched net flows dir starts dist via) where
+  -- no half-arc with a residual capacity leads on
+  pub seen_closed : IsNet net → ((p : ℕ) → p < net.nodes → IsMarked dist p → IsDone net flows dir dist p)
+      → IsClosedFor dir net flows (seen dist)
+  seen_closed is_net done h l near r =
+      let g = crossed dir h in let inside = crossed_within dir h (length net.arcs) l in
+      let tail : near_end dir net h ≡ tail_of net g =
+      ap (near_end dir net) (sym (crossed_crossed dir h)) ∙ near_crossed dir net g in
+      let head : far_end dir net h ≡ head_of net g =
+      ap (far_end dir net) (sym (crossed_crossed dir h)) ∙ far_crossed dir net g in
+      elim (cases_eq (tail_of net g) (head_of net g)) [
+        | inl loop ↦ subst (λ v. seen dist v ≡ true) (one_end dir net h loop) near
+        | inr ends ↦
+            let at = marked_seen dist (tail_of net g) (subst (λ v. seen dist v ≡ true) tail near) in
+            let node = head_is_node net g is_net inside in
+            let next = done (tail_of net g - 1) (omega (arith, at.0, at.1, s.size)) at.2 g inside
+            (tail_group net g ends)
+            (subst (λ k. 1 ≤ residual net flows k) (sym (crossed_crossed dir h)) r) in
+            subst (λ v. seen dist v ≡ true) (sym head)
+            (seen_marked dist (head_of net g) node.0 (omega (arith, node.1, s.size)) next.0)
+      ]
 
-pub seen_least : (net : Net) (flows : List ℕ) (dir : Direction) (starts dist via : List ℕ)
-    → IsSearched net flows dir starts dist via → (X : ℕ → Bool) → ContainsAll starts X → IsClosedFor dir net flows X
-    → (v : ℕ) → IsTrue (seen dist v) → IsTrue (X v)
-seen_least net flows dir starts dist via s X all closed v e =
-    let at = marked_seen dist v e in let node : v - 1 + 1 ≡ v = omega (arith, at.0) in
-    subst (λ w. IsTrue (X w)) node (s.least X all closed (v - 1) (omega (arith, at.0, at.1, s.size)) at.2)
+  pub seen_least : (X : ℕ → Bool) → ContainsAll starts X → IsClosedFor dir net flows X → (v : ℕ) → IsTrue (seen dist v)
+      → IsTrue (X v)
+  seen_least X all closed v e =
+      let at = marked_seen dist v e in let node : v - 1 + 1 ≡ v = omega (arith, at.0) in
+      subst (λ w. IsTrue (X w)) node (s.least X all closed (v - 1) (omega (arith, at.0, at.1, s.size)) at.2)
 
-pub whole_seen : (net : Net) (flows : List ℕ) (dir : Direction) (starts dist via : List ℕ) → IsNet net
-    → All (IsNode net) starts → IsSearched net flows dir starts dist via
-    → ((p : ℕ) → p < net.nodes → IsMarked dist p → IsDone net flows dir dist p)
-    → IsWhole dir net flows starts (seen dist)
-whole_seen net flows dir starts dist via is_net nodes s done = record {
-  contains = starts_seen net flows dir starts dist via nodes s;
-  closed = seen_closed net flows dir starts dist via is_net s done;
-  least = seen_least net flows dir starts dist via s;
-}
+  pub whole_seen : IsNet net → All (IsNode net) starts
+      → ((p : ℕ) → p < net.nodes → IsMarked dist p → IsDone net flows dir dist p)
+      → IsWhole dir net flows starts (seen dist)
+  whole_seen is_net nodes done = record {
+    contains = starts_seen net flows dir starts dist via nodes s;
+    closed = seen_closed is_net done;
+    least = seen_least;
+  }
 
 -- by what is counted none of the nodes that the search looks out for is seen, or one of them is
 wanted_yes : (until : List ℕ) (p : ℕ) → one_of until (p + 1) ≡ true → wanted_at until p ≡ 1

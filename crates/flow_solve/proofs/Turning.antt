@@ -77,9 +77,9 @@ ready_on net rank place now next x (h ∷ hs) o a r =
     differ : rank x < rank (tail_of net h) → tail_of net h ≡ x → ⊥
     differ l e = let same : rank (tail_of net h) ≡ rank x = ap rank e in omega arith
 
-walk_on : (net : Net) (rank place now next : ℕ → ℕ) (xs : List ℕ) (u x : ℕ) (hs : List ℕ)
+walk_on : {net : Net} {rank place now next : ℕ → ℕ} {xs : List ℕ} {u x : ℕ} {hs : List ℕ}
     → ((v : ℕ) → v ≢ x → next v ≡ now v) → IsWalk net rank place now xs u x hs → IsWalk net rank place next xs u x hs
-walk_on net rank place now next xs u x hs o w = record {
+walk_on {net} {rank} {place} {now} {next} {u} {x} {hs} o w = record {
   path = w.path;
   descends = w.descends;
   ready = ready_on net rank place now next x hs o (path_above net rank u x hs w.path w.descends) w.ready;
@@ -145,7 +145,7 @@ pub dead_here : (net : Net) (t first halves current : List ℕ) (x : ℕ) → Is
 dead_here net t first halves current x n k inner end = record {
   inner = inner;
   over = λ h l e o.
-      let st = standing net first halves h n k l (λ same. o (sym same ∙ e)) in
+      let st = standing n k h l (λ same. o (sym same ∙ e)) in
       omega (arith, st.most, ap (slice_index first) e, end);
 }
 
@@ -174,11 +174,10 @@ module _ {net : Net} {rank place current : ℕ → ℕ} {xs : List ℕ} {u x : �
       → left net rank place current (is_open net (push_all xs hs b)) < left net rank place current (is_open net xs)
   augment_fills e l q =
       let g = slice_index hs e in
-      left_filled net rank place current g (is_open net (push_all xs hs b)) (is_open net xs)
-      (λ h f i. still_open h f i)
-      (halves_at net u x hs e w.path l)
+      left_filled net rank place current g (halves_at net u x hs e w.path l)
       (all_at (λ h. place h ≡ current (tail_of net h)) hs e w.ready l)
-      (all_at (λ h. rank (head_of net h) < rank (tail_of net h)) hs e w.descends l)
+      (all_at (λ h. rank (head_of net h) < rank (tail_of net h)) hs e w.descends l) (is_open net (push_all xs hs b))
+      (is_open net xs) (λ h f i. still_open h f i)
       (no_room net (push_all xs hs b) g (omega (arith, rooms_at net rank xs u x hs b e size w.path w.descends l)))
       (has_room net xs g (all_at (λ h. 1 ≤ residual net xs h) hs e w.room l))
 
@@ -188,12 +187,11 @@ module _ {net : Net} {rank place current : ℕ → ℕ} {xs : List ℕ} {u x : �
       ≤ to_fill net rank place current xs
   augment_pays e l q =
       let g = slice_index hs e in
-      to_fill_filled net rank place current g xs (push_all xs hs b)
-      (λ h f i. still_open h f i)
-      (halves_at net u x hs e w.path l)
+      to_fill_filled net rank place current g (halves_at net u x hs e w.path l)
       (all_at (λ h. place h ≡ current (tail_of net h)) hs e w.ready l)
-      (all_at (λ h. rank (head_of net h) < rank (tail_of net h)) hs e w.descends l)
-      (no_room net (push_all xs hs b) g (omega (arith, rooms_at net rank xs u x hs b e size w.path w.descends l)))
+      (all_at (λ h. rank (head_of net h) < rank (tail_of net h)) hs e w.descends l) xs (push_all xs hs b)
+      (λ h f i. still_open h f i) (no_room net (push_all xs hs b) g
+      (omega (arith, rooms_at net rank xs u x hs b e size w.path w.descends l)))
       (has_room net xs g (all_at (λ h. 1 ≤ residual net xs h) hs e w.room l))
 
   augment_blocked : (t : ℕ → Bool) → IsBlocked net t rank place current xs
@@ -265,8 +263,7 @@ module _ {net : Net} {s t first halves rank current path xs : List ℕ} {u x d k
   turning_advance {current'} steps' h n low l a cost =
       let up = moved_up (cell_of current) (cell_of current') x l.moved in
       let more = take_more_set path d h (omega (arith, w.short, w.path_size)) in
-      let w0 = walk_on net (cell_of rank) (place_of halves) (cell_of current) (cell_of current') xs u x (take d path)
-      l.moved.there w.walk in
+      let w0 = walk_on l.moved.there w.walk in
       let w1 : IsWalk net (cell_of rank) (place_of halves) (cell_of current') xs u (head_of net h)
       (take d path ++ (h ∷ [])) =
       record {
@@ -295,8 +292,8 @@ module _ {net : Net} {s t first halves rank current path xs : List ℕ} {u x d k
             (arith, path_length net (cell_of rank) u (head_of net h) (take (d + 1) (set path d h)) w2.path w2.descends);
         walk = w2;
         paid =
-            paid_advance total steps steps' d _ _ _ _
-            (to_fill_on net (cell_of rank) (place_of halves) (cell_of current) (cell_of current') xs up) cost w.paid;
+            paid_advance (to_fill_on net (cell_of rank) (place_of halves) (cell_of current) (cell_of current') xs up)
+            cost w.paid;
       }
 
   pub half_on : (i : ℕ) → i < d → slice_index path i < 2 * length net.arcs
@@ -313,8 +310,7 @@ module _ {net : Net} {s t first halves rank current path xs : List ℕ} {u x d k
   turning_retreat {current'} steps' i e n pk inner l end cost =
       let h = slice_index path i in
       let m : d ≤ length path = omega (arith, w.short, w.path_size) in
-      let w1 = walk_on net (cell_of rank) (place_of halves) (cell_of current) (cell_of current') xs u x (take d path)
-      l.moved.there w.walk in
+      let w1 = walk_on l.moved.there w.walk in
       let q = on_path path d i (omega arith) m w1 in
       let node = tail_is_node net h n q.half in
       let y = tail_of net (slice_index path i) in
@@ -329,7 +325,7 @@ module _ {net : Net} {s t first halves rank current path xs : List ℕ} {u x d k
       let dead : IsDead net (one_of t) (place_of halves) (cell_of current') x =
       dead_here net t first halves current' x n pk inner end in
       let w2 = back_to path d i (omega arith) m w1 in
-      let stands = standing net first halves h n pk q.half (apart q.falls) in
+      let stands = standing n pk h q.half (apart q.falls) in
       let p = looked_phase l w.phase in
       let p0 : IsPaid total steps (i + 1) (to_fill net (cell_of rank) (place_of halves) (cell_of current) xs)
       (left net (cell_of rank) (place_of halves) (cell_of current) any) =
@@ -353,17 +349,15 @@ module _ {net : Net} {s t first halves rank current path xs : List ℕ} {u x d k
           blocked =
               blocked_pass net (one_of t) (place_of halves) (cell_of current')
               (cell_of (set current' (y - 1) (cell_of current' y + 1))) (cell_of rank) xs y h
-              (λ g b a s'. one_place net first halves g h n pk b a stands.there s') o q.here
+              (λ g b a s'. one_place n pk g h b a stands.there s') o q.here
               (λ f. inr (subst (λ z. IsDead net (one_of t) (place_of halves) (cell_of current') z) (sym into) dead))
               p.blocked;
         };
         path_size = w.path_size;
         node = node;
         short = omega (arith, w.short);
-        walk =
-            walk_on net (cell_of rank) (place_of halves) (cell_of current')
-            (cell_of (set current' (y - 1) (cell_of current' y + 1))) xs u y (take i path) o.there w2;
-        paid = paid_retreat total steps steps' i _ _ _ _ _ (omega (arith, before, past)) cost less p0;
+        walk = walk_on o.there w2;
+        paid = paid_retreat _ (omega (arith, before, past)) cost less p0;
       }
     where
       apart : cell_of rank (head_of net (slice_index path i)) < cell_of rank (tail_of net (slice_index path i))
@@ -446,7 +440,7 @@ module _ {net : Net} {s t first halves rank current path xs : List ℕ} {u x d k
             (subst (λ h. IsWalk net (cell_of rank) (place_of halves) (cell_of current) (push_all xs (take d path) b) u
             (tail_of net h) (take e (take d path))) lead back);
         paid =
-            paid_augment total steps (2 * d) d e (fill_cost net (cell_of rank) g') _ _ _
+            paid_augment (2 * d) (fill_cost net (cell_of rank) g')
             (fill_enough net.nodes d e _ (omega (arith, w.short)) (omega (arith, behind, long))) pays w.paid;
       }
 
@@ -471,8 +465,7 @@ module _ {net : Net} {s t first halves rank current path xs : List ℕ} {u x d k
       (cell_of current' (tail_of net (slice_index path i)) + 1)) xs i < to_go net halves rank current xs d
   to_go_pass {current'} i e n l =
       let h = slice_index path i in
-      let w1 = walk_on net (cell_of rank) (place_of halves) (cell_of current) (cell_of current') xs u x (take d path)
-      l.moved.there w.walk in
+      let w1 = walk_on l.moved.there w.walk in
       let q = on_path path d i (omega arith) (omega (arith, w.short, w.path_size)) w1 in
       let node = tail_is_node net h n q.half in
       let y = tail_of net (slice_index path i) in
@@ -518,10 +511,10 @@ module _ {net : Net} {s t first halves rank current path xs : List ℕ} {u x d k
 fresh_cell : (first : List ℕ) (n v : ℕ) → 1 ≤ v → v ≤ n → cell_of (take n first) v ≡ get_or first (v - 1) 0
 fresh_cell first n v a b = sym (cell_at (take n first) v a) ∙ get_or-take n first (v - 1) 0 (omega arith)
 
-pub fresh_phase : (net : Net) (s t first halves rank current xs : List ℕ) (k : ℕ) → IsNet net
+pub fresh_phase : {net : Net} {s t first halves rank current xs : List ℕ} {k : ℕ} → IsNet net
     → IsPacked net first halves → current ≡ take net.nodes first → IsFeasible net (one_of s) (one_of t) xs
     → HasValue net (one_of s) xs k → HasNoLoops net xs → IsInPhase net s t first halves rank current xs k
-fresh_phase net s t first halves rank current xs k n pk e f v z = rw e (record {
+fresh_phase {net} {first} {halves} {rank} n pk e f v z = rw e (record {
   feasible = f;
   value = v;
   no_loops = z;
@@ -531,7 +524,7 @@ fresh_phase net s t first halves rank current xs k n pk e f v z = rw e (record {
       let up : w - 1 + 1 ≡ w = omega (arith, i) in
       (omega (arith, at), omega (arith, at, pk.rises (w - 1) (omega (arith, i)), ap (λ j. get_or first j 0) up));
   blocked = λ h l p f'.
-      let st = standing net first halves h n pk l (falls_apart net (cell_of rank) h f') in
+      let st = standing n pk h l (falls_apart net (cell_of rank) h f') in
       let node = tail_is_node net h n l in
       absurd (omega (arith, p, st.least, fresh_cell first net.nodes (tail_of net h) node.0 node.1));
 })

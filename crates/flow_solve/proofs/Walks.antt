@@ -142,7 +142,7 @@ module _ {net : Net} {first halves rank current xs : List ℕ} {x p before steps
     (l : IsLooking net first halves rank current xs x p before steps) (m : p < get_or first x 0) where
   -- the half-arc at p
   pub mine_at : IsMine net halves x p (get_or halves p 0)
-  mine_at = mine net first halves x p n k i (omega (arith, (now.places x i).0, l.least)) m
+  mine_at = mine n k x p i (omega (arith, (now.places x i).0, l.least)) m
 
   looking_blocked : IsMine net halves x p (get_or halves p 0)
       → (cell_of rank (head_of net (get_or halves p 0)) < cell_of rank (tail_of net (get_or halves p 0))
@@ -151,7 +151,7 @@ module _ {net : Net} {first halves rank current xs : List ℕ} {x p before steps
       → IsBlocked net t (cell_of rank) (place_of halves) (cell_of (set current (x - 1) (p + 1))) xs
   looking_blocked g why t b =
       blocked_pass net t (place_of halves) (cell_of (set current (x - 1) p)) (cell_of (set current (x - 1) (p + 1)))
-      (cell_of rank) xs x (get_or halves p 0) (λ h l o e. one_place net first halves h (get_or halves p 0) n k l o
+      (cell_of rank) xs x (get_or halves p 0) (λ h l o e. one_place n k h (get_or halves p 0) l o
       (ap (λ z. get_or halves z 0) g.place) e) (set_on current x p i.0 (omega (arith, i.1, now.size))) (g.place
       ∙ sym (cell_set current x p i.0 (omega (arith, i.1, now.size)))) (λ f. inl (why f)) b
 

@@ -8,9 +8,7 @@ use Rattle.flow_solve.proofs.phases.run_phase.Goals as goal
 
 pub walk_all-requires-clause-phase : goal.walk_all-requires-clause-phase
 walk_all-requires-clause-phase c =
-    fresh_phase c.args.phase.packed.net.now c.args.phase.s.now c.args.phase.t.now c.args.phase.packed.first.now
-    c.args.phase.packed.halves.now c.args.phase.rank.now c.copy_from_slice.new.self c.args.flow.now.flows c.args.value
-    c.nodes-n.ensures.is_net c.requires.run.packed
+    fresh_phase c.nodes-n.ensures.is_net c.requires.run.packed
     (c.copy_from_slice.ensures.after ∙ ap (λ (j : ℕ). take j c.args.phase.packed.first.now) c.nodes-n.ensures.nodes)
     c.requires.flow.feasible c.requires.flow.value c.requires.flow.no_loops
 

@@ -8,4 +8,4 @@ pub returns-clause-side : goal.returns-clause-side
 returns-clause-side g c =
     let after = c.solve_and_search-value.new in
     side_marked Forwards c.args.net.now c.args.s.now c.args.t.now after.flow.flows after.work c.mark.new.side
-    c.nodes.result (omega arith) c.mark.ensures c.solve_and_search-value.ensures.side
+    (omega arith) c.mark.ensures c.solve_and_search-value.ensures.side

@@ -15,8 +15,8 @@ returns-clause-answer c =
     let found = c.search-progress.ensures in
     let dist = c.search-progress.new.dist in
     let wanted = c.search-progress.result.wanted in
-    greatest_unless c.args.direction net c.args.task.s.now c.args.task.t.now xs dist (nat_lt 0 wanted)
-    c.nodes-n.ensures.is_net c.requires.task.terminals c.requires.feasible (λ e.
+    greatest_unless c.args.direction dist (nat_lt 0 wanted) c.nodes-n.ensures.is_net c.requires.task.terminals
+    c.requires.feasible (λ e.
     let p = some_seen c.in_order.result.1.now dist wanted found.count (ltb-true 0 wanted e) in
     let route = has_route c.args.direction c.in_order.result.1.now p.0 (omega arith) found.searched
     (omega (arith, p.1, found.searched.size)) p.2 p.3 in

@@ -7,4 +7,4 @@ use Rattle.flow_solve.proofs.reaching.reach.Goals as goal
 pub returns-then-not-rises-clause-side : goal.returns-then-not-rises-clause-side
 returns-then-not-rises-clause-side c = λ e.
     side_marked Forwards c.args.net.now c.args.s.now c.args.t.now c.args.flow.now.flows c.leads_on_packed-rises.new.work
-    c.mark.new.side c.nodes.result (omega arith) c.mark.ensures (c.leads_on_packed-rises.ensures.side e)
+    c.mark.new.side (omega arith) c.mark.ensures (c.leads_on_packed-rises.ensures.side e)

@@ -8,4 +8,4 @@ pub returns-then-not-rises-clause-side : goal.returns-then-not-rises-clause-side
 returns-then-not-rises-clause-side c = λ e.
     let after = c.leads_on_packed-rises.new in
     side_marked Backwards c.args.net.now c.args.s.now c.args.t.now c.args.flow.now.flows after.work c.mark.new.side
-    c.nodes.result (omega arith) c.mark.ensures (c.leads_on_packed-rises.ensures.side e)
+    (omega arith) c.mark.ensures (c.leads_on_packed-rises.ensures.side e)

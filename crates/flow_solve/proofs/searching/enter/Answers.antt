@@ -34,8 +34,8 @@ returns-clause-search c =
           omega (arith, dist', length-set c.args.queue.now c.args.progress.seen c.args.arrival.place, s.queue_size);
       few = omega (arith, dist', s.few);
       order =
-          queue_more c.args.dist.now c.args.queue.now c.args.progress.seen c.args.arrival.place c.args.arrival.level
-          a.place s.queue_size a.level (omega (arith, s.few, a.level)) a.unseen a.near s.order;
+          queue_more c.args.arrival.place c.args.arrival.level a.place s.queue_size a.level
+          (omega (arith, s.few, a.level)) a.unseen a.near s.order;
       wanted = omega (arith, s.wanted, a.unseen);
     }
 

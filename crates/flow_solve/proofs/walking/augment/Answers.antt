@@ -5,15 +5,13 @@ use Rattle.flow_solve.proofs.walking.augment.Goals as goal
 pub returns-clause-filled : goal.returns-clause-filled
 returns-clause-filled c =
     let found = c.least_on-depth.ensures in
-    let here = rooms_after c.args.net.now c.args.flow.now.flows c.least_on-depth.new.flow.flows
-    c.push_over.new.flow.flows c.args.path.now c.least_on-depth.result.1 c.least_on-depth.result.0 c.requires.fits
+    let here = rooms_after c.args.path.now c.least_on-depth.result.1 c.least_on-depth.result.0 c.requires.fits
     found.flows c.push_over.ensures.flows c.requires.halves c.requires.apart found.filling.place in
     omega (arith, here, found.filling.amount)
 
 pub returns-clause-open_before : goal.returns-clause-open_before
 returns-clause-open_before c = λ i l.
     let found = c.least_on-depth.ensures in
-    let here = rooms_after c.args.net.now c.args.flow.now.flows c.least_on-depth.new.flow.flows
-    c.push_over.new.flow.flows c.args.path.now c.least_on-depth.result.1 i c.requires.fits found.flows
+    let here = rooms_after c.args.path.now c.least_on-depth.result.1 i c.requires.fits found.flows
     c.push_over.ensures.flows c.requires.halves c.requires.apart (omega (arith, l, found.filling.place)) in
     omega (arith, here, found.filling.first i l)

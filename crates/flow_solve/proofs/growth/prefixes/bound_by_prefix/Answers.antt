@@ -4,12 +4,12 @@ use Rattle.flow_solve.proofs.growth.prefixes.bound_by_prefix.Goals as goal
 
 pub returns-then-out-least : goal.returns-then-out-least
 returns-then-out-least c =
-    prefix_out c.args.net.now c.args.order.now c.args.cells.now c.args.sweep.place c.count_crossings-out.result.0
-    c.requires.order c.requires.order_size c.requires.places c.requires.clean (omega (arith, c.if-place-eq0.false))
-    (omega (arith, c.if-place-n.false, c.nodes-n.ensures.nodes)) c.count_crossings-out.ensures.out
+    prefix_out c.args.cells.now c.args.sweep.place c.requires.order c.requires.order_size c.requires.places
+    c.requires.clean (omega (arith, c.if-place-eq0.false)) (omega (arith, c.if-place-n.false, c.nodes-n.ensures.nodes))
+    c.count_crossings-out.result.0 c.count_crossings-out.ensures.out
 
 pub returns-then-back-least : goal.returns-then-back-least
 returns-then-back-least c =
-    prefix_back c.args.net.now c.args.order.now c.args.cells.now c.args.sweep.place c.count_crossings-out.result.1
-    c.requires.order c.requires.order_size c.requires.places c.requires.clean (omega (arith, c.if-place-eq0.false))
-    (omega (arith, c.if-place-n.false, c.nodes-n.ensures.nodes)) c.count_crossings-out.ensures.back
+    prefix_back c.args.cells.now c.args.sweep.place c.requires.order c.requires.order_size c.requires.places
+    c.requires.clean (omega (arith, c.if-place-eq0.false)) (omega (arith, c.if-place-n.false, c.nodes-n.ensures.nodes))
+    c.count_crossings-out.result.1 c.count_crossings-out.ensures.back

@@ -21,14 +21,6 @@ room_after net xs h d e [] n r = tt
 room_after net xs h d e (g ∷ hs) n r =
     (omega (arith, r.0, residual-pushed_other net xs h g d n.0), room_after net xs h d e hs n.1 r.1)
 
--- what waits at the beginning of a path waits at its end after pushes along it
-pub moved_along : (net : Net) (s t : ℕ → Bool) (xs : List ℕ) (d u v w : ℕ) (hs ys : List ℕ) → IsPath net v hs w
-    → IsApart hs → HasRoom net ys d hs → IsMoved net s t xs d u v ys → IsMoved net s t xs d u w (push_all ys hs d)
-moved_along net s t xs d u v w [] ys p a r m = subst (λ z. IsMoved net s t xs d u z ys) p m
-moved_along net s t xs d u v w (h ∷ hs) ys p a r m =
-    moved_along net s t xs d u (head_of net h) w hs (pushed ys h d) p.2 a.1 (room_after net ys h d d hs a.0 r.1)
-    (moved_on net s t xs d u h ys p.0 r.0 (subst (λ z. IsMoved net s t xs d u z ys) (sym p.1) m))
-
 -- half-arcs that climb are of different arcs
 turned : (a : Arc) (b c : Bool) (level : ℕ → ℕ) (l : ℕ) → level (cond b a.src a.dst) ≤ l
     → l < level (cond b a.dst a.src) → level (cond c a.src a.dst) ≤ l ⊎ level (cond c a.dst a.src) ≤ l
@@ -66,15 +58,25 @@ climbs_apart net level u w (h ∷ hs) p c = (
   climbs_apart net level (head_of net h) w hs p.2 c.1,
 )
 
--- from a source to a sink: a flow whose value is larger by d
-pub augmented : (net : Net) (s t : ℕ → Bool) (xs : List ℕ) (d u w : ℕ) (hs : List ℕ) → IsFeasible net s t xs
-    → s u ≡ true → t w ≡ true → s w ≡ false → IsPath net u hs w → IsApart hs → HasRoom net xs d hs
-    → IsFeasible net s t (push_all xs hs d) × IsMoreBy net s xs d (push_all xs hs d)
-augmented net s t xs d u w hs f su tw sw p a r =
-    let m = moved_along net s t xs d u u w hs xs p a r (moved_nothing net s t xs d u f) in (
-      moved_feasible net s t xs d u w (push_all xs hs d) su tw m,
-      moved_value net s t xs d u w (push_all xs hs d) su sw m,
-    )
+-- d is pushed from a node u
+module _ (net : Net) (s t : ℕ → Bool) (xs : List ℕ) (d u : ℕ) where
+  -- what waits at the beginning of a path waits at its end after pushes along it
+  pub moved_along : (v w : ℕ) (hs ys : List ℕ) → IsPath net v hs w → IsApart hs → HasRoom net ys d hs
+      → IsMoved net s t xs d u v ys → IsMoved net s t xs d u w (push_all ys hs d)
+  moved_along v w [] ys p a r m = subst (λ z. IsMoved net s t xs d u z ys) p m
+  moved_along v w (h ∷ hs) ys p a r m =
+      moved_along (head_of net h) w hs (pushed ys h d) p.2 a.1 (room_after net ys h d d hs a.0 r.1)
+      (moved_on net s t xs d u h ys p.0 r.0 (subst (λ z. IsMoved net s t xs d u z ys) (sym p.1) m))
+
+  -- from a source to a sink: a flow whose value is larger by d
+  pub augmented : (w : ℕ) (hs : List ℕ) → IsFeasible net s t xs → s u ≡ true → t w ≡ true → s w ≡ false
+      → IsPath net u hs w → IsApart hs → HasRoom net xs d hs
+      → IsFeasible net s t (push_all xs hs d) × IsMoreBy net s xs d (push_all xs hs d)
+  augmented w hs f su tw sw p a r =
+      let m = moved_along u w hs xs p a r (moved_nothing net s t xs d u f) in (
+        moved_feasible net s t xs d u w (push_all xs hs d) su tw m,
+        moved_value net s t xs d u w (push_all xs hs d) su sw m,
+      )
 
 -- self-loops stay empty along a path that climbs
 pub no_loops_climbed : (net : Net) (level : ℕ → ℕ) (xs : List ℕ) (d : ℕ) (hs : List ℕ) → Climbs net level hs

@@ -14,9 +14,9 @@ use Rattle.flow_net.proofs.Zips.{zip_from_fits, closed_by_arcs, closed_by_halves
 use Rattle.std.proofs.lemmas.List.Elements.{recursion_from_All, All-weaker}
 use Rattle.flow_net.proofs.Sums.{exchange, over, by_node}
 
-balance_step : (x s : Bool) (a b c d f g : ℕ) → a + b ≡ c + d → (s ≡ true → x ≡ true) → (x ≡ true → s ≡ false → f ≡ g)
+balance_step : {x s : Bool} (a b c d f g : ℕ) → a + b ≡ c + d → (s ≡ true → x ≡ true) → (x ≡ true → s ≡ false → f ≡ g)
     → (a + cond x f 0) + (b + cond s g 0) ≡ (c + cond x g 0) + (d + cond s f 0)
-balance_step x s a b c d f g h k e = grind arith
+balance_step a b c d f g h k e = grind arith
 
 -- two amounts that agree at the nodes of X outside s
 over_balance : (n : ℕ) (X s : ℕ → Bool) (f g : ℕ → ℕ) → ((v : ℕ) → s v ≡ true → X v ≡ true)
@@ -24,8 +24,8 @@ over_balance : (n : ℕ) (X s : ℕ → Bool) (f g : ℕ → ℕ) → ((v : ℕ)
     → over n X f + over n s g ≡ over n X g + over n s f
 over_balance zero X s f g h e = refl
 over_balance (suc n) X s f g h e =
-    balance_step (X (suc n)) (s (suc n)) _ _ _ _ (f (suc n)) (g (suc n))
-    (over_balance n X s f g h (λ v l u. e v l (omega arith))) (h (suc n)) (e (suc n) (omega arith) (omega arith))
+    balance_step _ _ _ _ (f (suc n)) (g (suc n)) (over_balance n X s f g h (λ v l u. e v l (omega arith))) (h (suc n))
+    (e (suc n) (omega arith) (omega arith))
 
 sources_in_range : (n : ℕ) (arcs : List Arc) → All (IsArcWithin n) arcs
     → AllByRecursion (λ a. (1 ≤ a.src) × (a.src ≤ n)) arcs
@@ -131,13 +131,13 @@ closed_minimum net s t X xs r f c h = record {
   least = λ Y d. omega (arith, strong_duality net s t X xs r f c h, weak_duality net s t Y xs r f d);
 }
 
--- the other way: where the value is a cut's capacity, the cut is closed
-tight_full : (p q : Bool) (x c m k : ℕ) → x ≤ c → m ≤ k → cond (p && not q) x 0 + m ≡ cond (p && not q) c 0 + k
-    → p ≡ true → x < c → q ≡ true
-tight_full p q x c m k h l e i r = grind arith
+module _ (x c m k : ℕ) (h : x ≤ c) (l : m ≤ k) where
+  -- the other way: where the value is a cut's capacity, the cut is closed
+  tight_full : (p q : Bool) → cond (p && not q) x 0 + m ≡ cond (p && not q) c 0 + k → p ≡ true → x < c → q ≡ true
+  tight_full p q e i r = grind arith
 
-tight_rest : (b : Bool) (x c m k : ℕ) → x ≤ c → m ≤ k → cond b x 0 + m ≡ cond b c 0 + k → m ≡ k
-tight_rest b x c m k h l e = grind arith
+  tight_rest : (b : Bool) → cond b x 0 + m ≡ cond b c 0 + k → m ≡ k
+  tight_rest b e = grind arith
 
 tight_empty : (p q : Bool) (x m : ℕ) → cond (q && not p) x 0 + m ≡ 0 → q ≡ true → 0 < x → p ≡ true
 tight_empty p q x m e i r = grind arith
@@ -150,8 +150,8 @@ tight_closed X [] (x ∷ xs) w l e = absurd w
 tight_closed X (a ∷ arcs) [] w l e = absurd w
 tight_closed X (a ∷ arcs) (x ∷ xs) w l e =
     let le = flow_over-le-cap_over (leaves X) arcs xs w.1 in (
-      (tight_full (X a.src) (X a.dst) x a.cap _ _ w.0 le l, tight_empty (X a.src) (X a.dst) x _ e),
-      tight_closed X arcs xs w.1 (tight_rest (leaves X a) x a.cap _ _ w.0 le l) (omega (arith, e)),
+      (tight_full x a.cap _ _ w.0 le (X a.src) (X a.dst) l, tight_empty (X a.src) (X a.dst) x _ e),
+      tight_closed X arcs xs w.1 (tight_rest x a.cap _ _ w.0 le (leaves X a) l) (omega (arith, e)),
     )
 
 pub value_closed : (net : Net) (s t X : ℕ → Bool) (xs : List ℕ) → IsNet net → IsFeasible net s t xs → IsCut s t X

@@ -31,18 +31,6 @@ pub record IsBrought (net : Net) (s t : ℕ → Bool) (xs : List ℕ) (M : ℕ �
 and_kept : (p q p' q' : Bool) → (p ≡ true → p' ≡ true) → (q ≡ true → q' ≡ true) → (p' && q') ≡ false → (p && q) ≡ false
 and_kept p q p' q' h k e = grind arith
 
-brought_more : (net : Net) (s t : ℕ → Bool) (xs : List ℕ) (M M' : ℕ → Bool) (v : ℕ)
-    → ((u : ℕ) → M u ≡ true → M' u ≡ true) → IsBrought net s t xs M v → IsBrought net s t xs M' v
-brought_more net s t xs M M' v more b = record {
-  flow = b.flow;
-  source = b.source;
-  is_source = b.is_source;
-  moved = b.moved;
-  same = λ i o.
-      b.same i (and_kept (M (arc_at net i).src) (M (arc_at net i).dst) (M' (arc_at net i).src) (M' (arc_at net i).dst)
-      (more (arc_at net i).src) (more (arc_at net i).dst) o);
-}
-
 end_out : (b : Bool) (M : ℕ → Bool) (p q : ℕ) → M (cond b q p) ≡ false → (M p && M q) ≡ false
 end_out true M p q h = grind arith
 end_out false M p q h = grind arith
@@ -50,30 +38,6 @@ end_out false M p q h = grind arith
 ends_in : (b : Bool) (M : ℕ → Bool) (p q : ℕ) → M (cond b p q) ≡ true → M (cond b q p) ≡ true → (M p && M q) ≡ false → ⊥
 ends_in true M p q h k e = grind arith
 ends_in false M p q h k e = grind arith
-
--- through a half-arc with room, from a marked node to one that was not
-brought_on : (net : Net) (s t : ℕ → Bool) (xs : List ℕ) (M M' : ℕ → Bool) (h : ℕ) → ((u : ℕ) → M u ≡ true → M' u ≡ true)
-    → M' (tail_of net h) ≡ true → M' (head_of net h) ≡ true → M (head_of net h) ≡ false → h < 2 * length net.arcs
-    → 1 ≤ residual net xs h → IsBrought net s t xs M (tail_of net h) → IsBrought net s t xs M' (head_of net h)
-brought_on net s t xs M M' h more begins ends new l r b =
-    let kept : slice_index b.flow (h / 2) ≡ slice_index xs (h / 2) =
-    b.same (h / 2) (end_out (eqb (h % 2) 0) M (arc_at net (h / 2)).src (arc_at net (h / 2)).dst new) in
-    record {
-      flow = pushed b.flow h 1;
-      source = b.source;
-      is_source = b.is_source;
-      moved = moved_on net s t xs 1 b.source h b.flow l (rw kept r) b.moved;
-      same = λ i o. elim (cases_eq i (h / 2)) [
-        | inl at ↦
-            absurd
-            (ends_in (eqb (h % 2) 0) M' (arc_at net (h / 2)).src (arc_at net (h / 2)).dst begins ends
-            (let P : ℕ → Type 0 = λ j. (M' (arc_at net j).src && M' (arc_at net j).dst) ≡ false in subst P at o))
-        | inr off ↦
-            get_or-set_other b.flow (h / 2) i (half_pushed (slice_index b.flow (h / 2)) h 1) 0 off
-            ∙ b.same i (and_kept (M (arc_at net i).src) (M (arc_at net i).dst) (M' (arc_at net i).src)
-            (M' (arc_at net i).dst) (more (arc_at net i).src) (more (arc_at net i).dst) o)
-      ];
-    }
 
 -- the marks so far: the sources, and nodes that can be brought a unit and are no sinks
 pub record IsMarking (net : Net) (s t : ℕ → Bool) (xs : List ℕ) (M : ℕ → Bool) : Type 0 where
@@ -177,25 +141,6 @@ unmarked_fewer (suc n) M w a b o = elim (cases_eq w (suc n)) [
     rest_step : (b e : Bool) (k m : ℕ) → e ≡ false → k + 1 ≡ m → (k + cond (b || e) 0 1) + 1 ≡ m + cond b 0 1
     rest_step b e k m h q = grind arith
 
--- one more mark, at a node that is no sink
-marking_on : (net : Net) (s t : ℕ → Bool) (xs : List ℕ) (M : ℕ → Bool) (h : ℕ) → h < 2 * length net.arcs
-    → M (tail_of net h) ≡ true → 1 ≤ residual net xs h → M (head_of net h) ≡ false → t (head_of net h) ≡ false
-    → IsMarking net s t xs M → IsMarking net s t xs (with_node M (head_of net h))
-marking_on net s t xs M h l i r o no_sink m = record {
-  sources = λ v e. with_node_more M w v (m.sources v e);
-  brought = λ v e. elim (with_node_cases M w v e) [
-    | inl k ↦ brought_more net s t xs M (with_node M w) v (with_node_more M w) (m.brought v k)
-    | inr k ↦
-        subst (λ z. IsBrought net s t xs (with_node M w) z) (sym k)
-        (brought_on net s t xs M (with_node M w) h (with_node_more M w) (with_node_more M w (tail_of net h) i)
-        (with_node_self M w) o l r (m.brought (tail_of net h) i))
-  ];
-  sinks = λ v e. with_node_not M w v (m.sinks v e) (λ k. (let same : t v ≡ t w = ap t k in cc));
-}
-  where
-    w : ℕ
-    w = head_of net h
-
 -- a flow whose value is greater by one, or a closed cut
 abbrev Ends : Net → (ℕ → Bool) → (ℕ → Bool) → List ℕ → Type 0
 Ends net s t xs =
@@ -209,19 +154,75 @@ closed_of net xs M none h l i r = elim (cases_Bool (M (head_of net h))) [
   | inr o ↦ absurd (none h l (i, r, o))
 ]
 
--- a sink that a half-arc leads to
-raised : (net : Net) (s t : ℕ → Bool) (xs : List ℕ) (M : ℕ → Bool) (h : ℕ) → AreApart s t → IsMarking net s t xs M
-    → h < 2 * length net.arcs → LeadsOut net xs M h → t (head_of net h) ≡ true → Ends net s t xs
-raised net s t xs M h apart m l o sink =
-    let w = head_of net h in
-    let b = brought_on net s t xs M (with_node M w) h (with_node_more M w) (with_node_more M w (tail_of net h) o.0)
-    (with_node_self M w) o.2 l o.1 (m.brought (tail_of net h) o.0) in
-    let no_source : s w ≡ false = elim (cases_Bool (s w)) [ inl i ↦ absurd (let no = apart w i in cc) | inr n ↦ n ] in
-    inl (
-      b.flow,
-      moved_feasible net s t xs 1 b.source w b.flow b.is_source sink b.moved,
-      moved_value net s t xs 1 b.source w b.flow b.is_source no_source b.moved,
-    )
+module _ (net : Net) (s t : ℕ → Bool) (xs : List ℕ) where
+  brought_more : (M M' : ℕ → Bool) (v : ℕ) → ((u : ℕ) → M u ≡ true → M' u ≡ true) → IsBrought net s t xs M v
+      → IsBrought net s t xs M' v
+  brought_more M M' v more b = record {
+    flow = b.flow;
+    source = b.source;
+    is_source = b.is_source;
+    moved = b.moved;
+    same = λ i o.
+        b.same i (and_kept (M (arc_at net i).src) (M (arc_at net i).dst) (M' (arc_at net i).src) (M' (arc_at net i).dst)
+        (more (arc_at net i).src) (more (arc_at net i).dst) o);
+  }
+
+  -- through a half-arc with room, from a marked node to one that was not
+  brought_on : (M M' : ℕ → Bool) (h : ℕ) → ((u : ℕ) → M u ≡ true → M' u ≡ true) → M' (tail_of net h) ≡ true
+      → M' (head_of net h) ≡ true → M (head_of net h) ≡ false → h < 2 * length net.arcs → 1 ≤ residual net xs h
+      → IsBrought net s t xs M (tail_of net h) → IsBrought net s t xs M' (head_of net h)
+  brought_on M M' h more begins ends new l r b =
+      let kept : slice_index b.flow (h / 2) ≡ slice_index xs (h / 2) =
+      b.same (h / 2) (end_out (eqb (h % 2) 0) M (arc_at net (h / 2)).src (arc_at net (h / 2)).dst new) in
+      record {
+        flow = pushed b.flow h 1;
+        source = b.source;
+        is_source = b.is_source;
+        moved = moved_on net s t xs 1 b.source h b.flow l (rw kept r) b.moved;
+        same = λ i o. elim (cases_eq i (h / 2)) [
+          | inl at ↦
+              absurd
+              (ends_in (eqb (h % 2) 0) M' (arc_at net (h / 2)).src (arc_at net (h / 2)).dst begins ends
+              (let P : ℕ → Type 0 = λ j. (M' (arc_at net j).src && M' (arc_at net j).dst) ≡ false in subst P at o))
+          | inr off ↦
+              get_or-set_other b.flow (h / 2) i (half_pushed (slice_index b.flow (h / 2)) h 1) 0 off
+              ∙ b.same i (and_kept (M (arc_at net i).src) (M (arc_at net i).dst) (M' (arc_at net i).src)
+              (M' (arc_at net i).dst) (more (arc_at net i).src) (more (arc_at net i).dst) o)
+        ];
+      }
+
+  -- one more mark, at a node that is no sink
+  marking_on : (M : ℕ → Bool) (h : ℕ) → h < 2 * length net.arcs → M (tail_of net h) ≡ true → 1 ≤ residual net xs h
+      → M (head_of net h) ≡ false → t (head_of net h) ≡ false → IsMarking net s t xs M
+      → IsMarking net s t xs (with_node M (head_of net h))
+  marking_on M h l i r o no_sink m = record {
+    sources = λ v e. with_node_more M w v (m.sources v e);
+    brought = λ v e. elim (with_node_cases M w v e) [
+      | inl k ↦ brought_more M (with_node M w) v (with_node_more M w) (m.brought v k)
+      | inr k ↦
+          subst (λ z. IsBrought net s t xs (with_node M w) z) (sym k)
+          (brought_on M (with_node M w) h (with_node_more M w) (with_node_more M w (tail_of net h) i)
+          (with_node_self M w) o l r (m.brought (tail_of net h) i))
+    ];
+    sinks = λ v e. with_node_not M w v (m.sinks v e) (λ k. (let same : t v ≡ t w = ap t k in cc));
+  }
+    where
+      w : ℕ
+      w = head_of net h
+
+  -- a sink that a half-arc leads to
+  raised : (M : ℕ → Bool) (h : ℕ) → AreApart s t → IsMarking net s t xs M → h < 2 * length net.arcs
+      → LeadsOut net xs M h → t (head_of net h) ≡ true → Ends net s t xs
+  raised M h apart m l o sink =
+      let w = head_of net h in
+      let b = brought_on M (with_node M w) h (with_node_more M w) (with_node_more M w (tail_of net h) o.0)
+      (with_node_self M w) o.2 l o.1 (m.brought (tail_of net h) o.0) in
+      let no_source : s w ≡ false = elim (cases_Bool (s w)) [ inl i ↦ absurd (let no = apart w i in cc) | inr n ↦ n ] in
+      inl (
+        b.flow,
+        moved_feasible net s t xs 1 b.source w b.flow b.is_source sink b.moved,
+        moved_value net s t xs 1 b.source w b.flow b.is_source no_source b.moved,
+      )
 
 search_from : (n : ℕ) (net : Net) (s t : ℕ → Bool) (xs : List ℕ) (M : ℕ → Bool) → IsNet net → AreApart s t
     → IsMarking net s t xs M → unmarked net.nodes M ≤ n → Ends net s t xs

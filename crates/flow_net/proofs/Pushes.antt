@@ -35,13 +35,14 @@ flow_over-set p (b ∷ arcs) (x ∷ xs) zero y l k = omega arith
 flow_over-set p (b ∷ arcs) (x ∷ xs) (suc i) y l k =
     omega (arith, flow_over-set p arcs xs i y (omega arith) (omega arith))
 
-along_step : (p q : Bool) (x d o o' i i' : ℕ) → o' + cond p x 0 ≡ o + cond p (x + d) 0
-    → i' + cond q x 0 ≡ i + cond q (x + d) 0 → o' + i + cond q d 0 ≡ o + i' + cond p d 0
-along_step p q x d o o' i i' e f = grind arith
+module _ (p q : Bool) (x d o o' i i' : ℕ) where
+  along_step : o' + cond p x 0 ≡ o + cond p (x + d) 0 → i' + cond q x 0 ≡ i + cond q (x + d) 0
+      → o' + i + cond q d 0 ≡ o + i' + cond p d 0
+  along_step e f = grind arith
 
-against_step : (p q : Bool) (x d o o' i i' : ℕ) → d ≤ x → o' + cond p x 0 ≡ o + cond p (x - d) 0
-    → i' + cond q x 0 ≡ i + cond q (x - d) 0 → o' + i + cond p d 0 ≡ o + i' + cond q d 0
-against_step p q x d o o' i i' l e f = grind arith
+  against_step : d ≤ x → o' + cond p x 0 ≡ o + cond p (x - d) 0 → i' + cond q x 0 ≡ i + cond q (x - d) 0
+      → o' + i + cond p d 0 ≡ o + i' + cond q d 0
+  against_step l e f = grind arith
 
 -- a push through a half-arc, b telling which way: what it moves at a set of nodes
 net_after : (b : Bool) (P : ℕ → Bool) (arcs : List Arc) (xs : List ℕ) (i d : ℕ) → length xs ≡ length arcs
@@ -95,35 +96,6 @@ fits_pushed net xs h d l r f =
       ];
     }
 
--- a flow, with nothing moved
-pub moved_nothing : (net : Net) (s t : ℕ → Bool) (xs : List ℕ) (d u : ℕ) → IsFeasible net s t xs
-    → IsMoved net s t xs d u u xs
-moved_nothing net s t xs d u f = record {
-  fits = f.fits;
-  conserved = λ w l h i o. omega (arith, f.conserved w l h i o);
-  value = omega arith;
-}
-
--- a push on: what waited at the half-arc's tail waits at its head
-pub moved_on : (net : Net) (s t : ℕ → Bool) (xs : List ℕ) (d u h : ℕ) (ys : List ℕ) → h < 2 * length net.arcs
-    → d ≤ residual net ys h → IsMoved net s t xs d u (tail_of net h) ys
-    → IsMoved net s t xs d u (head_of net h) (pushed ys h d)
-moved_on net s t xs d u h ys k r m = record {
-  fits = fits_pushed net ys h d k r m.fits;
-  conserved = λ w l' h' i o. omega (arith, m.conserved w l' h' i o, net_pushed (just w) net ys h d m.fits.count k r);
-  value = omega (arith, m.value, net_pushed s net ys h d m.fits.count k r);
-}
-
--- a push before: what was taken at the half-arc's head is taken at its tail
-pub moved_before : (net : Net) (s t : ℕ → Bool) (xs : List ℕ) (d w h : ℕ) (ys : List ℕ) → h < 2 * length net.arcs
-    → d ≤ residual net ys h → IsMoved net s t xs d (head_of net h) w ys
-    → IsMoved net s t xs d (tail_of net h) w (pushed ys h d)
-moved_before net s t xs d w h ys k r m = record {
-  fits = fits_pushed net ys h d k r m.fits;
-  conserved = λ v l' h' i o. omega (arith, m.conserved v l' h' i o, net_pushed (just v) net ys h d m.fits.count k r);
-  value = omega (arith, m.value, net_pushed s net ys h d m.fits.count k r);
-}
-
 pub held_none : (X : ℕ → Bool) (v d : ℕ) → X v ≡ false → held X v d ≡ 0
 held_none X v d h = rw h refl
 
@@ -133,20 +105,48 @@ held_all X v d h = rw h refl
 pub other_node : (X : ℕ → Bool) (u v : ℕ) → X u ≡ true → X v ≡ false → eqb u v ≡ false
 other_node X u v h k = ne_eqb u v (λ e. let same : X u ≡ X v = ap X e in cc)
 
--- moved from a source to a sink: a flow whose value is larger by d
-pub moved_feasible : (net : Net) (s t : ℕ → Bool) (xs : List ℕ) (d u w : ℕ) (ys : List ℕ) → s u ≡ true → t w ≡ true
-    → IsMoved net s t xs d u w ys → IsFeasible net s t ys
-moved_feasible net s t xs d u w ys su tw m = record {
-  fits = m.fits;
-  conserved = λ v l h i o.
-      omega (
-        arith,
-        m.conserved v l h i o,
-        held_none (just v) u d (other_node s u v su i),
-        held_none (just v) w d (other_node t w v tw o),
-      );
-}
+-- d that is brought from node to node
+module _ (net : Net) (s t : ℕ → Bool) (xs : List ℕ) (d : ℕ) where
+  -- a flow, with nothing moved
+  pub moved_nothing : (u : ℕ) → IsFeasible net s t xs → IsMoved net s t xs d u u xs
+  moved_nothing u f = record {
+    fits = f.fits;
+    conserved = λ w l h i o. omega (arith, f.conserved w l h i o);
+    value = omega arith;
+  }
 
-pub moved_value : (net : Net) (s t : ℕ → Bool) (xs : List ℕ) (d u w : ℕ) (ys : List ℕ) → s u ≡ true → s w ≡ false
-    → IsMoved net s t xs d u w ys → IsMoreBy net s xs d ys
-moved_value net s t xs d u w ys su sw m = omega (arith, m.value, held_all s u d su, held_none s w d sw)
+  -- a push on: what waited at the half-arc's tail waits at its head
+  pub moved_on : (u h : ℕ) (ys : List ℕ) → h < 2 * length net.arcs → d ≤ residual net ys h
+      → IsMoved net s t xs d u (tail_of net h) ys → IsMoved net s t xs d u (head_of net h) (pushed ys h d)
+  moved_on u h ys k r m = record {
+    fits = fits_pushed net ys h d k r m.fits;
+    conserved = λ w l' h' i o. omega (arith, m.conserved w l' h' i o, net_pushed (just w) net ys h d m.fits.count k r);
+    value = omega (arith, m.value, net_pushed s net ys h d m.fits.count k r);
+  }
+
+  -- a push before: what was taken at the half-arc's head is taken at its tail
+  pub moved_before : (w h : ℕ) (ys : List ℕ) → h < 2 * length net.arcs → d ≤ residual net ys h
+      → IsMoved net s t xs d (head_of net h) w ys → IsMoved net s t xs d (tail_of net h) w (pushed ys h d)
+  moved_before w h ys k r m = record {
+    fits = fits_pushed net ys h d k r m.fits;
+    conserved = λ v l' h' i o. omega (arith, m.conserved v l' h' i o, net_pushed (just v) net ys h d m.fits.count k r);
+    value = omega (arith, m.value, net_pushed s net ys h d m.fits.count k r);
+  }
+
+  -- moved from a source to a sink: a flow whose value is larger by d
+  pub moved_feasible : (u w : ℕ) (ys : List ℕ) → s u ≡ true → t w ≡ true → IsMoved net s t xs d u w ys
+      → IsFeasible net s t ys
+  moved_feasible u w ys su tw m = record {
+    fits = m.fits;
+    conserved = λ v l h i o.
+        omega (
+          arith,
+          m.conserved v l h i o,
+          held_none (just v) u d (other_node s u v su i),
+          held_none (just v) w d (other_node t w v tw o),
+        );
+  }
+
+  pub moved_value : (u w : ℕ) (ys : List ℕ) → s u ≡ true → s w ≡ false → IsMoved net s t xs d u w ys
+      → IsMoreBy net s xs d ys
+  moved_value u w ys su sw m = omega (arith, m.value, held_all s u d su, held_none s w d sw)

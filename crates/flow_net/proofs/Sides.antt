@@ -8,9 +8,9 @@ use Rattle.flow_net.specs.Residual.{IsClosed, IsReachable, IsReaching, tail_of, 
 use Rattle.flow_net.proofs.Cuts.{weak_duality, strong_duality, closed_minimum, value_closed}
 
 -- where a flow has a closed cut, each minimum cut is closed
-pub minimum_closed : (net : Net) (s t X Y : ℕ → Bool) (xs : List ℕ) → IsNet net → IsFeasible net s t xs → IsCut s t X
+pub minimum_closed : {net : Net} {s t X Y : ℕ → Bool} {xs : List ℕ} → IsNet net → IsFeasible net s t xs → IsCut s t X
     → IsClosed net xs X → IsMinimumCut net s t Y → IsClosed net xs Y
-minimum_closed net s t X Y xs r f c h m =
+minimum_closed {net} {s} {t} {X} {Y} {xs} r f c h m =
     let v = strong_duality net s t X xs r f c h in
     let w = weak_duality net s t Y xs r f m.cut in
     let l = m.least X c in
@@ -22,7 +22,7 @@ pub least_source_side : (net : Net) (s t X : ℕ → Bool) (xs : List ℕ) → I
     → (X v ≡ true) ↔ IsInLeastSourceSide net s t v
 least_source_side net s t X xs r f l o v =
     let c : IsCut s t X = record { sources = l.sources; sinks = o } in (
-      (λ i Y m. l.least Y m.cut.sources (minimum_closed net s t X Y xs r f c l.closed m) v i),
+      (λ i Y m. l.least Y m.cut.sources (minimum_closed r f c l.closed m) v i),
       λ e. e X (closed_minimum net s t X xs r f c l.closed),
     )
 
@@ -53,6 +53,6 @@ least_sink_side net s t W xs r f l o v =
       sinks = λ w i. not_true (W w) (l.sinks w i);
     } in
     let closed = outside_closed net t xs W l in (
-      (λ i Y m. l.least Y m.cut.sinks (minimum_closed net s t (λ w. not (W w)) Y xs r f c closed m) v i),
+      (λ i Y m. l.least Y m.cut.sinks (minimum_closed r f c closed m) v i),
       λ e. not_false (W v) (e (λ w. not (W w)) (closed_minimum net s t (λ w. not (W w)) xs r f c closed)),
     )

@@ -41,38 +41,39 @@ ends_outside p q h = grind arith
 both : (p q : Bool) → p ≡ true → q ≡ false → p && not q ≡ true
 both p q h k = grind arith
 
--- where the value rises the arc leaves each minimum cut
-leaves_each : (net : Net) (s t X : ℕ → Bool) (i d k j : ℕ) → i < length net.arcs → IsLeastCapacity net s t k
-    → IsLeastCapacity (upgraded net i d) s t j → k < j → IsMinimumCut net s t X → leaves X (arc_at net i) ≡ true
-leaves_each net s t X i d k j l here there rises m =
-    let grown = capacity_upgraded net X i d l in
-    gains (leaves X (arc_at net i)) k d j
-    (omega (arith, grown, m.least here.reached.0 here.reached.1, here.reached.2, there.least X m.cut)) rises
-
 -- a cut that is minimum with the upgrade: it had a greater capacity than the least, or it was minimum and the arc
 -- leaves it
 rises_there : (b : Bool) (c d k j : ℕ) → 1 ≤ d → j ≡ c + cond b d 0 → k ≤ c → (c ≡ k → b ≡ true) → k < j
 rises_there b c d k j l e h f = grind arith
 
-pub single_upgrade : (net : Net) (s t : ℕ → Bool) (i d k j : ℕ) → IsNet net → IsNet (upgraded net i d) → AreApart s t
-    → i < length net.arcs → 1 ≤ d
-    → IsGreatest net s t k → IsGreatest (upgraded net i d) s t j
-    → (k < j) ↔ (IsInLeastSourceSide net s t (arc_at net i).src × IsInLeastSinkSide net s t (arc_at net i).dst)
-single_upgrade net s t i d k j is_net is_upgraded apart l more g g' =
-    let here = greatest_is_least net s t k is_net apart g in
-    let there = greatest_is_least (upgraded net i d) s t j is_upgraded apart g' in
-    let a = arc_at net i in (
-      (λ rises. (
-        (λ X m. begins_inside (X a.src) (X a.dst) (leaves_each net s t X i d k j l here there rises m)),
-        (λ X m. ends_outside (X a.src) (X a.dst) (leaves_each net s t X i d k j l here there rises m)),
-      )),
-      (λ ends.
-          let X = there.reached.0 in
-          let cut = there.reached.1 in
-          let grown = capacity_upgraded net X i d l in
-          let minimum : capacity net X ≡ k → IsMinimumCut net s t X =
-          λ e. record { cut = cut; least = λ Y c. omega (arith, e, here.least Y c) } in
-          rises_there (leaves X a) (capacity net X) d k j more (omega (arith, grown, there.reached.2))
-          (here.least X cut)
-          (λ e. both (X a.src) (X a.dst) (ends.0 X (minimum e)) (ends.1 X (minimum e)))),
-    )
+-- the capacity of arc i is raised by d
+module _ (net : Net) (s t : ℕ → Bool) (i d k j : ℕ) where
+  -- where the value rises the arc leaves each minimum cut
+  leaves_each : (X : ℕ → Bool) → i < length net.arcs → IsLeastCapacity net s t k
+      → IsLeastCapacity (upgraded net i d) s t j → k < j → IsMinimumCut net s t X → leaves X (arc_at net i) ≡ true
+  leaves_each X l here there rises m =
+      let grown = capacity_upgraded net X i d l in
+      gains (leaves X (arc_at net i)) k d j
+      (omega (arith, grown, m.least here.reached.0 here.reached.1, here.reached.2, there.least X m.cut)) rises
+
+  pub single_upgrade : IsNet net → IsNet (upgraded net i d) → AreApart s t → i < length net.arcs → 1 ≤ d
+      → IsGreatest net s t k → IsGreatest (upgraded net i d) s t j
+      → (k < j) ↔ (IsInLeastSourceSide net s t (arc_at net i).src × IsInLeastSinkSide net s t (arc_at net i).dst)
+  single_upgrade is_net is_upgraded apart l more g g' =
+      let here = greatest_is_least net s t k is_net apart g in
+      let there = greatest_is_least (upgraded net i d) s t j is_upgraded apart g' in
+      let a = arc_at net i in (
+        (λ rises. (
+          (λ X m. begins_inside (X a.src) (X a.dst) (leaves_each X l here there rises m)),
+          (λ X m. ends_outside (X a.src) (X a.dst) (leaves_each X l here there rises m)),
+        )),
+        (λ ends.
+            let X = there.reached.0 in
+            let cut = there.reached.1 in
+            let grown = capacity_upgraded net X i d l in
+            let minimum : capacity net X ≡ k → IsMinimumCut net s t X =
+            λ e. record { cut = cut; least = λ Y c. omega (arith, e, here.least Y c) } in
+            rises_there (leaves X a) (capacity net X) d k j more (omega (arith, grown, there.reached.2))
+            (here.least X cut)
+            (λ e. both (X a.src) (X a.dst) (ends.0 X (minimum e)) (ends.1 X (minimum e)))),
+      )

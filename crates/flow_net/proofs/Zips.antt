@@ -78,26 +78,22 @@ IsClosedByArcs arcs xs X =
 
 -- a half-arc with the number 2·i or 2·i + 1
 pub along : (net : Net) (xs : List ℕ) (i : ℕ)
-    → (tail_of net (2 * i) ≡ (arc_at net i).src)
-    × (head_of net (2 * i) ≡ (arc_at net i).dst)
+    → (tail_of net (2 * i) ≡ (arc_at net i).src) × (head_of net (2 * i) ≡ (arc_at net i).dst)
     × (residual net xs (2 * i) ≡ (arc_at net i).cap - get_or xs i 0)
 along net xs i = parts (2 * i) (omega arith) (omega arith)
   where
     parts : (h : ℕ) → h / 2 ≡ i → h % 2 ≡ 0
-        → (tail_of net h ≡ (arc_at net i).src)
-        × (head_of net h ≡ (arc_at net i).dst)
+        → (tail_of net h ≡ (arc_at net i).src) × (head_of net h ≡ (arc_at net i).dst)
         × (residual net xs h ≡ (arc_at net i).cap - get_or xs i 0)
     parts h e z = rw (e, z) (refl, refl, refl)
 
 pub against : (net : Net) (xs : List ℕ) (i : ℕ)
-    → (tail_of net (2 * i + 1) ≡ (arc_at net i).dst)
-    × (head_of net (2 * i + 1) ≡ (arc_at net i).src)
+    → (tail_of net (2 * i + 1) ≡ (arc_at net i).dst) × (head_of net (2 * i + 1) ≡ (arc_at net i).src)
     × (residual net xs (2 * i + 1) ≡ get_or xs i 0)
 against net xs i = parts (2 * i + 1) (omega arith) (omega arith)
   where
     parts : (h : ℕ) → h / 2 ≡ i → h % 2 ≡ 1
-        → (tail_of net h ≡ (arc_at net i).dst)
-        × (head_of net h ≡ (arc_at net i).src)
+        → (tail_of net h ≡ (arc_at net i).dst) × (head_of net h ≡ (arc_at net i).src)
         × (residual net xs h ≡ get_or xs i 0)
     parts h e z = rw (e, z) (refl, refl, refl)
 

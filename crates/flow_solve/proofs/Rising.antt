@@ -72,8 +72,8 @@ pub flow_pushed : (net : Net) (s t xs path : List ℕ) (d k : ℕ) → AreTermin
 flow_pushed net s t xs path d k n f a =
     let apart = augmenting_apart net s t xs path d a in
     let more = augmented net (one_of s) (one_of t) xs d a.source a.sink path f.feasible a.begins a.ends
-    (sink_no_source (one_of s) (one_of t) (terminals_apart net s t n) a.sink a.ends) a.rising.leads apart
-    a.rising.room in
+    (sink_no_source (one_of s) (one_of t) (terminals_apart net s t n) a.sink a.ends) a.rising.leads apart a.rising.room
+    in
     record {
       feasible = more.0;
       value = omega (arith, f.value, more.1);

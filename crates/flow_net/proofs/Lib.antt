@@ -1,4 +1,5 @@
 pub mod KeptLimits
+pub mod NodeLists
 pub mod Sums
 pub mod Zips
 pub mod Cuts

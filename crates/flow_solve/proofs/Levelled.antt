@@ -16,7 +16,7 @@ use Rattle.flow_solve.specs.Packs.{group_of}
 use Rattle.flow_solve.specs.Searches.{twin_of, seen, IsMarked, IsDone, IsSearched, IsCount, IsQueue, wanted_at}
 use Rattle.flow_solve.specs.Levels.{cell_of, AreSinks, IsOrdered, IsGentle, IsLevelled, AreLevels}
 use Rattle.flow_solve.proofs.Queues.{total, spread_most, spread_missing, queue_short}
-use Rattle.flow_solve.proofs.Marks.{place_in}
+use Rattle.flow_net.proofs.NodeLists.{place_in}
 use Rattle.flow_solve.proofs.Searched.{seen_marked, marked_seen, unmarked_unseen, some_seen}
 use Rattle.flow_solve.proofs.Crossings.{twin_twin, crossed_within, tail_group, tail_twin, head_twin}
 use Rattle.flow_solve.proofs.Routes.{sink_at}

@@ -1,7 +1,7 @@
 pub mod Counting
 pub mod Crossings
 pub mod Searched
-pub mod Marks
+pub mod SearchStarts
 pub mod Outcomes
 pub mod Packed
 mod Behind
@@ -15,6 +15,8 @@ pub mod Places
 pub mod Descents
 pub mod Bounds
 pub mod Distances
+pub mod LeastOnPath
+pub mod PushesAhead
 pub mod Ranks
 pub mod Walks
 pub mod Levelled

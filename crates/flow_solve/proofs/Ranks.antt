@@ -1,62 +1,9 @@
--- The least residual capacity on a path, pushes still to be made along it, and ranks.
-use Rattle.std.proofs.Common.{◌≡◌, ℕ, ◌+◌, ◌*◌, ◌≤◌, ◌<◌, ◌⊎◌, List, ◌∷◌, length, get_or, set, drop, drop-cons, add-one}
-use Rattle.std.proofs.Common.{refl, ◌∙◌, sym, ap, inl, inr, get_or-set_same, get_or-set_other, length-set, arith}
+-- Ranks: a place has its number in the queue.
+use Rattle.std.proofs.Common.{◌≡◌, ℕ, ◌+◌, ◌<◌, ◌⊎◌, List, length, set}
+use Rattle.std.proofs.Common.{◌∙◌, sym, ap, inl, inr, get_or-set_same, get_or-set_other, length-set, arith}
 use Rattle.std.specs.Prelude.{slice_index}
-use Rattle.std.specs.List.{All, AllByRecursion}
 use Rattle.std.proofs.lemmas.Bool.{cases_eq}
-use Rattle.std.proofs.lemmas.List.Elements.{recursion_from_All}
-use Rattle.flow_net.specs.Nets.{Net}
-use Rattle.flow_net.specs.Flows.{Fits}
-use Rattle.flow_net.specs.Residual.{residual, pushed}
-use Rattle.flow_net.specs.Paths.{HasRoom, IsApart, push_all}
-use Rattle.flow_net.proofs.Pushes.{fits_pushed}
-use Rattle.flow_net.proofs.AugmentingPaths.{room_after}
 use Rattle.flow_solve.specs.declared.searching.TheConstants.{FAR}
-
--- the least on a path so far, and where it is first met
-pub record IsLeast (net : Net) (xs path : List ℕ) (place least i : ℕ) : Type 0 where
-  pub at : place < i
-  pub here : least ≡ residual net xs (slice_index path place)
-  pub low : (j : ℕ) → j < i → least ≤ residual net xs (slice_index path j)
-  pub high : (j : ℕ) → j < place → least < residual net xs (slice_index path j)
-
--- the rest of a path along which pushes are still to be made
-pub record IsAhead (net : Net) (start path : List ℕ) (d : ℕ) (xs rest : List ℕ) : Type 0 where
-  pub fits : Fits net xs
-  pub halves : AllByRecursion (λ h. h < 2 * length net.arcs) rest
-  pub apart : IsApart rest
-  pub room : HasRoom net xs d rest
-  pub ends : push_all xs rest d ≡ push_all start path d
-
-pub ahead_all : (net : Net) (xs path : List ℕ) (d : ℕ) → Fits net xs → All (λ h. h < 2 * length net.arcs) path
-    → IsApart path → All (λ h. d ≤ residual net xs h) path → IsAhead net xs path d xs (drop 0 path)
-ahead_all net xs path d w h a r = record {
-  fits = w;
-  halves = recursion_from_All (λ g. g < 2 * length net.arcs) path h;
-  apart = a;
-  room = recursion_from_All (λ g. d ≤ residual net xs g) path r;
-  ends = refl;
-}
-
-over_one : (net : Net) (start path : List ℕ) (d : ℕ) (xs : List ℕ) (h : ℕ) (rest : List ℕ)
-    → IsAhead net start path d xs (h ∷ rest) → IsAhead net start path d (pushed xs h d) rest
-over_one net start path d xs h rest a = record {
-  fits = fits_pushed net xs h d a.halves.0 a.room.0 a.fits;
-  halves = a.halves.1;
-  apart = a.apart.1;
-  room = room_after net xs h d d rest a.apart.0 a.room.1;
-  ends = a.ends;
-}
-
-pub ahead_here : (net : Net) (start path : List ℕ) (d : ℕ) (xs : List ℕ) (i : ℕ) → i < length path
-    → IsAhead net start path d xs (drop i path) → IsAhead net start path d xs (get_or path i 0 ∷ drop (i + 1) path)
-ahead_here net start path d xs i l a = rw (add-one, ← drop-cons path i 0 l) a
-
-pub ahead_more : (net : Net) (start path : List ℕ) (d : ℕ) (xs : List ℕ) (i : ℕ) → i < length path
-    → IsAhead net start path d xs (drop i path)
-    → IsAhead net start path d (pushed xs (get_or path i 0) d) (drop (i + 1) path)
-ahead_more net start path d xs i l a =
-    over_one net start path d xs (get_or path i 0) (drop (i + 1) path) (ahead_here net start path d xs i l a)
 
 -- a place's rank is its number in the queue's first cells
 abbrev pub IsRank : List ℕ → List ℕ → ℕ → ℕ → Type 0

@@ -17,7 +17,7 @@ use Rattle.flow_solve.specs.declared.searching.Direction.{Direction}
 use Rattle.flow_solve.specs.declared.searching.Direction.TheVariants.{Forwards, Backwards}
 use Rattle.flow_solve.specs.Searches.{IsMarked, IsSearched, IsRoute, HasRoute}
 use Rattle.flow_solve.specs.Trails.{trail, trail_from, AreTrails}
-use Rattle.flow_solve.proofs.Marks.{place_in}
+use Rattle.flow_net.proofs.NodeLists.{place_in}
 
 -- no node is a source and a sink
 pub terminals_apart : (net : Net) (s t : List ℕ) → AreTerminals net s t → AreApart (one_of s) (one_of t)

@@ -16,7 +16,7 @@ use Rattle.flow_solve.specs.declared.searching.TheConstants.{FAR, WANTED}
 use Rattle.flow_solve.specs.declared.searching.Direction.{Direction}
 use Rattle.flow_solve.specs.Searches.{near_end, far_end, crossed, IsClosedFor, ContainsAll, IsMarked, seen, spread}
 use Rattle.flow_solve.specs.Searches.{IsCount, wanted_at, IsDone, IsSearched, IsWhole}
-use Rattle.flow_solve.proofs.Marks.{place_in}
+use Rattle.flow_net.proofs.NodeLists.{place_in}
 use Rattle.flow_solve.proofs.Queues.{spread_zero, spread_some, spread_more}
 use Rattle.flow_solve.proofs.Crossings.{near_crossed, crossed_crossed, crossed_within, far_crossed, tail_group}
 

@@ -1,7 +1,7 @@
 -- `run_lifted`: a walk begins at a source.
 use Rattle.std.proofs.Common.{◌∙◌, sym}
 use Rattle.flow_solve.proofs.Lifted.{under_way_begun}
-use Rattle.flow_solve.proofs.Marks.{one_of-at}
+use Rattle.flow_net.proofs.NodeLists.{one_of-at}
 use Rattle.flow_solve.proofs.lifting.run_lifted.Goals as goal
 
 pub walk-requires-clause-walk : goal.walk-requires-clause-walk

@@ -1,6 +1,6 @@
 use Rattle.std.proofs.Common.{◌≡◌, false, get_or, subst, refl, arith}
 use Rattle.flow_solve.specs.Searches.{seen}
-use Rattle.flow_solve.proofs.Marks.{one_of-at, place_in}
+use Rattle.flow_net.proofs.NodeLists.{one_of-at, place_in}
 use Rattle.flow_solve.proofs.Searched.{unmarked_unseen}
 use Rattle.flow_solve.proofs.paths.first_seen.Goals as goal
 

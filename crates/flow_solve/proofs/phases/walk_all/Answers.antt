@@ -3,7 +3,7 @@ use Rattle.std.specs.Prelude.{slice_index}
 use Rattle.flow_net.specs.NodeSets.{one_of}
 use Rattle.flow_solve.specs.Searches.{seen}
 use Rattle.flow_solve.specs.Levels.{cell_of, place_of, IsDead}
-use Rattle.flow_solve.proofs.Marks.{one_of-at, place_in}
+use Rattle.flow_net.proofs.NodeLists.{one_of-at, place_in}
 use Rattle.flow_solve.proofs.Searched.{seen_marked, unmarked_unseen}
 use Rattle.flow_solve.proofs.Walks.{dead_on}
 use Rattle.flow_solve.proofs.phases.walk_all.Goals.{then-phase-source-lt-WANTED, else-phase-source-lt-WANTED}

@@ -1,6 +1,6 @@
 use Rattle.std.proofs.Common.{length-set, ◌∙◌, arith}
 use Rattle.flow_solve.specs.declared.searching.TheConstants.{WANTED}
-use Rattle.flow_solve.proofs.Marks.{look_more}
+use Rattle.flow_solve.proofs.SearchStarts.{look_more}
 use Rattle.flow_solve.proofs.searching.look_out.Goals as goal
 
 pub loop-node-preserved : goal.loop-node-preserved

@@ -5,7 +5,7 @@ use Rattle.flow_net.specs.Residual.{head_of, residual}
 use Rattle.flow_solve.specs.Packs.{halves_at}
 use Rattle.flow_solve.specs.Searches.{crossed, IsMarked, IsCome, IsDone, queued}
 use Rattle.flow_solve.proofs.Queues.{queue_short, queued_same, grown_marked, come_on}
-use Rattle.flow_solve.proofs.Marks.{count_none}
+use Rattle.flow_solve.proofs.SearchStarts.{count_none}
 use Rattle.flow_solve.proofs.Searched.{some_seen, new_seen, whole_seen, none_seen}
 use Rattle.flow_solve.proofs.Sweeps.{searched, all_done, queued_halves}
 use Rattle.flow_solve.proofs.searching.search.Goals as goal

@@ -2,7 +2,7 @@ use Rattle.std.proofs.Common.{◌-◌, ◌<◌, IsTrue, length, get_or, refl, �
 use Rattle.flow_net.specs.NodeSets.{one_of}
 use Rattle.flow_solve.specs.Searches.{IsMarked}
 use Rattle.flow_solve.proofs.Queues.{queue_none, near_none, grown_marked}
-use Rattle.flow_solve.proofs.Marks.{one_of-at}
+use Rattle.flow_net.proofs.NodeLists.{one_of-at}
 use Rattle.flow_solve.proofs.searching.start_all.Goals as goal
 
 pub loop-node-init : goal.loop-node-init

@@ -1,6 +1,6 @@
 use Rattle.std.proofs.Common.{◌≡◌, ◌+◌}
 use Rattle.flow_net.specs.Flows.{Fits}
-use Rattle.flow_solve.proofs.Ranks.{IsLeast}
+use Rattle.flow_solve.proofs.LeastOnPath.{IsLeast}
 use Rattle.flow_solve.proofs.walking.least_on.Given as goal
 
 abbrev pub invariant-loop-i : goal.invariant-loop-i

@@ -1,12 +1,11 @@
 use Rattle.std.proofs.Common.{arith}
-use Rattle.flow_solve.proofs.Ranks.{ahead_more}
+use Rattle.flow_solve.proofs.PushesAhead.{ahead_more}
 use Rattle.flow_solve.proofs.walking.push_over.Goals as goal
 
 pub loop-half-preserved : goal.loop-half-preserved
 loop-half-preserved c = record {
   ahead =
       rw c.push.ensures.flows
-      (ahead_more c.args.net.now c.args.flow.now.flows c.args.path.now c.args.amount c.loop-half.flow.flows
-      c.loop-half.half-index (omega arith) c.loop-half.invariant.ahead);
+      (ahead_more c.loop-half.flow.flows c.loop-half.half-index (omega arith) c.loop-half.invariant.ahead);
   steps = omega (arith, c.loop-half.invariant.steps, c.push.ensures.steps);
 }

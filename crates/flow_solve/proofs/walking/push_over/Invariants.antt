@@ -1,5 +1,5 @@
 use Rattle.std.proofs.Common.{◌≡◌, ◌+◌, drop}
-use Rattle.flow_solve.proofs.Ranks.{IsAhead}
+use Rattle.flow_solve.proofs.PushesAhead.{IsAhead}
 use Rattle.flow_solve.proofs.walking.push_over.Given as goal
 
 abbrev pub invariant-loop-half : goal.invariant-loop-half

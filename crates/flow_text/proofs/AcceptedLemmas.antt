@@ -22,7 +22,8 @@ use Rattle.flow_text.specs.ProblemReading.{problem_tests, mark_tests}
 use Rattle.flow_text.specs.Problem.{size_tests, node_tests, arc_tests, end_tests, instance_of}
 use Rattle.flow_text.specs.Problem.{nodes}
 use Rattle.flow_text.specs.ProblemReading.{marks_of, size_of, node_of, arc_of, with_problem_record, with_node}
-use Rattle.flow_text.specs.Solution.{Stated, Written, stated_of, solution, solution_rules, solution_record_fault}
+use Rattle.flow_text.specs.Solution.{Written, stated_of, solution, solution_rules, solution_record_fault}
+use Rattle.flow_text.specs.SolutionReading.{SolutionSoFar, so_far_of, so_far_rules, stated_in}
 use Rattle.flow_text.specs.Solution.{value_tests, written_of}
 use Rattle.flow_text.specs.SolutionReading.{flow_of, with_solution_record, IsLineWithin, IsWithinLimits}
 use Rattle.flow_text.specs.declared.faults.FaultCode.{FaultCode}
@@ -35,7 +36,7 @@ use Rattle.flow_text.specs.declared.faults.FaultCode.TheVariants.{NodeOutOfRange
 use Rattle.flow_text.specs.declared.faults.FaultCode.TheVariants.{ValueOutOfRange}
 use Rattle.flow_text.proofs.KindLemmas.{none_from}
 use Rattle.flow_text.proofs.ProblemLemmas.{Adds-problem, of_problem, of_node, of_arc, of_unknown}
-use Rattle.flow_text.proofs.SolutionLemmas.{Adds-solution, of_solution, of_flow, of_unknown as of_unknown_solution}
+use Rattle.flow_text.proofs.SolutionLemmas.{Adds-solution, of_solution, of_flow, of_unknown as of_unknown_solution, whole-same}
 use Rattle.flow_text.proofs.TerminalLemmas.{AreDistinct-source, AreDistinct-sink}
 use Rattle.flow_text.proofs.WithinLemmas.{by_text, accepted-parts, passed, number-passed, ends-passed}
 use Rattle.flow_text.specs.declared.limits.TheConstants.{GREATEST_VALUE, MOST_FLOW_LINES}
@@ -254,11 +255,11 @@ accepted_problem b p h =
     subst (λ (q : Instance). IsNet q.net × IsProblem q) parts.1 (closed k.size (marks_of k) k.arcs whole.1 whole.0)
 
 -- a solution's lines
-abbrev pub IsInsideSolution : Stated → Type 0
-IsInsideSolution k = IsWithinLimits k.nodes (written_of k)
+abbrev pub IsInsideSolution : SolutionSoFar → Type 0
+IsInsideSolution k = IsWithinLimits k.nodes (written_of (stated_in k))
 
-keeps_solution : (k : Stated) (letter : List ℕ) (others : List (List ℕ))
-    → solution_record_fault k (letter ∷ others) ≡ None → IsInsideSolution k
+keeps_solution : (k : SolutionSoFar) (letter : List ℕ) (others : List (List ℕ))
+    → solution_record_fault k.nodes (stated_in k) (letter ∷ others) ≡ None → IsInsideSolution k
     → IsInsideSolution (with_solution_record k (letter ∷ others))
 unfolding value_tests
 keeps_solution k letter others fine p = elim (cases_Bool (bytes_eq letter (codes "s"))) [
@@ -303,20 +304,15 @@ keeps_solution k letter others fine p = elim (cases_Bool (bytes_eq letter (codes
   ]
 ]
 
-nothing_stated : (nodes : ℕ) → IsInsideSolution (stated_of nodes [])
+nothing_stated : (nodes : ℕ) → IsInsideSolution (so_far_of nodes [])
 unfolding stated_of
 nothing_stated nodes = record { value_most = omega arith; lines_most = omega arith; lines_within = search std_rules }
-
-nodes_stated : (nodes : ℕ) (ls : List (List ℕ)) → (stated_of nodes ls).nodes ≡ nodes
-unfolding stated_of
-nodes_stated nodes ls = refl
 
 pub accepted_solution : (b : List ℕ) (nodes : ℕ) (found : Written) → solution b nodes ≡ Ok found
     → IsWithinLimits nodes found
 unfolding solution
 accepted_solution b nodes found h =
-    let parts = accepted-parts _ found (whole_fault solution_rules (stated_of nodes) b) h in
-    let whole = by_text solution_rules (stated_of nodes) with_solution_record (Adds-solution nodes) IsInsideSolution
-    keeps_solution b (nothing_stated nodes) parts.0 in
-    subst (λ (w : Written). IsWithinLimits nodes w) parts.1
-    (subst (λ n. IsWithinLimits n (written_of (stated_of nodes (lines b)))) (nodes_stated nodes (lines b)) whole.0)
+    let parts = accepted-parts _ found (whole_fault (solution_rules nodes) stated_of b) h in
+    let whole = by_text so_far_rules (so_far_of nodes) with_solution_record (Adds-solution nodes) IsInsideSolution
+    keeps_solution b (nothing_stated nodes) (whole-same nodes b ∙ parts.0) in
+    subst (λ (w : Written). IsWithinLimits nodes w) parts.1 whole.0

@@ -12,17 +12,15 @@ use Rattle.flow_text.specs.declared.faults.FaultCode.TheVariants.{UnknownLine, W
 use Rattle.flow_text.specs.declared.solutions.FlowLine.{FlowLine}
 use Rattle.flow_text.specs.declared.limits.TheConstants.{GREATEST_VALUE, MOST_FLOW_LINES}
 
--- What the lines before a line say: VALUE and the flow lines; and NODES of the problem.
+-- What the lines before a line say: VALUE and the flow lines.
 pub record Stated : Type 0 where
-  pub nodes : ℕ
   pub value : Option ℕ
   pub lines : List FlowLine
 
 -- VALUE of the first line `s VALUE`, and SRC, DST and FLOW of the lines `f SRC DST FLOW`, in order. A comment is
 -- none of these: its first field begins with 'c'.
-unfoldable pub stated_of : ℕ → List (List ℕ) → Stated
-stated_of nodes before = let records = map fields_of before in record {
-  nodes = nodes;
+unfoldable pub stated_of : List (List ℕ) → Stated
+stated_of before = let records = map fields_of before in record {
   value = option_map (λ fields. number_at fields 1) (find (names (codes "s")) records);
   lines = map (λ fields. record { src = number_at fields 1; dst = number_at fields 2; flow = number_at fields 3 })
       (filter (names (codes "f")) records);
@@ -34,23 +32,26 @@ value_tests fields =
     (not (length fields == 2), WrongFields) ∷ number_tests (field_at fields 1) 0 GREATEST_VALUE ValueOutOfRange
 
 -- the tests of a flow line
-abbrev pub flow_tests : Stated → List (List ℕ) → List Test
-flow_tests stated fields =
+abbrev pub flow_tests : ℕ → Stated → List (List ℕ) → List Test
+flow_tests nodes stated fields =
     (not (is_some stated.value), SolutionLineMissing)
     ∷ (nat_le MOST_FLOW_LINES (length stated.lines), TooManyFlowLines)
-    ∷ ends_tests stated.nodes FlowOutOfRange fields
+    ∷ ends_tests nodes FlowOutOfRange fields
 
--- the fault of a line with these fields
-unfoldable pub solution_record_fault : Stated → List (List ℕ) → Option FaultCode
-solution_record_fault stated fields =
+-- the fault of a line with these fields, for a problem of so many nodes
+unfoldable pub solution_record_fault : ℕ → Stated → List (List ℕ) → Option FaultCode
+solution_record_fault nodes stated fields =
     if names (codes "s") fields then first_failed ((is_some stated.value, SecondSolutionLine) ∷ value_tests fields)
-    else if names (codes "f") fields then first_failed (flow_tests stated fields)
+    else if names (codes "f") fields then first_failed (flow_tests nodes stated fields)
     else Some UnknownLine
 
--- the rules of a solution file
-abbrev pub solution_rules : Rules Stated
-solution_rules = let end_fault = λ (stated : Stated). if is_some stated.value then None else Some SolutionLineMissing in
-    record { record_fault = solution_record_fault; end_fault = end_fault }
+-- the fault of the end of input
+abbrev pub solution_end_fault : Stated → Option FaultCode
+solution_end_fault stated = if is_some stated.value then None else Some SolutionLineMissing
+
+-- the rules of a solution file, for a problem of so many nodes
+abbrev pub solution_rules : ℕ → Rules Stated
+solution_rules nodes = record { record_fault = solution_record_fault nodes; end_fault = solution_end_fault }
 
 -- what an accepted solution says: VALUE and the flow lines
 pub record Written : Type 0 where
@@ -62,9 +63,9 @@ written_of stated = record { value = unwrap_or stated.value 0; lines = stated.li
 
 -- the early fault of a solution text that may go on, for a problem of so many nodes
 abbrev pub early_solution : List ℕ → ℕ → Option (ℕ × FaultCode)
-early_solution b nodes = early_fault solution_rules (stated_of nodes) b
+early_solution b nodes = early_fault (solution_rules nodes) stated_of b
 
 -- the first fault of a whole solution text, or what it says
 unfoldable pub solution : List ℕ → ℕ → Result Written (ℕ × FaultCode)
 solution b nodes =
-    option_map_or Err (whole_fault solution_rules (stated_of nodes) b) (Ok (written_of (stated_of nodes (lines b))))
+    option_map_or Err (whole_fault (solution_rules nodes) stated_of b) (Ok (written_of (stated_of (lines b))))

@@ -1,8 +1,8 @@
 //! The judge of the lines of a solution.
 ghost use Rattle.std.specs.Prelude.{◌≡◌, ◌≤◌, [], ◌∷◌, ◌++◌, List, ℕ, Some, None, is_some, true, length, IfOk, MatchResult};
 ghost use Rattle.flow_text.specs.Tests.{first_failed};
-ghost use Rattle.flow_text.specs.Solution.{stated_of, value_tests, flow_tests, solution_rules, written_of};
-ghost use Rattle.flow_text.specs.SolutionReading.{solution_tests};
+ghost use Rattle.flow_text.specs.Solution.{value_tests, flow_tests, written_of};
+ghost use Rattle.flow_text.specs.SolutionReading.{solution_tests, so_far_of, so_far_rules, stated_in};
 ghost use Rattle.flow_text.specs.SolutionReading.{given_of, flow_of, KeepsLine, with_solution_record, written_in, IsWithinLimits};
 ghost use Rattle.flow_text.specs.Reading.{Judges};
 
@@ -39,22 +39,22 @@ pub(crate) struct SolutionLines {
 }
 
 impl Model for SolutionLines {
-    ghost use Rattle.flow_text.specs.Solution.{Stated, written_of};
-    ghost use Rattle.flow_text.specs.SolutionReading.{IsWithinLimits};
+    ghost use Rattle.flow_text.specs.Solution.{written_of};
+    ghost use Rattle.flow_text.specs.SolutionReading.{SolutionSoFar, IsWithinLimits};
 
-    ghost Value = { Stated };
+    ghost Value = { SolutionSoFar };
 
     ghost view = { λ s. record { nodes = s.nodes; value = s.value; lines = s.lines.items } };
 
     ghost invariant = { λ s. IsWithinLimits s.nodes
-        (written_of (record { nodes = s.nodes; value = s.value; lines = s.lines.items })) };
+        (written_of (record { value = s.value; lines = s.lines.items })) };
 }
 
 impl SolutionLines {
     /// The judge before the first line. It takes no memory.
     #[tactic(auto, unfolding(crate::specs::Solution::stated_of))]
     pub(crate) fn new(alloc: Global, nodes: u32) -> SolutionLines
-        ensures { result ≡ stated_of nodes [] }
+        ensures { result ≡ so_far_of nodes [] }
     {
         SolutionLines {
             nodes,
@@ -82,7 +82,8 @@ impl SolutionLines {
 
     /// Judges a flow line, and keeps it.
     fn flow_line(&mut self, others: Fields<'_>) -> Result<(), Refusal>
-        ensures { (kind : List ℕ) → Judges (first_failed (flow_tests self.old (kind ∷ others.entry)))
+        ensures { (kind : List ℕ) → Judges
+            (first_failed (flow_tests self.old.nodes (stated_in self.old) (kind ∷ others.entry)))
             (record self.old { lines = self.old.lines ++ flow_of (kind ∷ others.entry) ∷ [] }) result self.new }
     {
         if self.value.is_none() {
@@ -135,7 +136,7 @@ impl SolutionLines {
     /// The solution, where the end of input has no fault.
     pub(crate) fn into_solution(self) -> Solution
         requires { is_some self.value ≡ true }
-        ensures written { written_in result ≡ written_of self }
+        ensures written { written_in result ≡ written_of (stated_in self) }
         ensures limits { IsWithinLimits self.nodes (written_in result) }
     {
         let SolutionLines {
@@ -151,7 +152,7 @@ impl SolutionLines {
 }
 
 impl Judge for SolutionLines {
-    ghost rules = { solution_rules };
+    ghost rules = { so_far_rules };
 
     ghost with_record = { with_solution_record };
 

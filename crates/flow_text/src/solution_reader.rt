@@ -24,10 +24,10 @@ pub struct SolutionReader {
 }
 
 impl Model for SolutionReader {
-    ghost use Rattle.flow_text.specs.Solution.{Stated};
+    ghost use Rattle.flow_text.specs.SolutionReading.{SolutionSoFar};
     ghost use Rattle.flow_text.specs.Reading.{State};
 
-    ghost Value = { State Stated };
+    ghost Value = { State SolutionSoFar };
 
     ghost view = { λ r. r.machine };
 }
@@ -80,7 +80,7 @@ impl SolutionReader {
         ensures lent { result.now ≡ lent_lines self.now }
         ensures most { length result.now ≤ MOST_FLOW_LINES }
         ensures ended { (nodes : ℕ) (b : List ℕ) → ReadsSolution nodes self.now b
-            → result.now ≡ (stated_of nodes (ended b)).lines }
+            → result.now ≡ (stated_of (ended b)).lines }
     {
         match self.machine.judge() {
             None => &[],

@@ -19,9 +19,9 @@ use Rattle.flow_text.specs.Tests.{first_failed}
 use Rattle.flow_text.specs.Rules.{fault_of, first_fault, whole_fault}
 use Rattle.flow_text.specs.Output.{line_of, flow_line, solve_text}
 use Rattle.flow_text.specs.Reading.{with_line}
-use Rattle.flow_text.specs.Solution.{Stated, stated_of, solution_rules, value_tests, flow_tests}
+use Rattle.flow_text.specs.Solution.{solution, stated_of, value_tests, flow_tests}
+use Rattle.flow_text.specs.SolutionReading.{SolutionSoFar, so_far_of, so_far_rules, stated_in}
 use Rattle.flow_text.specs.SolutionReading.{solution_tests}
-use Rattle.flow_text.specs.Solution.{solution}
 use Rattle.flow_text.specs.SolutionReading.{given_of, flow_of, with_solution_record}
 use Rattle.flow_text.specs.declared.solutions.FlowLine.{FlowLine}
 use Rattle.flow_text.specs.declared.faults.FaultCode.TheVariants.{FlowOutOfRange}
@@ -30,7 +30,7 @@ use Rattle.flow_text.specs.declared.limits.TheConstants.{LONGEST_LINE, MOST_FLOW
 use Rattle.flow_text.proofs.CutLemmas.{ended-joined}
 use Rattle.flow_text.proofs.FieldLemmas.{fields_of-blank, fields_of-last, fields_of-field}
 use Rattle.flow_text.proofs.RuleLemmas.{of_fields}
-use Rattle.flow_text.proofs.SolutionLemmas.{of_solution, of_flow, Adds-solution}
+use Rattle.flow_text.proofs.SolutionLemmas.{of_solution, of_flow, Adds-solution, whole-same}
 use Rattle.flow_text.proofs.UsualLemmas.{ends-pass}
 use Rattle.flow_text.proofs.OutputLemmas.{value_line_short, flow_line_short}
 use Rattle.flow_tools.specs.SolvedTexts.{carried_line, written_flow}
@@ -121,7 +121,7 @@ flow_no_end src dst flow s t x p q r =
 
 -- the value passes all tests of its line
 value_passes : (nodes value : ℕ) (ds : List ℕ) → IsPrinted value ds → value ≤ GREATEST_VALUE
-    → first_failed (solution_tests (stated_of nodes []) ((115 ∷ []) ∷ ds ∷ [])) ≡ None
+    → first_failed (solution_tests (so_far_of nodes []) ((115 ∷ []) ∷ ds ∷ [])) ≡ None
 unfolding value_tests stated_of
 value_passes nodes value ds p h =
     let is : is_number ds ≡ true = number_printed value ds p in
@@ -132,33 +132,33 @@ value_passes nodes value ds p h =
 
 -- what is known after it
 begun : (nodes : ℕ) (ds : List ℕ) (value : ℕ) → value_of ds ≡ value
-    → ◌≡◌ {A = Stated} (record (stated_of nodes []) { value = Some (given_of ((115 ∷ []) ∷ ds ∷ [])) })
+    → ◌≡◌ {A = SolutionSoFar} (record (so_far_of nodes []) { value = Some (given_of ((115 ∷ []) ∷ ds ∷ [])) })
     (record { nodes = nodes; value = Some value; lines = [] })
 unfolding stated_of
 begun nodes ds value e =
-    ap (λ (v : ℕ). let stated : Stated = record { nodes = nodes; value = Some v; lines = [] } in stated) e
+    ap (λ (v : ℕ). let so_far : SolutionSoFar = record { nodes = nodes; value = Some v; lines = [] } in so_far) e
 
 -- so the first line has no fault, and says the value
 value_added : (nodes value : ℕ) → value ≤ GREATEST_VALUE
-    → (fault_of solution_rules (stated_of nodes []) (value_body value) ≡ None)
-    × (stated_of nodes (value_body value ∷ []) ≡ record { nodes = nodes; value = Some value; lines = [] })
+    → (fault_of so_far_rules (so_far_of nodes []) (value_body value) ≡ None)
+    × (so_far_of nodes (value_body value ∷ []) ≡ record { nodes = nodes; value = Some value; lines = [] })
 value_added nodes value h =
     let ds = decimal value in
     let p = printed value (omega arith) in
     let size : length (line_of "s" (value ∷ [])) ≤ 128 = value_line_short value (omega arith) in
     let short : length (value_body value) ≤ LONGEST_LINE =
     omega (arith, ap length (value_line_is value), length-append (value_body value) (10 ∷ [])) in
-    let of = of_fields solution_rules with_solution_record (stated_of nodes []) (value_body value) (115 ∷ []) (ds ∷ [])
+    let of = of_fields so_far_rules with_solution_record (so_far_of nodes []) (value_body value) (115 ∷ []) (ds ∷ [])
     refl short (value_fields value ds p) in
-    let as_value = of_solution (stated_of nodes []) (115 ∷ []) (ds ∷ []) refl in
+    let as_value = of_solution (so_far_of nodes []) (115 ∷ []) (ds ∷ []) refl in
     let fine = of.0 ∙ as_value.0 ∙ value_passes nodes value ds p h in
     (fine, Adds-solution nodes [] (value_body value) fine ∙ of.1 ∙ as_value.1 ∙ begun nodes ds value p.value)
 
 -- a flow line behind it has no fault, and is kept
-flow_added : (old : Stated) (flow : FlowLine) → old.nodes ≤ MOST_NODES → is_some old.value ≡ true
+flow_added : (old : SolutionSoFar) (flow : FlowLine) → old.nodes ≤ MOST_NODES → is_some old.value ≡ true
     → length old.lines < MOST_FLOW_LINES → 1 ≤ flow.src → flow.src ≤ old.nodes → 1 ≤ flow.dst → flow.dst ≤ old.nodes
     → flow.flow < 2 ^ 64
-    → (fault_of solution_rules old (flow_body flow.src flow.dst flow.flow) ≡ None)
+    → (fault_of so_far_rules old (flow_body flow.src flow.dst flow.flow) ≡ None)
     × (with_line with_solution_record old (flow_body flow.src flow.dst flow.flow)
     ≡ record old { lines = old.lines ++ flow ∷ [] })
 flow_added old flow n some room s_least s_most d_least d_most fits =
@@ -173,49 +173,49 @@ flow_added old flow n some room s_least s_most d_least d_most fits =
     flow_line_short flow.src flow.dst flow.flow (omega arith) (omega arith) fits in
     let short : length body ≤ LONGEST_LINE =
     omega (arith, ap length (flow_line_is flow.src flow.dst flow.flow), length-append body (10 ∷ [])) in
-    let of = of_fields solution_rules with_solution_record old body (102 ∷ []) (s ∷ t ∷ x ∷ []) refl short
+    let of = of_fields so_far_rules with_solution_record old body (102 ∷ []) (s ∷ t ∷ x ∷ []) refl short
     (flow_fields flow.src flow.dst flow.flow s t x p q r) in
     let as_flow = of_flow old (102 ∷ []) (s ∷ t ∷ x ∷ []) refl refl in
     let is : flow_of ((102 ∷ []) ∷ s ∷ t ∷ x ∷ []) ≡ flow = rw (p.value, q.value, r.value) refl in
     let few : nat_le MOST_FLOW_LINES (length old.lines) ≡ false = search (std_rules, arith) in
-    let passes : first_failed (flow_tests old ((102 ∷ []) ∷ s ∷ t ∷ x ∷ [])) ≡ None =
+    let passes : first_failed (flow_tests old.nodes (stated_in old) ((102 ∷ []) ∷ s ∷ t ∷ x ∷ [])) ≡ None =
     rw (some, few) (ends-pass old.nodes FlowOutOfRange (102 ∷ []) s t x (number_printed flow.src s p)
     (rw p.value (s_least, s_most)) (number_printed flow.dst t q) (rw q.value (d_least, d_most))
     (number_printed flow.flow x r) (rw r.value (omega arith))) in (
       of.0 ∙ as_flow.0 ∙ passes,
       of.1 ∙ as_flow.1
-          ∙ ap (λ (f : FlowLine). let stated : Stated = record old { lines = old.lines ++ f ∷ [] } in stated) is,
+          ∙ ap (λ (f : FlowLine). let so_far : SolutionSoFar = record old { lines = old.lines ++ f ∷ [] } in so_far) is,
     )
 
 -- ---- all lines
 
 -- what is known after the line of the value and some flow lines
-abbrev pub known : ℕ → ℕ → List FlowLine → Stated
+abbrev pub known : ℕ → ℕ → List FlowLine → SolutionSoFar
 known nodes value done = record { nodes = nodes; value = Some value; lines = done }
 
 -- no fault in a line and none in those behind it: none in all
 one_fine : (before after : List (List ℕ)) (line : List ℕ) (nodes : ℕ)
-    → fault_of solution_rules (stated_of nodes before) line ≡ None
-    → first_fault solution_rules (stated_of nodes) (before ++ line ∷ []) after ≡ None
-    → first_fault solution_rules (stated_of nodes) before (line ∷ after) ≡ None
+    → fault_of so_far_rules (so_far_of nodes before) line ≡ None
+    → first_fault so_far_rules (so_far_of nodes) (before ++ line ∷ []) after ≡ None
+    → first_fault so_far_rules (so_far_of nodes) before (line ∷ after) ≡ None
 unfolding first_fault
 one_fine before after line nodes fine rest = rw (fine, rest) refl
 
-none_fine : (before : List (List ℕ)) (nodes : ℕ) → first_fault solution_rules (stated_of nodes) before [] ≡ None
+none_fine : (before : List (List ℕ)) (nodes : ℕ) → first_fault so_far_rules (so_far_of nodes) before [] ≡ None
 unfolding first_fault
 none_fine before nodes = refl
 
 module _ (nodes value : ℕ) (n : nodes ≤ MOST_NODES) where
   -- so no line has a fault, and all flow lines are kept
   flows_fine : (before : List (List ℕ)) (done : List FlowLine) (arcs : List Arc) (xs : List ℕ)
-      → stated_of nodes before ≡ known nodes value done → length done + length arcs ≤ MOST_FLOW_LINES
+      → so_far_of nodes before ≡ known nodes value done → length done + length arcs ≤ MOST_FLOW_LINES
       → AllByRecursion (IsArcWithin nodes) arcs → AllZip (λ a x. x ≤ a.cap) arcs xs
-      → (first_fault solution_rules (stated_of nodes) before (map body_of (zip arcs xs)) ≡ None)
-      × (stated_of nodes (before ++ map body_of (zip arcs xs))
+      → (first_fault so_far_rules (so_far_of nodes) before (map body_of (zip arcs xs)) ≡ None)
+      × (so_far_of nodes (before ++ map body_of (zip arcs xs))
       ≡ known nodes value (done ++ map carried_line (zip arcs xs)))
   flows_fine before done [] [] e few w f = (
     none_fine before nodes,
-    ap (stated_of nodes) (append-nil before) ∙ e ∙ ap (known nodes value) (sym (append-nil done)),
+    ap (so_far_of nodes) (append-nil before) ∙ e ∙ ap (known nodes value) (sym (append-nil done)),
   )
   flows_fine before done [] (x ∷ xs) e few w f = absurd f
   flows_fine before done (a ∷ arcs) [] e few w f = absurd f
@@ -226,14 +226,14 @@ module _ (nodes value : ℕ) (n : nodes ≤ MOST_NODES) where
       let at_most = f.0 in
       let added = flow_added (known nodes value done) line n refl (omega arith) w.0.src_least w.0.src_most w.0.dst_least
       w.0.dst_most (omega arith) in
-      let fine : fault_of solution_rules (stated_of nodes before) body ≡ None =
-      ap (λ k. fault_of solution_rules k body) e ∙ added.0 in
-      let next : stated_of nodes (before ++ body ∷ []) ≡ known nodes value (done ++ line ∷ []) =
+      let fine : fault_of so_far_rules (so_far_of nodes before) body ≡ None =
+      ap (λ k. fault_of so_far_rules k body) e ∙ added.0 in
+      let next : so_far_of nodes (before ++ body ∷ []) ≡ known nodes value (done ++ line ∷ []) =
       Adds-solution nodes before body fine ∙ ap (λ k. with_line with_solution_record k body) e ∙ added.1 in
       let rest = flows_fine (before ++ body ∷ []) (done ++ line ∷ []) arcs xs next
       (omega (arith, length-append done (line ∷ []))) w.1 f.1 in (
         one_fine before (map body_of (zip arcs xs)) body nodes fine rest.0,
-        ap (stated_of nodes) (sym (append_assoc before (body ∷ []) (map body_of (zip arcs xs)))) ∙ rest.1
+        ap (so_far_of nodes) (sym (append_assoc before (body ∷ []) (map body_of (zip arcs xs)))) ∙ rest.1
             ∙ ap (known nodes value) (append_assoc done (line ∷ []) (map carried_line (zip arcs xs))),
       )
 
@@ -261,11 +261,22 @@ lines_of_joined ls none =
     rw (cut.0, cut.1) (append-nil ls)
 
 -- a text whose lines have no fault is the solution that they say
+no_fault : (nodes value : ℕ) (b : List ℕ) (done : List FlowLine)
+    → first_fault so_far_rules (so_far_of nodes) [] (lines b) ≡ None
+    → stated_of (lines b) ≡ stated_in (known nodes value done) → whole_fault so_far_rules (so_far_of nodes) b ≡ None
+unfolding whole_fault
+no_fault nodes value b done fine said = rw (fine, said) refl
+
 whole_read : (nodes value : ℕ) (ls : List (List ℕ)) (b : List ℕ) (done : List FlowLine) → lines b ≡ ls
-    → first_fault solution_rules (stated_of nodes) [] ls ≡ None → stated_of nodes ls ≡ known nodes value done
+    → first_fault so_far_rules (so_far_of nodes) [] ls ≡ None → so_far_of nodes ls ≡ known nodes value done
     → solution b nodes ≡ Ok (record { value = value; lines = done })
-unfolding solution whole_fault
-whole_read nodes value ls b done e fine says = rw (e, fine, says) refl
+unfolding solution
+whole_read nodes value ls b done e fine says =
+    let so_far : so_far_of nodes (lines b) ≡ known nodes value done = ap (so_far_of nodes) e ∙ says in
+    let said : stated_of (lines b) ≡ stated_in (known nodes value done) =
+    ap (λ (k : SolutionSoFar). stated_in k) so_far in
+    let none = no_fault nodes value b done (rw e fine) said in
+    rw (sym (whole-same nodes b) ∙ none, said) refl
 
 -- a printed flow, read as a solution
 pub solved_is_accepted : (net : Net) (value : ℕ) (flows : List ℕ) → IsNet net → length net.arcs ≤ MOST_ARCS

@@ -50,5 +50,5 @@ impl Reader for SolutionReader {
         SolutionReader::finish(self)
     }
 
-    ghost quiet = { λ _ _ _ h. h.fine };
+    ghost quiet = { λ _ _ _ h. h.1 };
 }

@@ -4,4 +4,4 @@ use Rattle.flow_text.proofs.laws.early_solution_fault_stays.Goals as goal
 
 pub returns : goal.returns
 unfolding solution
-returns c = λ b x nodes fault h. early-whole solution_rules (stated_of nodes) _ b x fault h
+returns c = λ b x nodes fault h. early-whole (solution_rules nodes) stated_of _ b x fault h

@@ -1,5 +1,5 @@
 use Rattle.std.proofs.Common.{sym, ◌∙◌, ap, ℕ, Some}
-use Rattle.flow_text.specs.Solution.{Stated}
+use Rattle.flow_text.specs.SolutionReading.{SolutionSoFar}
 use Rattle.flow_text.proofs.solution_lines.SolutionLines.solution_line.Goals as goal
 
 pub returns-in-Ok : goal.returns-in-Ok
@@ -8,10 +8,10 @@ returns-in-Ok c = λ kind.
     rw (← c.self.view_is) (
       rw (sym c.is_some.ensures ∙ c.if-is_some.false) ok.0,
       ap (λ (value : ℕ).
-          let stated : Stated = record {
+          let known : SolutionSoFar = record {
             nodes = c.self.inside.nodes;
             value = Some value;
             lines = c.self.inside.lines.items;
           } in
-          stated) ok.1,
+          known) ok.1,
     )

@@ -1,5 +1,9 @@
-use Rattle.flow_text.specs.Solution.{stated_of}
+use Rattle.std.proofs.Common.{[], sym, ◌∙◌}
+use Rattle.flow_text.specs.SolutionReading.{so_far_of}
+use Rattle.flow_text.proofs.SolutionLemmas.{early-same}
 use Rattle.flow_text.proofs.solution_reader.SolutionReader.new.Goals as goal
 
 pub returns : goal.returns
-returns c = c.new-2.ensures (stated_of c.args.nodes) c.new.ensures
+returns c =
+    let r = c.new-2.ensures (so_far_of c.args.nodes) c.new.ensures in
+    (r, sym (early-same c.args.nodes []) ∙ r.fine)

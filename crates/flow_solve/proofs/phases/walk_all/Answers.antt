@@ -3,21 +3,11 @@ use Rattle.std.specs.Prelude.{slice_index}
 use Rattle.flow_net.specs.NodeSets.{one_of}
 use Rattle.flow_solve.specs.Searches.{seen}
 use Rattle.flow_solve.specs.Levels.{cell_of, place_of, IsDead}
-use Rattle.flow_net.proofs.NodeLists.{one_of-at, place_in}
-use Rattle.flow_solve.proofs.Searched.{seen_marked, unmarked_unseen}
+use Rattle.flow_net.proofs.NodeLists.{place_in}
+use Rattle.flow_solve.proofs.Searched.{unmarked_unseen}
 use Rattle.flow_solve.proofs.Walks.{dead_on}
 use Rattle.flow_solve.proofs.phases.walk_all.Goals.{then-phase-source-lt-WANTED, else-phase-source-lt-WANTED}
 use Rattle.flow_solve.proofs.phases.walk_all.Goals as goal
-
-pub walk-raised-requires-clause-source : goal.walk-raised-requires-clause-source
-walk-raised-requires-clause-source c = one_of-at c.args.phase.s.now c.loop-source.source-index c.loop-source-test.true
-
-pub walk-raised-requires-clause-ranked : goal.walk-raised-requires-clause-ranked
-walk-raised-requires-clause-ranked c =
-    let source = get_or c.args.phase.s.now c.loop-source.source-index 0 in
-    let node = c.requires.run.terminals.sources_within c.loop-source.source-index 0 c.loop-source-test.true in
-    c.requires.ranked source (seen_marked c.args.phase.dist.now source node.0
-    (omega (arith, node, c.requires.run.dist_size)) c.if-phase-source-lt-WANTED.true)
 
 pub loop-source-preserved : goal.loop-source-preserved
 loop-source-preserved c =

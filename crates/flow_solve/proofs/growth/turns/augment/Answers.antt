@@ -5,21 +5,9 @@ use Rattle.flow_net.specs.NodeSets.{just}
 use Rattle.flow_net.specs.Orders.{before}
 use Rattle.flow_net.specs.Residual.{residual, pushed}
 use Rattle.flow_solve.specs.Searches.{near_end, far_end}
-use Rattle.flow_solve.proofs.Growing.{IsUnderWay, way_begins, way_on, way_ends}
+use Rattle.flow_solve.proofs.Growing.{IsUnderWay, way_on, way_ends}
 use Rattle.flow_solve.proofs.SeenCells.{terminal_at}
 use Rattle.flow_solve.proofs.growth.turns.augment.Goals as goal
-
-pub loop-half-init : goal.loop-half-init
-loop-half-init c = record {
-  fits = c.requires.fits;
-  node = c.requires.turn.ordered.within c.args.turn.place (omega (arith, c.requires.turn.place, c.requires.turn.size));
-  way = λ f.
-      way_begins c.args.turn.packed.net.now (just (slice_index c.args.turn.order.now c.args.turn.place))
-      (before c.args.turn.order.now c.args.turn.place) c.args.flow.now.flows
-      (slice_index c.args.turn.order.now c.args.turn.place) c.args.turn.direction f;
-  never_lowered = omega arith;
-  steps = omega arith;
-}
 
 pub loop-half-preserved : goal.loop-half-preserved
 loop-half-preserved c =

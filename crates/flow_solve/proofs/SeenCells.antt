@@ -1,7 +1,6 @@
 -- The cells and the queue of a search: which nodes are seen.
 use Rattle.std.proofs.Common.{◌≡◌, ◌≢◌, ℕ, zero, suc, ◌+◌, ◌-◌, ◌≤◌, ◌<◌, ◌⊎◌, true, List, length}
-use Rattle.std.proofs.Common.{get_or, set, get_or-set_same, get_or-set_other, ◌∙◌, sym, ap, subst}
-use Rattle.std.proofs.Common.{inl, inr, leb, arith}
+use Rattle.std.proofs.Common.{get_or, set, get_or-set_same, get_or-set_other, ◌∙◌, sym, ap, subst, inl, inr, leb, arith}
 use Rattle.std.specs.Prelude.{slice_index}
 use Rattle.std.proofs.lemmas.Bool.{cases_Bool, cases_eq, cases_lt, false≢true, eqb-true}
 use Rattle.std.proofs.lemmas.Bool.Decides.{nat_tests}

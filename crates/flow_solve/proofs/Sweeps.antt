@@ -7,8 +7,7 @@ use Rattle.flow_net.specs.NodeSets.{one_of}
 use Rattle.flow_solve.specs.declared.searching.Direction.{Direction}
 use Rattle.flow_solve.specs.Packs.{IsPacked}
 use Rattle.flow_solve.specs.Searches.{IsMarked, IsClosedFor, ContainsMarked, ContainsAll, IsQueue, IsNear, IsCome}
-use Rattle.flow_solve.specs.Searches.{IsDone}
-use Rattle.flow_solve.specs.Searches.{IsSearched, queued}
+use Rattle.flow_solve.specs.Searches.{IsDone, IsSearched, queued}
 use Rattle.flow_solve.proofs.Queues.{queue_short, queue_most, queued_rises, total_ranges}
 
 -- the places in the first cells of the queue are done

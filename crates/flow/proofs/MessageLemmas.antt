@@ -30,28 +30,28 @@ stops_in_name a b c name p s =
     stops_behind a b c (codes "flow: cannot open ") (name ++ 10 ∷ []) p
     (stops_early b c name (10 ∷ []) (name ++ 10 ∷ []) s refl)
 
--- at the line's end
-stops_behind_name : {E : Type 0} (a b c d : Option (List ℕ)) (name : List ℕ) (r : Result (Unit {0}) E)
-    → Appends a b (codes "flow: cannot open ") → Appends b c name
-    → OnErr r (Stops c d (10 ∷ [])) → OnErr r (Stops a d (cannot_open name))
-stops_behind_name a b c d name (Ok x) p q s = tt
-stops_behind_name a b c d name (Err e) p q s =
-    stops_behind a b d (codes "flow: cannot open ") (name ++ 10 ∷ []) p (stops_behind b c d name (10 ∷ []) q s)
+-- behind the words and the name
+module _ {E : Type 0} (a b c d : Option (List ℕ)) (name : List ℕ) (words : Appends a b (codes "flow: cannot open "))
+    (named : Appends b c name) where
+  -- at the line's end
+  stops_behind_name : (r : Result (Unit {0}) E) → OnErr r (Stops c d (10 ∷ [])) → OnErr r (Stops a d (cannot_open name))
+  stops_behind_name (Ok x) s = tt
+  stops_behind_name (Err e) s =
+      stops_behind a b d (codes "flow: cannot open ") (name ++ 10 ∷ []) words
+      (stops_behind b c d name (10 ∷ []) named s)
 
--- the whole line is put
-whole_put : {E : Type 0} (a b c d : Option (List ℕ)) (name : List ℕ) (r : Result (Unit {0}) E)
-    → Appends a b (codes "flow: cannot open ") → Appends b c name
-    → OnOk r (Appends c d (10 ∷ [])) → OnOk r (Appends a d (cannot_open name))
-whole_put a b c d name (Ok x) p q s =
-    Appends-trans a b d (codes "flow: cannot open ") (name ++ 10 ∷ []) p (Appends-trans b c d name (10 ∷ []) q s)
-whole_put a b c d name (Err e) p q s = tt
+  -- the whole line is put
+  whole_put : (r : Result (Unit {0}) E) → OnOk r (Appends c d (10 ∷ [])) → OnOk r (Appends a d (cannot_open name))
+  whole_put (Ok x) s =
+      Appends-trans a b d (codes "flow: cannot open ") (name ++ 10 ∷ []) words
+      (Appends-trans b c d name (10 ∷ []) named s)
+  whole_put (Err e) s = tt
 
--- all of it
-pub put_whole : {E : Type 0} (a b c d : Option (List ℕ)) (f g h : Bool) (name : List ℕ) (r : Result (Unit {0}) E)
-    → Appends a b (codes "flow: cannot open ") → Appends b c name → g ≡ f
-    → IsPut (10 ∷ []) (stream c d g h) r → IsPut (cannot_open name) (stream a d f h) r
-put_whole a b c d f g h name r p q kept put = record {
-  ok = whole_put a b c d name r p q put.ok;
-  err = stops_behind_name a b c d name r p q put.err;
-  flag = flags_on f g h r kept put.flag;
-}
+  -- all of it
+  pub put_whole : (f g h : Bool) (r : Result (Unit {0}) E) → g ≡ f → IsPut (10 ∷ []) (stream c d g h) r
+      → IsPut (cannot_open name) (stream a d f h) r
+  put_whole f g h r kept put = record {
+    ok = whole_put r put.ok;
+    err = stops_behind_name r put.err;
+    flag = flags_on f g h r kept put.flag;
+  }

@@ -153,38 +153,41 @@ comment-usual : (letter : ℕ) (src dst number : List ℕ) → is_comment (lette
 unfolding usual
 comment-usual letter src dst number h = h
 
--- three numbers behind the letter
-pub IsUsual-from : (letter : ℕ) (text : List ℕ) (src dst number first second third : ℕ) → IsLetter letter
-    → 2 ≤ length text → get_or text 0 0 ≡ letter → get_or text 1 0 ≡ 32
-    → IsNumberUntil (drop 2 text) 32 src first → IsNumberUntil (drop (first + 3) text) 32 dst second
-    → IsNumberUntil (drop (first + second + 4) text) 10 number third
-    → IsUsual letter text src dst number (first + second + third + 4)
-IsUsual-from letter text src dst number first second third l long is_letter is_blank' a b c =
-    let s = take first (drop 2 text) in
-    let d = take second (drop (first + 3) text) in
-    let n = take third (drop (first + second + 4) text) in
-    let more = drop (third + 1) (drop (first + second + 4) text) in
-    let a_end : drop (first + 1) (drop 2 text) ≡ drop (first + 3) text =
-    drop-drop (first + 1) 2 text ∙ ap (λ k. drop k text) (omega arith) in
-    let b_end : drop (second + 1) (drop (first + 3) text) ≡ drop (first + second + 4) text =
-    drop-drop (second + 1) (first + 3) text ∙ ap (λ k. drop k text) (omega arith) in
-    let front : text ≡ letter ∷ 32 ∷ drop 2 text =
+-- the letter and the blank in front of the numbers
+pub letter-front : (letter : ℕ) (text : List ℕ) → 2 ≤ length text → get_or text 0 0 ≡ letter → get_or text 1 0 ≡ 32
+    → text ≡ letter ∷ 32 ∷ drop 2 text
+letter-front letter text long is_letter is_blank' =
     drop-cons text 0 0 (omega arith) ∙ ap (λ x. x ∷ drop 1 text) is_letter
-    ∙ ap (λ rest. letter ∷ rest) (drop-cons text 1 0 (omega arith) ∙ ap (λ x. x ∷ drop 2 text) is_blank') in
-    let whole : text ≡ letter ∷ 32 ∷ (s ++ 32 ∷ (d ++ 32 ∷ (n ++ 10 ∷ more))) =
-    front ∙ ap (λ rest. letter ∷ 32 ∷ rest) (split-number (drop 2 text) 32 src first a
-    ∙ ap (λ rest. s ++ 32 ∷ rest) (a_end ∙ split-number (drop (first + 3) text) 32 dst second b
-    ∙ ap (λ rest. d ++ 32 ∷ rest) (b_end ∙ split-number (drop (first + second + 4) text) 10 number third c))) in
-    let line = usual letter s d n in
-    let is : text ≡ line ++ 10 ∷ more = text-usual letter text s d n more whole in
-    let a_len = length-take-le first (drop 2 text) (omega arith) in
-    let b_len = length-take-le second (drop (first + 3) text) (omega (arith, b.within)) in
-    let c_len = length-take-le third (drop (first + second + 4) text) (omega (arith, c.within)) in
-    let len : length line ≡ first + second + third + 4 = length-usual letter s d n ∙ omega arith in
-    let taken : take (first + second + third + 4) text ≡ line =
-    ap (λ k. take k text) (sym len) ∙ ap (take (length line)) is ∙ take-append_seam line (10 ∷ more) in
+    ∙ ap (λ rest. letter ∷ rest) (drop-cons text 1 0 (omega arith) ∙ ap (λ x. x ∷ drop 2 text) is_blank')
+
+-- three numbers behind them, by the places of the bytes behind the numbers
+pub IsUsual-at : (letter : ℕ) (text : List ℕ) {src dst number : ℕ} (first second at : ℕ) → IsLetter letter
+    → text ≡ letter ∷ 32 ∷ drop 2 text → IsNumberUntil (drop 2 text) 32 src (first - 2)
+    → IsNumberUntil (drop (first + 1) text) 32 dst (second - (first + 1))
+    → IsNumberUntil (drop (second + 1) text) 10 number (at - (second + 1)) → IsUsual letter text src dst number at
+IsUsual-at letter text {src} {dst} {number} first second at l front a b c =
     let a_some = a.some in let b_some = b.some in let c_some = c.some in
     let a_short = a.short in let b_short = b.short in let c_short = c.short in
+    let s = take (first - 2) (drop 2 text) in
+    let d = take (second - (first + 1)) (drop (first + 1) text) in
+    let n = take (at - (second + 1)) (drop (second + 1) text) in
+    let more = drop (at - (second + 1) + 1) (drop (second + 1) text) in
+    let a_end : drop (first - 2 + 1) (drop 2 text) ≡ drop (first + 1) text =
+    drop-drop (first - 2 + 1) 2 text ∙ ap (λ k. drop k text) (omega arith) in
+    let b_end : drop (second - (first + 1) + 1) (drop (first + 1) text) ≡ drop (second + 1) text =
+    drop-drop (second - (first + 1) + 1) (first + 1) text ∙ ap (λ k. drop k text) (omega arith) in
+    let whole : text ≡ letter ∷ 32 ∷ (s ++ 32 ∷ (d ++ 32 ∷ (n ++ 10 ∷ more))) =
+    front ∙ ap (λ rest. letter ∷ 32 ∷ rest) (split-number (drop 2 text) 32 src (first - 2) a
+    ∙ ap (λ rest. s ++ 32 ∷ rest) (a_end ∙ split-number (drop (first + 1) text) 32 dst (second - (first + 1)) b
+    ∙ ap (λ rest. d ++ 32 ∷ rest) (b_end ∙ split-number (drop (second + 1) text) 10 number (at - (second + 1)) c))) in
+    let line = usual letter s d n in
+    let is : text ≡ line ++ 10 ∷ more = text-usual letter text s d n more whole in
+    let a_len = length-take-le (first - 2) (drop 2 text) (omega (arith, a.within)) in
+    let b_len = length-take-le (second - (first + 1)) (drop (first + 1) text) (omega (arith, b.within)) in
+    let c_len = length-take-le (at - (second + 1)) (drop (second + 1) text) (omega (arith, c.within)) in
+    let len : length line ≡ at = length-usual letter s d n ∙ omega arith in
+    let taken : take at text ≡ line =
+    ap (λ k. take k text) (sym len) ∙ ap (take (length line)) is ∙ take-append_seam line (10 ∷ more) in
     record {
       first =
           subst (λ k. IsFirstByte (is_byte 10) text (Some k)) len
@@ -206,23 +209,6 @@ IsUsual-from letter text src dst number first second third l long is_letter is_b
       number_digits = number-of n (omega arith) c.leading.digits;
       number_value = sym c.leading.value_is;
     }
-
--- the same by the places of the bytes behind the numbers
-pub IsUsual-at : (letter : ℕ) (text : List ℕ) (src dst number first second at : ℕ) → IsLetter letter → 2 ≤ length text
-    → get_or text 0 0 ≡ letter → get_or text 1 0 ≡ 32
-    → 2 ≤ first → first + 1 ≤ second → second + 1 ≤ at
-    → IsNumberUntil (drop 2 text) 32 src (first - 2)
-    → IsNumberUntil (drop (first + 1) text) 32 dst (second - (first + 1))
-    → IsNumberUntil (drop (second + 1) text) 10 number (at - (second + 1))
-    → IsUsual letter text src dst number at
-IsUsual-at letter text src dst number first second at l long is_letter is_blank' low_first low_second low_at a b c =
-    let b_at : first + 1 ≡ first - 2 + 3 = omega arith in
-    let c_at : second + 1 ≡ first - 2 + (second - (first + 1)) + 4 = omega arith in
-    let last : first - 2 + (second - (first + 1)) + (at - (second + 1)) + 4 ≡ at = omega arith in
-    subst (λ k. IsUsual letter text src dst number k) last
-    (IsUsual-from letter text src dst number (first - 2) (second - (first + 1)) (at - (second + 1)) l long is_letter
-    is_blank' a (subst (λ k. IsNumberUntil (drop k text) 32 dst (second - (first + 1))) b_at b)
-    (subst (λ k. IsNumberUntil (drop k text) 10 number (at - (second + 1))) c_at c))
 
 -- a digit more, by its place in the whole text
 pub IsLeading-at : (text : List ℕ) (value start i : ℕ) → start ≤ i → i < length text

@@ -23,5 +23,5 @@ returns-in_err-put_all-2 g c = record {
 
 pub returns : goal.returns
 returns g c =
-    put_whole _ _ _ _ _ _ _ c.args.name.now c.put_all-3.result c.in_ok-put_all.ensures.ok c.in_ok-put_all-2.ensures.ok
+    put_whole _ _ _ _ c.args.name.now c.in_ok-put_all.ensures.ok c.in_ok-put_all-2.ensures.ok _ _ _ c.put_all-3.result
     (c.in_ok-put_all-2.ensures.flag ∙ c.in_ok-put_all.ensures.flag) c.put_all-3.ensures

@@ -1,5 +1,5 @@
 use Rattle.std.proofs.Common.{arith}
-use Rattle.flow_text.proofs.UsualLemmas.{IsUsual-at}
+use Rattle.flow_text.proofs.UsualLemmas.{IsUsual-at, letter-front}
 use Rattle.flow_text.proofs.usual_lines.usual_line.Goals as goal
 
 pub returns : goal.returns
@@ -7,5 +7,6 @@ returns c =
     let a = c.in_ok-src.ensures in
     let b = c.in_ok-dst.ensures in
     let n = c.in_ok-number.ensures in
-    IsUsual-at c.args.letter c.args.text.now _ _ _ c.in_ok-src.first c.in_ok-dst.second c.in_ok-number.at c.requires
-    (omega arith) c.if-text-letter.false c.if-text-ne32.false a.0 b.0 n.0 a.2 b.2 n.2
+    let front = letter-front c.args.letter c.args.text.now (omega arith) c.if-text-letter.false c.if-text-ne32.false in
+    IsUsual-at c.args.letter c.args.text.now c.in_ok-src.first c.in_ok-dst.second c.in_ok-number.at c.requires front
+    a.2 b.2 n.2

@@ -1,7 +1,9 @@
+-- `connectivity_by_growth`: no set has fewer arcs leaving it, by the law of growth along the order.
 use Rattle.std.proofs.Common.{◌≡◌, length, arith}
 use Rattle.flow_solve.proofs.Growing.{connected}
 use Rattle.flow_solve.proofs.growth.connectivity_by_growth.Goals as goal
 
+-- one pass each way
 pub returns-clause-connectivity : goal.returns-clause-connectivity
 returns-clause-connectivity c =
     let net = c.args.net.now in
@@ -14,6 +16,7 @@ returns-clause-connectivity c =
     (λ i h l X cut. omega (arith, fewer, c.in_ok-forth.ensures.below.0 i h (omega (arith, l, size)) X cut))
     (λ i h l X cut. c.in_ok-back.ensures.below.0 i h (omega (arith, l, size)) X cut)
 
+-- one pass, in a network both ways: as many arcs leave a set as enter it
 pub returns-then-is_both_ways-clause-connectivity : goal.returns-then-is_both_ways-clause-connectivity
 returns-then-is_both_ways-clause-connectivity c =
     let net = c.args.net.now in

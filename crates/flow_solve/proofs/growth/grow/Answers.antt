@@ -1,9 +1,12 @@
+-- `grow`: a turn for each node raises the flow between it and the nodes before it, so that the least number so far is
+-- that of some set, and no set that parts a node passed from those before it has fewer.
 use Rattle.std.proofs.Common.{◌≡◌, ◌<◌, ℕ, List, length, replicate, ◌∙◌, sym, ap, subst, inl, inr, arith}
 use Rattle.std.proofs.lemmas.Bool.{cases_eq, cases_lt}
 use Rattle.flow_solve.specs.Growth.{IsBalanced, IsBelow}
 use Rattle.flow_solve.proofs.Growing.{balanced_zeros, balanced_next, raised_none, raised_below, parted_proper}
 use Rattle.flow_solve.proofs.growth.grow.Goals as goal
 
+-- no flow, and no turn yet
 pub loop-place-init : goal.loop-place-init
 loop-place-init c =
     let zeros : c.clear.new.self.flows ≡ replicate (length c.args.first.packed.net.now.arcs) 0 =
@@ -28,6 +31,7 @@ loop-place-init c =
       };
     }
 
+-- a turn begins with the flow balanced at its node: it carries nothing yet
 pub raise-requires-clause-raised : goal.raise-requires-clause-raised
 raise-requires-clause-raised c =
     let j = c.loop-place.invariant in
@@ -35,6 +39,7 @@ raise-requires-clause-raised c =
     c.loop-place.flow.flows
     c.requires.turn.ordered (omega (arith, j.end, c.loop-place-test.true, c.requires.turn.size)) j.balanced
 
+-- a turn has found a set with fewer arcs, or none
 pub loop-place-preserved : goal.loop-place-preserved
 loop-place-preserved c =
     let j = c.loop-place.invariant in

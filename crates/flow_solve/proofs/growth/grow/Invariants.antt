@@ -1,3 +1,5 @@
+-- `grow`: the flow is balanced from this place on, the least number is reached by a set, and no place passed allows
+-- fewer.
 use Rattle.std.proofs.Common.{◌≡◌, ℕ, ◌*◌, ◌<◌, ◌≤◌, length}
 use Rattle.flow_net.specs.Flows.{Fits}
 use Rattle.flow_solve.specs.Growth.{HavePlaces, IsBalanced, IsBelow, IsClean, IsReached}

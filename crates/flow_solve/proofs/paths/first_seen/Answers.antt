@@ -1,9 +1,11 @@
+-- `first_seen`: the nodes of the list in turn.
 use Rattle.std.proofs.Common.{◌≡◌, false, get_or, subst, refl, arith}
 use Rattle.flow_solve.specs.Searches.{seen}
 use Rattle.flow_net.proofs.NodeLists.{one_of-at, place_in}
 use Rattle.flow_solve.proofs.Searched.{unmarked_unseen}
 use Rattle.flow_solve.proofs.paths.first_seen.Goals as goal
 
+-- this one is seen
 pub returns-then-dist-node-lt-WANTED-clause-some : goal.returns-then-dist-node-lt-WANTED-clause-some
 returns-then-dist-node-lt-WANTED-clause-some c =
     let node = c.requires c.loop-node.node-index 0 c.loop-node-test.true in (
@@ -13,6 +15,7 @@ returns-then-dist-node-lt-WANTED-clause-some c =
       c.if-dist-node-lt-WANTED.true,
     )
 
+-- and none before it
 pub returns-then-dist-node-lt-WANTED-clause-first : goal.returns-then-dist-node-lt-WANTED-clause-first
 returns-then-dist-node-lt-WANTED-clause-first c = (
   c.loop-node.node-index,
@@ -23,6 +26,7 @@ returns-then-dist-node-lt-WANTED-clause-first c = (
       unmarked_unseen c.args.dist.now (get_or c.args.nodes.now j 0) node.0 (c.loop-node.invariant j l),
 )
 
+-- none is
 pub returns-clause-none : goal.returns-clause-none
 returns-clause-none c = λ v i.
     let p = place_in c.args.nodes.now v i in let node = c.requires p.0 0 p.1 in

@@ -1,3 +1,4 @@
+-- `first_seen`: none of the nodes passed is seen.
 use Rattle.std.proofs.Common.{ℕ, ◌-◌, ◌<◌, ◌≤◌}
 use Rattle.std.specs.Prelude.{slice_index}
 use Rattle.flow_solve.specs.declared.searching.TheConstants.{WANTED}

@@ -1,3 +1,4 @@
+-- `least_room`: along the trail, from its end to where the search began.
 use Rattle.std.proofs.Common.{◌≡◌, ◌-◌, get_or, subst, sym, ap, ◌∙◌, arith}
 use Rattle.flow_net.specs.Paths.{HasRoom}
 use Rattle.flow_net.specs.Residual.{head_of, residual}
@@ -6,6 +7,7 @@ use Rattle.flow_solve.specs.Trails.{trail_from}
 use Rattle.flow_solve.proofs.Routes.{next_on}
 use Rattle.flow_solve.proofs.paths.least_room.Goals as goal
 
+-- one more half-arc
 pub loop-node-preserved : goal.loop-node-preserved
 loop-node-preserved c =
     let old = c.loop-node.invariant in
@@ -41,5 +43,6 @@ loop-node-preserved c =
       steps = omega (arith, old.steps, c.look-next.ensures.steps, n.level, level);
     }
 
+-- at the beginning of the search the trail is empty, so no greater amount has room
 pub returns-clause-most : goal.returns-clause-most
 returns-clause-most c = λ d f r. (c.loop-node.invariant.most d f r).0

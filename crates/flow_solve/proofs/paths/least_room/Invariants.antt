@@ -1,3 +1,5 @@
+-- `least_room`: an amount has room on the whole trail where it is at most the least so far and has room on what is
+-- left; a look for each half-arc passed.
 use Rattle.std.proofs.Common.{◌≡◌, ℕ, ◌+◌, ◌-◌, ◌≤◌}
 use Rattle.std.specs.Prelude.{slice_index}
 use Rattle.flow_net.specs.declared.limits.TheConstants.{GREATEST_CAPACITY}

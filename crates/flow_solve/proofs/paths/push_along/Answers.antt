@@ -1,3 +1,4 @@
+-- `push_along`: along the trail, from its end to where the search began.
 use Rattle.std.proofs.Common.{◌≡◌, ℕ, ◌-◌, List, get_or, subst, sym, ap, ◌∙◌, arith}
 use Rattle.flow_net.specs.Paths.{HasRoom, push_all}
 use Rattle.flow_net.specs.Residual.{head_of, pushed}
@@ -7,6 +8,7 @@ use Rattle.flow_solve.specs.Trails.{trail_from}
 use Rattle.flow_solve.proofs.Routes.{next_on, trail_apart}
 use Rattle.flow_solve.proofs.paths.push_along.Goals as goal
 
+-- there is room for the push
 pub push-requires-clause-room : goal.push-requires-clause-room
 push-requires-clause-room c =
     let old = c.loop-node.invariant in
@@ -14,6 +16,7 @@ push-requires-clause-room c =
     (omega (arith, c.loop-node-test.true)) in
     (subst (HasRoom c.args.net.now c.loop-node.flow.flows c.args.amount) n.parts old.room).0
 
+-- one more half-arc
 pub loop-node-preserved : goal.loop-node-preserved
 loop-node-preserved c =
     let old = c.loop-node.invariant in

@@ -1,3 +1,5 @@
+-- `push_along`: with the pushes that are still to be made the flow is the one after all; a push for each half-arc
+-- passed.
 use Rattle.std.proofs.Common.{◌≡◌, ◌+◌, ◌-◌}
 use Rattle.std.specs.Prelude.{slice_index}
 use Rattle.flow_net.specs.Nets.{IsNode}

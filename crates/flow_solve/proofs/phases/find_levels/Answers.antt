@@ -1,3 +1,4 @@
+-- `find_levels`: what the search from the sinks has seen.
 use Rattle.std.proofs.Common.{ℕ, ◌<◌, subst, inl, inr, arith}
 use Rattle.std.proofs.lemmas.Bool.{cases_lt}
 use Rattle.flow_solve.specs.declared.searching.Direction.{Direction}
@@ -6,11 +7,13 @@ use Rattle.flow_solve.proofs.Queues.{queue_short}
 use Rattle.flow_solve.proofs.Levelled.{levels_found}
 use Rattle.flow_solve.proofs.phases.find_levels.Goals as goal
 
+-- no source: it has missed them all
 pub returns-then-progress-eq0-clause-missed : goal.returns-then-progress-eq0-clause-missed
 returns-then-progress-eq0-clause-missed c = λ e.
     c.search-progress.ensures.missed c.if-progress-eq0.true
     (omega (arith, c.requires.enough, c.requires.terminals.some_source))
 
+-- the queue holds each seen node once
 pub rank_all-requires-clause-all : goal.rank_all-requires-clause-all
 rank_all-requires-clause-all c =
     omega (
@@ -21,6 +24,7 @@ rank_all-requires-clause-all c =
       c.requires.cells.queue_size,
     )
 
+-- a source: distances and ranks are levels
 pub returns-clause-levels : goal.returns-clause-levels
 returns-clause-levels c = λ e.
     let found = c.search-progress.ensures in

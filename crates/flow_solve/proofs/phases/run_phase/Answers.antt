@@ -1,3 +1,4 @@
+-- `run_phase`: the places are set to each node's first half-arc, and all sources walked from.
 use Rattle.std.proofs.Common.{ℕ, ◌-◌, ◌*◌, length, take, ◌∙◌, ap, arith}
 use Rattle.flow_solve.specs.Levels.{cell_of, place_of, any}
 use Rattle.flow_solve.proofs.Falls.{left_most, to_fill_most}
@@ -6,17 +7,20 @@ use Rattle.flow_solve.proofs.Distances.{far_few, far_phase}
 use Rattle.flow_solve.proofs.Turning.{fresh_phase}
 use Rattle.flow_solve.proofs.phases.run_phase.Goals as goal
 
+-- with all places at the first half-arc nothing has been passed
 pub walk_all-requires-clause-phase : goal.walk_all-requires-clause-phase
 walk_all-requires-clause-phase c =
     fresh_phase c.nodes-n.ensures.is_net c.requires.run.packed
     (c.copy_from_slice.ensures.after ∙ ap (λ (j : ℕ). take j c.args.phase.packed.first.now) c.nodes-n.ensures.nodes)
     c.requires.flow.feasible c.requires.flow.value c.requires.flow.no_loops
 
+-- there are more nodes than phases
 pub returns-clause-few : goal.returns-clause-few
 returns-clause-few c = λ j far.
     let l = c.requires.levels in
     far_few c.args.phase.s.now j l.source.0 far l.searched l.source.1 l.source.2
 
+-- once every source is dead the sources are farther from the sinks
 pub returns-clause-far : goal.returns-clause-far
 returns-clause-far c = λ j far.
     let l = c.requires.levels in let now = c.walk_all.ensures in let net = c.args.phase.packed.net.now in
@@ -32,6 +36,7 @@ returns-clause-far c = λ j far.
     }) c.args.flow.now.flows l.via j far l.searched (far_few c.args.phase.s.now j l.source.0 far l.searched l.source.1
     l.source.2)
 
+-- half-arcs that were passed or filled paid for the steps, each once a phase
 pub returns-clause-steps : goal.returns-clause-steps
 returns-clause-steps c =
     let net = c.args.phase.packed.net.now in

@@ -1,3 +1,5 @@
+-- `run_phases`: phases with lifting while its supply lasts, then phases without; each of those brings the sources
+-- farther from the sinks.
 use Rattle.std.proofs.Common.{◌≡◌, ℕ, List, ◌+◌, ◌-◌, inl, inr, length, sym, subst, arith}
 use Rattle.std.proofs.lemmas.Bool.{cases_lt}
 use Rattle.flow_solve.specs.Searches.{seen}
@@ -8,6 +10,7 @@ use Rattle.flow_solve.proofs.Raises.{settled}
 use Rattle.flow_solve.proofs.Routes.{terminals_apart}
 use Rattle.flow_solve.proofs.phases.run_phases.Goals as goal
 
+-- no phase yet
 pub phases-init : goal.phases-init
 phases-init c = record {
   flow = c.requires.flow;
@@ -20,6 +23,7 @@ phases-init c = record {
   steps = omega arith;
 }
 
+-- a phase without lifting
 pub phases-preserved : goal.phases-preserved
 phases-preserved c =
     let old = c.phases.invariant in
@@ -62,6 +66,7 @@ phases-preserved-then-supply-search c =
       steps = omega (arith, old.steps, found.looks.steps, lifted.paid.steps);
     }
 
+-- the search that finds no source leaves a closed cut
 pub returns-clause-greatest : goal.returns-clause-greatest
 returns-clause-greatest c =
     let old = c.phases.invariant in let found = c.find_levels.ensures in
@@ -78,6 +83,7 @@ returns-clause-least c =
     c.nodes-n.ensures.is_net old.flow (found.missed c.phases-test.false).whole
     (found.missed c.phases-test.false).outside).1
 
+-- fewer phases than nodes, each with its search
 pub returns-clause-steps : goal.returns-clause-steps
 returns-clause-steps c =
     let old = c.phases.invariant in let found = c.find_levels.ensures in let net = c.args.task.packed.net.now in
@@ -85,6 +91,7 @@ returns-clause-steps c =
     c.find_levels.new.flow.steps (omega (arith, old.few)) (omega (arith, c.nodes-n.ensures.is_net.nodes_least))
     (omega (arith, old.few)) (omega (arith, old.steps, found.looks.steps))
 
+-- what the phase's walks go by
 pub run_phase-value-requires-clause-run : goal.run_phase-value-requires-clause-run
 run_phase-value-requires-clause-run c = record {
   terminals = c.requires.task.terminals;

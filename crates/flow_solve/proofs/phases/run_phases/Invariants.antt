@@ -1,3 +1,5 @@
+-- `run_phases`: the flow is one of its value, the sources are farther from the sinks than there were phases, and the
+-- steps are paid.
 use Rattle.std.proofs.Common.{◌≡◌, ◌+◌, ◌-◌, ◌*◌, ◌<◌, ◌≤◌, length}
 use Rattle.flow_solve.specs.Levels.{IsFar}
 use Rattle.flow_solve.specs.Raising.{IsFlow}

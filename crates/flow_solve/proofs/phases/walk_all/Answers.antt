@@ -1,3 +1,4 @@
+-- `walk_all`: from each source until it is dead; a dead node stays so.
 use Rattle.std.proofs.Common.{ℕ, IsTrue, get_or, below_more, sym, subst, arith}
 use Rattle.std.specs.Prelude.{slice_index}
 use Rattle.flow_net.specs.NodeSets.{one_of}
@@ -9,6 +10,7 @@ use Rattle.flow_solve.proofs.Walks.{dead_on}
 use Rattle.flow_solve.proofs.phases.walk_all.Goals.{then-phase-source-lt-WANTED, else-phase-source-lt-WANTED}
 use Rattle.flow_solve.proofs.phases.walk_all.Goals as goal
 
+-- one more source is dead, or isn't seen
 pub loop-source-preserved : goal.loop-source-preserved
 loop-source-preserved c =
     let old = c.loop-source.invariant in
@@ -45,6 +47,7 @@ loop-source-preserved c =
           })
     ]
 
+-- all seen sources are dead
 pub returns-clause-dead : goal.returns-clause-dead
 returns-clause-dead c = λ v i k.
     let p = place_in c.args.phase.s.now v i in

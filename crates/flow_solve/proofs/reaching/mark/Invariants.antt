@@ -1,3 +1,4 @@
+-- `mark`: the nodes passed are marked where they were seen.
 use Rattle.std.proofs.Common.{◌≡◌, ℕ, ◌<◌, nat_lt, false}
 use Rattle.std.specs.Prelude.{slice_index, slice_index_or}
 use Rattle.flow_solve.specs.declared.searching.TheConstants.{WANTED}

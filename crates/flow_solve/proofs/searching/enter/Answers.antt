@@ -1,7 +1,9 @@
+-- `enter`: the place joins the queue behind all seen ones.
 use Rattle.std.proofs.Common.{length-set, get_or-set_same, get_or-set_other, arith}
 use Rattle.flow_solve.proofs.Queues.{queue_short, queue_room, queue_more, count_more, near_more, unseen_other}
 use Rattle.flow_solve.proofs.searching.enter.Goals as goal
 
+-- the queue has a cell for each node, so there is one left for an unseen one
 pub overflow_add-wanted : goal.overflow_add-wanted
 overflow_add-wanted c =
     let s = c.requires.search in
@@ -23,6 +25,7 @@ overflow_add-result c =
     let short = queue_short c.args.dist.now c.args.queue.now c.args.progress.seen s.order in
     omega (arith, s.few)
 
+-- the search stays one
 pub returns-clause-search : goal.returns-clause-search
 returns-clause-search c =
     let s = c.requires.search in let a = c.requires.arrival in
@@ -39,6 +42,7 @@ returns-clause-search c =
       wanted = omega (arith, s.wanted, a.unseen);
     }
 
+-- nothing seen has changed
 pub returns-clause-grown : goal.returns-clause-grown
 returns-clause-grown c =
     let s = c.requires.search in let a = c.requires.arrival in
@@ -56,6 +60,7 @@ returns-clause-grown c =
           (omega (arith, s.few, a.level)) a.unseen k;
     }
 
+-- the place is seen at its level
 pub returns-clause-arrived : goal.returns-clause-arrived
 returns-clause-arrived c =
     let s = c.requires.search in let a = c.requires.arrival in

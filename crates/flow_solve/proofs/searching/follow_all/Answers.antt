@@ -1,3 +1,4 @@
+-- `follow_all`: the half-arcs of one node, each to a seen node or to one that is entered now.
 use Rattle.std.proofs.Common.{inl, inr, ap, ◌+◌, ◌≡◌, refl, ◌-◌, ◌≤◌, ◌<◌, IsTrue, get_or, subst, sym, ◌∙◌, below_more}
 use Rattle.std.proofs.Common.{arith}
 use Rattle.flow_net.specs.Flows.{Fits}
@@ -8,12 +9,14 @@ use Rattle.flow_solve.proofs.Crossings.{come_new, closed_step}
 use Rattle.flow_solve.proofs.searching.follow_all.Goals.{in-Some, in_default}
 use Rattle.flow_solve.proofs.searching.follow_all.Goals as goal
 
+-- a seen node waits
 pub bounds-queue-progress : goal.bounds-queue-progress
 bounds-queue-progress c =
     let s = c.requires.search in
     omega
     (arith, c.requires.next, queue_short c.args.dist.now c.args.queue.now c.args.progress.seen s.order, s.queue_size)
 
+-- what was come to is unseen, and no nearer than any seen node
 pub enter-progress-requires-clause-arrival : goal.enter-progress-requires-clause-arrival
 enter-progress-requires-clause-arrival c =
     let old = c.loop-spot.invariant in let place = get_or c.args.queue.now c.args.progress.followed 0 in
@@ -31,6 +34,7 @@ enter-progress-requires-clause-arrival c =
       near = λ p m. omega (arith, old.near p m, to.level);
     }
 
+-- one more half-arc
 pub loop-spot-preserved : goal.loop-spot-preserved
 loop-spot-preserved c =
     let old = c.loop-spot.invariant in let looks = c.arrive.ensures.looks in
@@ -128,6 +132,7 @@ loop-spot-preserved c =
           })
     ]
 
+-- the node is followed: nothing that remains leads from it to an unseen node
 pub returns-clause-followed : goal.returns-clause-followed
 returns-clause-followed c =
     let old = c.loop-spot.invariant in

@@ -1,3 +1,5 @@
+-- `follow_all`: of the half-arcs passed each that remains leads to a seen node, and each node that was entered is one
+-- farther.
 use Rattle.std.proofs.Common.{◌⊎◌, ◌≡◌, ℕ, ◌+◌, ◌-◌, ◌<◌, ◌≤◌, Bool, IsTrue, length}
 use Rattle.std.specs.Prelude.{slice_index}
 use Rattle.flow_net.specs.Flows.{Fits}

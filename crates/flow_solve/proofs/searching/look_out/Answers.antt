@@ -1,3 +1,4 @@
+-- `look_out`: one more node is looked out for.
 use Rattle.std.proofs.Common.{length-set, ◌∙◌, arith}
 use Rattle.flow_solve.specs.declared.searching.TheConstants.{WANTED}
 use Rattle.flow_solve.proofs.SearchStarts.{look_more}

@@ -1,3 +1,4 @@
+-- `look_out`: the cells are those of unseen nodes, of which those passed are looked out for.
 use Rattle.std.proofs.Common.{◌≡◌, ℕ, ◌<◌, length, take}
 use Rattle.std.specs.Prelude.{slice_index}
 use Rattle.flow_solve.specs.Searches.{unseen_cell}

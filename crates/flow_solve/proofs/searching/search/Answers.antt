@@ -1,3 +1,5 @@
+-- `search`: from the starts, node by node of the queue, until enough nodes are seen that are looked out for, or none
+-- waits.
 use Rattle.std.proofs.Common.{◌≡◌, ℕ, ◌+◌, ◌-◌, ◌≤◌, ◌<◌, length, get_or, refl, ◌∙◌, sym, ap, subst, inl, inr}
 use Rattle.std.proofs.Common.{below_more, add-one, arith}
 use Rattle.flow_net.specs.Flows.{Fits}
@@ -10,6 +12,7 @@ use Rattle.flow_solve.proofs.Searched.{some_seen, new_seen, whole_seen, none_see
 use Rattle.flow_solve.proofs.Sweeps.{searched, all_done, queued_halves}
 use Rattle.flow_solve.proofs.searching.search.Goals as goal
 
+-- the starts are seen, and none is followed
 pub places-init : goal.places-init
 places-init c =
     let starts = c.start_all-progress.ensures in
@@ -42,6 +45,7 @@ places-init c =
       steps = omega arith;
     }
 
+-- one node less is left to follow
 pub places-smaller : goal.places-smaller
 places-smaller c =
     let old = c.places.invariant in
@@ -55,6 +59,7 @@ places-smaller c =
     omega (arith, l, next) in
     less
 
+-- one more node is followed
 pub places-preserved : goal.places-preserved
 places-preserved c =
     let old = c.places.invariant in
@@ -137,12 +142,15 @@ places-preserved c =
           rw next (omega (arith, same, last, old.steps, looks.steps));
     }
 
+-- enough are seen
 pub returns-else-progress-plan-clause-searched : goal.returns-else-progress-plan-clause-searched
 returns-else-progress-plan-clause-searched c = searched c.places.invariant.swept
 
+-- no node waits
 pub returns-after-places-clause-searched : goal.returns-after-places-clause-searched
 returns-after-places-clause-searched c = searched c.places.invariant.swept
 
+-- then the seen nodes are all that can be reached
 pub returns-after-places-clause-whole : goal.returns-after-places-clause-whole
 returns-after-places-clause-whole c = λ few.
     all_done c.places.invariant.swept c.places-test.false
@@ -157,6 +165,7 @@ returns-after-places-clause-missed c = λ none some.
           none_seen c.args.plan.until.now c.places.dist c.places.progress.wanted v c.places.invariant.count none i;
     }
 
+-- a look for each half-arc of the nodes followed
 pub returns-else-progress-plan-clause-looks : goal.returns-else-progress-plan-clause-looks
 returns-else-progress-plan-clause-looks c =
     let s = c.places.invariant.swept in

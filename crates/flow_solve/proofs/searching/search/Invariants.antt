@@ -1,3 +1,5 @@
+-- `search`: the seen nodes are swept up to those that wait, those looked out for are counted, and a look is paid for
+-- each half-arc of the nodes followed.
 use Rattle.std.proofs.Common.{◌≡◌, ◌-◌, ◌+◌, ◌≤◌}
 use Rattle.flow_net.specs.Flows.{Fits}
 use Rattle.flow_solve.specs.Packs.{halves_at}

@@ -1,3 +1,4 @@
+-- `start_all`: each start is seen at distance 0, once.
 use Rattle.std.proofs.Common.{◌-◌, ◌<◌, IsTrue, length, get_or, refl, ◌∙◌, sym, subst, inl, inr, below_more, arith}
 use Rattle.flow_net.specs.NodeSets.{one_of}
 use Rattle.flow_solve.specs.Searches.{IsMarked}
@@ -5,6 +6,7 @@ use Rattle.flow_solve.proofs.Queues.{queue_none, near_none, grown_marked}
 use Rattle.flow_net.proofs.NodeLists.{one_of-at}
 use Rattle.flow_solve.proofs.searching.start_all.Goals as goal
 
+-- nothing is seen
 pub loop-node-init : goal.loop-node-init
 loop-node-init c = record {
   cells = refl;
@@ -22,6 +24,7 @@ loop-node-init c = record {
   followed = refl;
 }
 
+-- one more start
 pub loop-node-preserved : goal.loop-node-preserved
 loop-node-preserved c =
     let old = c.loop-node.invariant in let now = c.start-progress.ensures in let starts = c.args.starts.now in
@@ -41,5 +44,6 @@ loop-node-preserved c =
       followed = now.followed ∙ old.followed;
     }
 
+-- all are
 pub returns-clause-begun : goal.returns-clause-begun
 returns-clause-begun c = λ i l. c.loop-node.invariant.begun i (omega (arith, c.loop-node-test.false))

@@ -1,3 +1,4 @@
+-- `are_even`: of the nodes passed all but the terminals take in what they send on.
 use Rattle.std.proofs.Common.{◌≡◌, ℕ, ◌<◌}
 use Rattle.std.specs.Prelude.{slice_index}
 use Rattle.flow_solve.specs.declared.settling.TheConstants.{EVEN, INNER}

@@ -1,3 +1,4 @@
+-- `cast`: one more node has the role.
 use Rattle.std.proofs.Common.{length-set, ◌∙◌, arith}
 use Rattle.flow_solve.proofs.Settled.{cast_more}
 use Rattle.flow_solve.proofs.settling.cast.Goals as goal

@@ -1,3 +1,4 @@
+-- `all_differ`: of the nodes passed no two are the same.
 use Rattle.std.proofs.Common.{◌≢◌, ℕ, ◌<◌}
 use Rattle.std.specs.Prelude.{slice_index}
 use Rattle.flow_solve.proofs.tests.all_differ.Given as goal

@@ -1,3 +1,4 @@
+-- `all_within`: the numbers passed are nodes.
 use Rattle.std.proofs.Common.{ℕ, ◌<◌, ◌≤◌}
 use Rattle.std.specs.Prelude.{slice_index}
 use Rattle.flow_solve.proofs.tests.all_within.Given as goal

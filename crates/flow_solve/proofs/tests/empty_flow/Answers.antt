@@ -1,3 +1,4 @@
+-- `empty_flow`: a table of zeros is a feasible flow of value 0.
 use Rattle.std.proofs.Common.{subst, sym}
 use Rattle.flow_net.specs.Flows.{IsFeasible}
 use Rattle.flow_net.specs.Residual.{Table}

@@ -1,3 +1,4 @@
+-- `is_new`: none of the nodes passed is this one.
 use Rattle.std.proofs.Common.{◌≢◌, ℕ, ◌<◌}
 use Rattle.std.specs.Prelude.{slice_index}
 use Rattle.flow_solve.proofs.tests.is_new.Given as goal

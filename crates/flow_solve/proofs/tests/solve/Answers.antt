@@ -1,3 +1,4 @@
+-- `solve`: each call leaves a flow that the next may begin with.
 use Rattle.std.proofs.Common.{ℕ, List, subst, sym, ◌∙◌}
 use Rattle.flow_net.specs.NodeSets.{one_of}
 use Rattle.flow_net.specs.Flows.{Fits, IsFeasible}

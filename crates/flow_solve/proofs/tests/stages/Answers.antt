@@ -1,3 +1,4 @@
+-- `stages`: each stage leaves a flow of its value, with which the next begins.
 use Rattle.flow_net.specs.NodeSets.{one_of}
 use Rattle.flow_solve.proofs.tests.stages.Goals as goal
 

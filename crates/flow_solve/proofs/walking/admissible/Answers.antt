@@ -1,3 +1,4 @@
+-- `admissible`: the node's half-arcs from its place on; each that is passed is filled, or leads to no lower rank.
 use Rattle.std.proofs.Common.{◌≡◌, ℕ, List, ◌+◌, ◌-◌, get_or, set, length, length-set, refl, ◌∙◌, sym, ap, subst, arith}
 use Rattle.flow_net.specs.Residual.{residual}
 use Rattle.flow_solve.specs.Levels.{cell_of, place_of, HasMoved, AreWithin, IsBlocked, IsAdmissible, left, any}
@@ -7,6 +8,7 @@ use Rattle.flow_solve.proofs.Walks.{set_moved, moved_within, rank_falls, rank_ri
 use Rattle.flow_solve.proofs.walking.admissible.Goals.{then-rank-head+else-room-gt0, else-rank-head}
 use Rattle.flow_solve.proofs.walking.admissible.Goals as goal
 
+-- none is passed
 pub loop-place-init : goal.loop-place-init
 loop-place-init c = record {
   fits = c.requires.fits;
@@ -16,11 +18,13 @@ loop-place-init c = record {
   never_lowered = omega arith;
 }
 
+-- what stands packed is a half-arc of the node
 pub head-requires : goal.head-requires
 head-requires c =
     (mine_at c.nodes-end.ensures.is_net c.requires.packed c.requires.node c.requires.current
     c.loop-place.invariant.looking c.loop-place-test.true).half
 
+-- one is found: the place moves up to it
 pub returns-then-room-gt0-clause-looked : goal.returns-then-room-gt0-clause-looked
 returns-then-room-gt0-clause-looked c = record {
   size =
@@ -85,6 +89,7 @@ returns-then-room-gt0-clause-steps_some c =
     (cell_of (set z (c.args.node - 1) c.loop-place.place)) any) old.current in
     omega (arith, old.looking.paid, c.look-room.ensures.steps, same)
 
+-- one more is passed
 pub loop-place-preserved : goal.loop-place-preserved
 loop-place-preserved c =
     let old = c.loop-place.invariant in let l = old.looking in
@@ -124,6 +129,7 @@ loop-place-preserved c =
           })
     ]
 
+-- none is left: the place moves behind all
 pub returns-clause-looked : goal.returns-clause-looked
 returns-clause-looked c = record {
   size =
@@ -169,6 +175,7 @@ returns-clause-looked c = record {
       c.args.flow.now.flows) end (l.blocked t b));
 }
 
+-- so the place is where the next node's half-arcs begin
 pub returns-clause-none : goal.returns-clause-none
 returns-clause-none c =
     cell_set c.loop-place.current c.args.node (get_or c.args.packed.first.now c.args.node 0) c.requires.node.0
@@ -179,6 +186,7 @@ returns-clause-none c =
       ap (λ (z : List ℕ). length z) c.loop-place.invariant.current,
     ))
 
+-- a look for each half-arc passed at most
 pub returns-clause-steps_none : goal.returns-clause-steps_none
 returns-clause-steps_none c =
     let old = c.loop-place.invariant in let l = old.looking in let net = c.args.packed.net.now in

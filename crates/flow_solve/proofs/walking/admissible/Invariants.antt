@@ -1,3 +1,4 @@
+-- `admissible`: the half-arcs passed are filled, or lead to no lower rank, and each took a look at most.
 use Rattle.std.proofs.Common.{◌≡◌, ◌-◌, ◌≤◌}
 use Rattle.flow_net.specs.Flows.{Fits}
 use Rattle.flow_solve.proofs.Walks.{IsLooking}

@@ -1,7 +1,9 @@
+-- `augment`: after the push what remains on each half-arc is less by the amount.
 use Rattle.std.proofs.Common.{arith}
 use Rattle.flow_solve.proofs.Descents.{rooms_after}
 use Rattle.flow_solve.proofs.walking.augment.Goals as goal
 
+-- nothing on the first with the least
 pub returns-clause-filled : goal.returns-clause-filled
 returns-clause-filled c =
     let found = c.least_on-depth.ensures in
@@ -9,6 +11,7 @@ returns-clause-filled c =
     found.flows c.push_over.ensures.flows c.requires.halves c.requires.apart found.filling.place in
     omega (arith, here, found.filling.amount)
 
+-- something on those before it, which had more
 pub returns-clause-open_before : goal.returns-clause-open_before
 returns-clause-open_before c = λ i l.
     let found = c.least_on-depth.ensures in

@@ -1,3 +1,4 @@
+-- `least_on`: the least on the half-arcs passed, and the first place where it is; a look for each.
 use Rattle.std.proofs.Common.{◌≡◌, ◌+◌}
 use Rattle.flow_net.specs.Flows.{Fits}
 use Rattle.flow_solve.proofs.LeastOnPath.{IsLeast}

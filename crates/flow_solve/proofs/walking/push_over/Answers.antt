@@ -1,3 +1,4 @@
+-- `push_over`: one more half-arc; a path names no arc twice, so the others keep their room.
 use Rattle.std.proofs.Common.{arith}
 use Rattle.flow_solve.proofs.PushesAhead.{ahead_more}
 use Rattle.flow_solve.proofs.walking.push_over.Goals as goal

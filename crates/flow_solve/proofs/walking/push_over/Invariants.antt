@@ -1,3 +1,5 @@
+-- `push_over`: with the pushes that are still to be made the flow is the one after all; a push for each half-arc
+-- passed.
 use Rattle.std.proofs.Common.{◌≡◌, ◌+◌, drop}
 use Rattle.flow_solve.proofs.PushesAhead.{IsAhead}
 use Rattle.flow_solve.proofs.walking.push_over.Given as goal

@@ -1,3 +1,5 @@
+-- `walk`: a turn augments, goes on, or goes back. What is left of the phase's half-arcs, counted with the path, gets
+-- less each turn, and pays for its steps.
 use Rattle.std.proofs.Common.{ℕ, List, ◌+◌, ◌-◌, ◌≤◌, ◌<◌, set, refl, ◌∙◌, sym, ap, subst, arith}
 use Rattle.std.specs.Prelude.{slice_index}
 use Rattle.std.proofs.lemmas.List.{get_or-take, length-take-le}
@@ -104,6 +106,7 @@ turns-preserved-in-Some c =
       never_lowered = omega (arith, old.never_lowered, found.never_lowered);
     }
 
+-- the end: the source has no half-arc left
 pub returns-then-depth-eq0-clause-phase : goal.returns-then-depth-eq0-clause-phase
 returns-then-depth-eq0-clause-phase c =
     subst (λ (ys : List ℕ). IsInPhase c.args.phase.packed.net.now c.args.phase.s.now c.args.phase.t.now
@@ -139,6 +142,7 @@ returns-then-depth-eq0-clause-steps c =
     ≤ c.args.flow.now.steps + owed net halves rank c.args.current.now c.args.flow.now.flows)
     (sym c.admissible.ensures.flows) paid
 
+-- a half-arc of the path is one of the network's
 pub tail-node-requires : goal.tail-node-requires
 tail-node-requires c = half_on c.turns.invariant.turning (c.turns.depth - 1) (omega (arith, c.if-depth-eq0.false))
 

@@ -1,3 +1,5 @@
+-- `walk`: the path leads from the source to the node along half-arcs that remain, and the phase has paid for its
+-- steps.
 use Rattle.std.proofs.Common.{ℕ, ◌+◌, ◌≤◌}
 use Rattle.flow_solve.specs.Levels.{cell_of, owed, IsOrdered, IsGentle}
 use Rattle.flow_solve.proofs.Turning.{IsTurning, to_go}

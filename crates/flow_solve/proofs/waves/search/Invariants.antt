@@ -1,3 +1,4 @@
+-- `search`: what may still be done is less by the nodes.
 use Rattle.std.proofs.Common.{◌≡◌, ◌+◌}
 use Rattle.flow_solve.proofs.waves.search.Given as goal
 

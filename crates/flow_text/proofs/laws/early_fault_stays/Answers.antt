@@ -1,3 +1,4 @@
+-- The law: an early fault is the first fault of every text that goes on, and so of the whole one.
 use Rattle.flow_text.specs.Problem.{problem, problem_rules, known_of}
 use Rattle.flow_text.proofs.EarlyLemmas.{early-whole}
 use Rattle.flow_text.proofs.laws.early_fault_stays.Goals as goal

@@ -1,3 +1,4 @@
+-- The law: an early fault is the first fault of every text that goes on, and so of the whole one.
 use Rattle.flow_text.specs.Solution.{solution, solution_rules, stated_of}
 use Rattle.flow_text.proofs.EarlyLemmas.{early-whole}
 use Rattle.flow_text.proofs.laws.early_solution_fault_stays.Goals as goal

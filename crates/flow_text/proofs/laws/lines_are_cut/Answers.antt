@@ -1,3 +1,4 @@
+-- The law: the ended lines with their byte 10 and the rest are the text, and no line has a byte 10.
 use Rattle.flow_text.proofs.LineLemmas.{rest_is}
 use Rattle.flow_text.proofs.CutLemmas.{joined-ended, ended_are}
 use Rattle.flow_text.proofs.laws.lines_are_cut.Goals as goal

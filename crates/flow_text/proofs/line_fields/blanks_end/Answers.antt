@@ -1,3 +1,4 @@
+-- `blanks_end`: to drop a blank from the front changes no field.
 use Rattle.flow_text.proofs.FieldLemmas.{fields_of-drop}
 use Rattle.std.proofs.Common.{◌∙◌, arith}
 use Rattle.flow_text.proofs.line_fields.blanks_end.Goals as goal

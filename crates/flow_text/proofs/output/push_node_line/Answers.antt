@@ -1,3 +1,4 @@
+-- `push_node_line`: the bytes before the digits and the digits make the line.
 use Rattle.std.proofs.Common.{◌<◌, arith, append_assoc}
 use Rattle.flow_text.specs.Output.{line_of}
 use Rattle.flow_text.proofs.OutputLemmas.{decimal_10, written_front}

@@ -1,3 +1,4 @@
+-- `push_pair`: the three numbers, written from the last to the first, and the bytes between them make the line.
 use Rattle.std.proofs.Common.{◌<◌, arith, append_assoc}
 use Rattle.flow_text.proofs.OutputLemmas.{decimal_10, decimal_20, written_front}
 use Rattle.flow_text.proofs.output.push_pair.Goals as goal

@@ -1,3 +1,4 @@
+-- `long_number`: digit by digit, until 128 bits don't hold the value; from there on the digits alone are tested.
 use Rattle.std.proofs.Common.{arith, sym, ◌∙◌, ◌+◌, ap, subst, ℕ, inl, inr}
 use Rattle.flow_text.proofs.DigitLemmas.{AreDigits-more, AreDigits-all, Makes, Makes-more, Makes-past, number_of-value}
 use Rattle.flow_text.proofs.DigitLemmas.{Makes-all}
@@ -6,6 +7,7 @@ use Rattle.flow_text.specs.declared.numbers.Number.TheVariants.{Value}
 use Rattle.flow_text.proofs.scan.long_number.Goals as goal
 use Rattle.flow_text.proofs.scan.long_number.Goals.{in-Some, in-None}
 
+-- one more digit
 pub loop-byte-preserved : goal.loop-byte-preserved
 loop-byte-preserved c = record {
   digits =
@@ -28,6 +30,7 @@ loop-byte-preserved c = record {
   ];
 }
 
+-- the value is at most the limit
 pub returns-then-value-limit : goal.returns-then-value-limit
 returns-then-value-limit c =
     let all = Makes-all c.args.field.now c.loop-byte.byte-index c.loop-byte.value (omega arith)

@@ -1,15 +1,18 @@
+-- `leading_digits`: digits from the start on, at most nineteen, make the value.
 use Rattle.std.proofs.Common.{arith, ◌<◌, ◌≤◌, ◌≡◌, ◌+◌, ◌-◌, ◌*◌, get_or, drop, subst}
 use Rattle.flow_text.proofs.DigitLemmas.{fits-more, fits-nineteen, less_zero, is_digit-less_zero, less_zero-digit}
 use Rattle.flow_text.specs.UsualLines.{IsLeading}
 use Rattle.flow_text.proofs.UsualLemmas.{IsLeading-none, IsLeading-at}
 use Rattle.flow_text.proofs.usual_lines.leading_digits.Goals as goal
 
+-- no digit yet
 pub loop-i-init : goal.loop-i-init
 loop-i-init c =
     let none : 0 ≡ c.args.start - c.args.start = omega arith in
     subst (λ k. IsLeading (drop c.args.start c.args.text.now) 0 k) none
     (IsLeading-none (drop c.args.start c.args.text.now))
 
+-- no step overflows
 pub overflow_mul-value : goal.overflow_mul-value
 overflow_mul-value c =
     let more : c.loop-i.value * 10 + 9 < 10000000000000000000 =
@@ -24,6 +27,7 @@ overflow_add-value c =
     (fits-more _ _ 9 (omega arith) c.loop-i.invariant.fits) in
     omega arith
 
+-- one more digit: a byte less '0' that is at most 9
 pub loop-i-preserved : goal.loop-i-preserved
 loop-i-preserved c =
     let byte = get_or c.args.text.now c.loop-i.i 0 in

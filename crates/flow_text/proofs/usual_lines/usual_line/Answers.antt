@@ -1,3 +1,4 @@
+-- `usual_line`: a letter and three numbers with one blank before each, up to byte 10, are the fields of a line.
 use Rattle.std.proofs.Common.{arith}
 use Rattle.flow_text.proofs.UsualLemmas.{IsUsual-at, letter-front}
 use Rattle.flow_text.proofs.usual_lines.usual_line.Goals as goal

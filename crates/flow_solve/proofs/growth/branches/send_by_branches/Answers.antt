@@ -1,3 +1,5 @@
+-- `send_by_branches`: a unit was sent along a branch's way, or nothing was, and the search goes on with the next
+-- node.
 use Rattle.std.proofs.Common.{refl, arith}
 use Rattle.flow_solve.proofs.growth.branches.send_by_branches.Goals as goal
 

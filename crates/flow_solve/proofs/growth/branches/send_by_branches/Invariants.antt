@@ -1,3 +1,5 @@
+-- `send_by_branches`: the flow carries what was sent, its steps are paid, and the seen nodes wait in the queue, of
+-- which one more is looked at each turn.
 use Rattle.std.proofs.Common.{◌≡◌, ◌-◌, ◌≤◌, length}
 use Rattle.flow_net.specs.Flows.{Fits}
 use Rattle.flow_solve.specs.Growth.{AreQueued, Carries, HavePlaces}

@@ -1,3 +1,4 @@
+-- `spread_on`: the half-arcs passed have led to no terminal, the nodes that they led to wait, and the looks are paid.
 use Rattle.std.proofs.Common.{◌≡◌, ◌+◌, ◌-◌, ◌≤◌, false, length}
 use Rattle.std.specs.Prelude.{slice_index}
 use Rattle.flow_net.specs.Flows.{Fits}

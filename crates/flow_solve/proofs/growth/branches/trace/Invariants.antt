@@ -1,3 +1,4 @@
+-- `trace`: the half-arc at hand is one of the network's, whatever the cells hold.
 use Rattle.std.proofs.Common.{◌≡◌, ◌*◌, ◌<◌, length}
 use Rattle.flow_solve.proofs.growth.branches.trace.Given as goal
 

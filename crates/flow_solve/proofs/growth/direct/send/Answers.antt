@@ -1,3 +1,4 @@
+-- `send`: a unit over one half-arc from the turn's node to a node before it raises the value by one.
 use Rattle.std.proofs.Common.{◌≡◌, ◌≤◌, ◌<◌, ◌+◌, ◌-◌, ◌*◌, ℕ, List, length, true, ◌∙◌, sym, ap, subst, arith}
 use Rattle.std.specs.Prelude.{slice_index}
 use Rattle.flow_net.specs.Orders.{before}

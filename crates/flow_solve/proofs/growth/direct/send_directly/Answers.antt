@@ -1,3 +1,4 @@
+-- `send_directly`: a cell below the turn's place is that of a node before it.
 use Rattle.std.proofs.Common.{◌≡◌, true, subst}
 use Rattle.flow_net.specs.Orders.{before}
 use Rattle.flow_solve.proofs.SeenCells.{terminal_at}

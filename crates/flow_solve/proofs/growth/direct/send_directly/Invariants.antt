@@ -1,3 +1,4 @@
+-- `send_directly`: the flow carries what was sent over the half-arcs passed, and its steps are paid.
 use Rattle.std.proofs.Common.{◌-◌, ◌≤◌}
 use Rattle.std.specs.Prelude.{slice_index}
 use Rattle.flow_net.specs.Flows.{Fits}

@@ -1,3 +1,4 @@
+-- `expand`: the nodes that the half-arcs passed led to wait, and the looks are paid.
 use Rattle.std.proofs.Common.{◌≡◌, ◌-◌, ◌≤◌, length}
 use Rattle.std.specs.Prelude.{slice_index}
 use Rattle.flow_net.specs.Flows.{Fits}

@@ -1,3 +1,4 @@
+-- `forget`: of the seen nodes those passed have their places again.
 use Rattle.std.proofs.Common.{◌≡◌, length}
 use Rattle.flow_solve.specs.Growth.{ArePlaces}
 use Rattle.flow_solve.proofs.SeenCells.{IsLeft}

@@ -1,8 +1,10 @@
+-- `is_closed`: each seen node was tested, so the seen nodes are a cut that no residual half-arc leaves.
 use Rattle.std.proofs.Common.{◌≤◌, ◌-◌, arith}
 use Rattle.std.specs.Prelude.{slice_index}
 use Rattle.flow_solve.proofs.SeenCells.{seen_cut, seen_closed}
 use Rattle.flow_solve.proofs.growth.frontier.is_closed.Goals as goal
 
+-- a cut: the turn's node is seen, and no node before it
 pub returns-clause-cut : goal.returns-clause-cut
 returns-clause-cut c =
     let j = c.loop-at.invariant in
@@ -14,6 +16,7 @@ returns-clause-cut c =
     turn.ordered turn.size (omega (arith, turn.place, turn.size)) here
     (λ i h. j.late i (omega (arith, c.loop-at-test.false)))
 
+-- closed
 pub returns-clause-closed : goal.returns-clause-closed
 returns-clause-closed c =
     let j = c.loop-at.invariant in

@@ -1,3 +1,5 @@
+-- `is_closed`: the nodes passed are none before the turn's, nothing that remains leads from them to an unseen node,
+-- and the looks are paid.
 use Rattle.std.proofs.Common.{ℕ, ◌<◌, ◌≤◌}
 use Rattle.std.specs.Prelude.{slice_index}
 use Rattle.flow_net.specs.Flows.{Fits}

@@ -1,3 +1,4 @@
+-- `is_done`: each half-arc of the node was passed, so whatever remains leads to a seen node.
 use Rattle.std.proofs.Common.{◌≡◌, ◌≤◌, ◌<◌, ◌+◌, ◌-◌, sym, ap, subst, arith}
 use Rattle.std.specs.Prelude.{slice_index}
 use Rattle.flow_net.specs.Residual.{head_of, residual}

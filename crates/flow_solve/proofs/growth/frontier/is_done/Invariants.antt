@@ -1,3 +1,4 @@
+-- `is_done`: the half-arcs passed are filled or lead to seen nodes, and the looks are paid.
 use Rattle.std.proofs.Common.{ℕ, ◌-◌, ◌<◌, ◌≤◌}
 use Rattle.std.specs.Prelude.{slice_index}
 use Rattle.flow_net.specs.Flows.{Fits}

@@ -1,3 +1,4 @@
+-- `meet`: the node that is met waits behind those that were seen before it.
 use Rattle.std.proofs.Common.{◌-◌, arith}
 use Rattle.flow_solve.proofs.SeenCells.{queued_more}
 use Rattle.flow_solve.proofs.growth.frontier.meet.Goals as goal

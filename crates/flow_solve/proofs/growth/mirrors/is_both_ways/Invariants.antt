@@ -1,3 +1,4 @@
+-- `is_both_ways`: so it is of the arcs passed.
 use Rattle.std.proofs.Common.{◌≡◌, ℕ, ◌+◌, ◌/◌, ◌<◌, length}
 use Rattle.flow_net.specs.Nets.{arc_at}
 use Rattle.flow_solve.proofs.growth.mirrors.is_both_ways.Given as goal

@@ -1,3 +1,4 @@
+-- `is_whole`: the places passed and the nodes passed name each other.
 use Rattle.std.proofs.Common.{◌≡◌, ℕ, ◌+◌, ◌-◌, ◌<◌, ◌≤◌, length}
 use Rattle.std.specs.Prelude.{slice_index}
 use Rattle.flow_solve.proofs.growth.ordering.is_whole.Given as goal

@@ -1,3 +1,4 @@
+-- `join_all`: the cells keep their sizes.
 use Rattle.std.proofs.Common.{◌≡◌, ◌≤◌, ◌-◌, length}
 use Rattle.std.specs.Prelude.{slice_index}
 use Rattle.flow_solve.proofs.growth.ordering.join_all.Given as goal

@@ -1,3 +1,4 @@
+-- `line_up`: the cells keep their sizes.
 use Rattle.std.proofs.Common.{◌≡◌, length}
 use Rattle.flow_solve.proofs.growth.ordering.line_up.Given as goal
 

@@ -1,3 +1,4 @@
+-- `order_nodes`: the cells keep their sizes; of the exchanges nothing is claimed.
 use Rattle.std.proofs.Common.{◌≡◌, length}
 use Rattle.flow_solve.proofs.growth.ordering.order_nodes.Given as goal
 

@@ -1,3 +1,4 @@
+-- `count_crossings`: of the arcs passed so many leave the set, and so many enter it.
 use Rattle.std.proofs.Common.{◌≡◌, take, length}
 use Rattle.std.specs.List.{count_by}
 use Rattle.flow_net.specs.Cuts.{leaves}

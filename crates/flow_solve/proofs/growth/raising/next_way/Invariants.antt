@@ -1,3 +1,4 @@
+-- `next_way`: the place lies among the node's half-arcs, and the looks are paid.
 use Rattle.std.proofs.Common.{◌≡◌, ◌-◌, ◌≤◌, length}
 use Rattle.std.specs.Prelude.{slice_index}
 use Rattle.flow_net.specs.Flows.{Fits}

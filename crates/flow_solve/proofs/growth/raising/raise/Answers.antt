@@ -1,9 +1,11 @@
+-- `raise`: searches and walks in turn, until no node waits that a search could go on from.
 use Rattle.std.proofs.Common.{ℕ, List, sym, subst}
 use Rattle.flow_solve.specs.Searches.{IsClosedFor}
 use Rattle.flow_solve.specs.Growth.{IsQueued, seen_in}
 use Rattle.flow_solve.proofs.Growing.{raised_parted}
 use Rattle.flow_solve.proofs.growth.raising.raise.Goals as goal
 
+-- the seen nodes are a closed cut, so the value is the number of its arcs
 pub returns-then-frontier-eq0-clause-parted : goal.returns-then-frontier-eq0-clause-parted
 returns-then-frontier-eq0-clause-parted c = λ less.
     let net = c.args.turn.packed.net.now in
@@ -18,6 +20,7 @@ returns-then-frontier-eq0-clause-parted c = λ less.
           c.in_ok-left.ensures.cut closed,
     )
 
+-- the walks have kept the seen nodes in the queue
 pub forget-requires-in-loop-raised-clause-queued : goal.forget-requires-in-loop-raised-clause-queued
 forget-requires-in-loop-raised-clause-queued c =
     subst (λ n. IsQueued n c.args.turn.order.now c.walk_all.new.cells c.search-frontier.new.queue

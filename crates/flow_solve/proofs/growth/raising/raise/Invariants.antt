@@ -1,3 +1,5 @@
+-- `raise`: the flow carries what was raised, its steps are paid, no node is seen between the searches, and each turn
+-- takes something off what may still be done.
 use Rattle.std.proofs.Common.{◌≡◌, ◌*◌, ◌≤◌, length}
 use Rattle.flow_net.specs.Flows.{Fits}
 use Rattle.flow_solve.specs.Growth.{Carries, HavePlaces, IsClean}

@@ -1,16 +1,20 @@
+-- `walk_all`: a walk goes on, goes back, or sends a unit; each takes something off what may still be done.
 use Rattle.std.proofs.Common.{ℕ, List, sym, subst, arith}
 use Rattle.flow_net.specs.Flows.{Fits}
 use Rattle.flow_solve.specs.Growth.{Carries}
 use Rattle.flow_solve.proofs.growth.raising.walk_all.Goals as goal
 
+-- the walk is over
 pub returns-in_err-walk-clause-queued : goal.returns-in_err-walk-clause-queued
 returns-in_err-walk-clause-queued c = λ queue tail q.
     c.move_on.ensures.queued queue tail (c.loop-sent.invariant.queued queue tail q)
 
+-- nothing more may be done
 pub returns-in_err-sent-clause-queued : goal.returns-in_err-sent-clause-queued
 returns-in_err-sent-clause-queued c = λ queue tail q.
     c.move_on.ensures.queued queue tail (c.loop-sent.invariant.queued queue tail q)
 
+-- a terminal is met, and a unit sent: the next walk begins at the turn's node
 pub loop-sent-preserved-then-cells-walk : goal.loop-sent-preserved-then-cells-walk
 loop-sent-preserved-then-cells-walk c =
     let j = c.loop-sent.invariant in
@@ -36,6 +40,7 @@ loop-sent-preserved-then-cells-walk c =
       };
     }
 
+-- the walk goes on, or back
 pub loop-sent-preserved : goal.loop-sent-preserved
 loop-sent-preserved c =
     let j = c.loop-sent.invariant in

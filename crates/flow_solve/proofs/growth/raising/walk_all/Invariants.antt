@@ -1,3 +1,4 @@
+-- `walk_all`: the flow carries what was sent, its steps are paid, and whatever was queued stays queued.
 use Rattle.std.proofs.Common.{◌≡◌, ◌≤◌, length}
 use Rattle.flow_net.specs.Flows.{Fits}
 use Rattle.flow_solve.specs.Growth.{Carries, HavePlaces, IsWalk, KeepsQueues}

@@ -1,3 +1,4 @@
+-- `augment`: each half-arc is tested as a unit goes over it, so the way is one whatever the walk has written.
 use Rattle.std.proofs.Common.{◌≡◌, ◌≤◌, ◌-◌, ℕ, List, get_or, ◌∙◌, sym, ap, subst, arith}
 use Rattle.std.proofs.lemmas.Bool.{ltb-true}
 use Rattle.std.specs.Prelude.{slice_index}
@@ -9,6 +10,7 @@ use Rattle.flow_solve.proofs.Growing.{IsUnderWay, way_on, way_ends}
 use Rattle.flow_solve.proofs.SeenCells.{terminal_at}
 use Rattle.flow_solve.proofs.growth.turns.augment.Goals as goal
 
+-- one more half-arc
 pub loop-half-preserved : goal.loop-half-preserved
 loop-half-preserved c =
     let j = c.loop-half.invariant in
@@ -33,6 +35,7 @@ loop-half-preserved c =
       steps = omega (arith, j.steps, c.look-room.ensures.steps, c.push.ensures.steps);
     }
 
+-- at a node before it the value is one more
 pub returns-clause-raised : goal.returns-clause-raised
 returns-clause-raised c = λ yes value r.
     let j = c.loop-half.invariant in

@@ -1,3 +1,4 @@
+-- `augment`: a unit is under way, at this node, and each half-arc passed took a look and a push.
 use Rattle.std.proofs.Common.{◌+◌, ◌*◌, ◌≤◌}
 use Rattle.std.specs.Prelude.{slice_index}
 use Rattle.flow_net.specs.Flows.{Fits, IsFeasible}

@@ -1,3 +1,5 @@
+-- `raise`: the sources in turn; each augmentation raises the value, and a source from which none goes out any more
+-- stays so.
 use Rattle.std.proofs.Common.{◌<◌, ◌-◌, ◌+◌, length, arith}
 use Rattle.flow_net.specs.NodeSets.{one_of}
 use Rattle.flow_solve.specs.Searches.{seen}
@@ -6,11 +8,13 @@ use Rattle.flow_solve.proofs.Routes.{terminals_apart, searched_trails}
 use Rattle.flow_solve.proofs.Raises.{raised_by, settled, value_most, capacities_fit, paid_more, paid_all}
 use Rattle.flow_solve.proofs.paths.PathsRaise.raise.Goals as goal
 
+-- the search leaves the trail on which to augment
 pub augment-requires-clause-trails : goal.augment-requires-clause-trails
 augment-requires-clause-trails c =
     let found = c.in-Some.ensures in
     rw found.looks.flows (searched_trails (omega arith) found.searched)
 
+-- a value is at most the sum of the capacities, which fits
 pub overflow_add-raised : goal.overflow_add-raised
 overflow_add-raised c =
     let old = c.loop-source.invariant in
@@ -26,6 +30,7 @@ overflow_add-raised c =
     let fit = capacities_fit net c.nodes-n.ensures.is_net in
     omega (arith, most, fit, c.from-raised.ensures)
 
+-- the value rises
 pub loop-source-smaller : goal.loop-source-smaller
 loop-source-smaller c =
     let old = c.loop-source.invariant in
@@ -42,6 +47,7 @@ loop-source-smaller c =
     omega (arith, most, c.augment.ensures.positive, c.from-raised.ensures) in
     less
 
+-- after an augmentation
 pub loop-source-preserved : goal.loop-source-preserved
 loop-source-preserved c =
     let old = c.loop-source.invariant in
@@ -61,6 +67,7 @@ loop-source-preserved c =
           c.augment.ensures.positive);
     }
 
+-- a search that finds no way leaves a closed cut: the value is the greatest, and the cut's capacity the least
 pub returns-clause-greatest : goal.returns-clause-greatest
 returns-clause-greatest c =
     let old = c.loop-source.invariant in let found = c.in_default.ensures in
@@ -75,6 +82,7 @@ returns-clause-least c =
     (settled task.packed.net.now task.s.now task.t.now c.loop-source.flow.flows (seen c.find_trail.new.dist)
     c.loop-source.raised c.nodes-n.ensures.is_net old.flow found.missed.whole found.missed.outside).1
 
+-- as many augmentations as the value, each with its looks and pushes
 pub returns-clause-steps : goal.returns-clause-steps
 returns-clause-steps c =
     let old = c.loop-source.invariant in let found = c.in_default.ensures in let net = c.args.task.packed.net.now in

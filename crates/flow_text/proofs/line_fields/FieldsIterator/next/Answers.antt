@@ -1,3 +1,4 @@
+-- `next`: where only blanks are left there is no field.
 use Rattle.std.proofs.Common.{arith, sym, ◌∙◌}
 use Rattle.flow_text.proofs.FieldLemmas.{fields_of-none}
 use Rattle.flow_text.proofs.line_fields.FieldsIterator.next.Goals as goal

@@ -1,3 +1,4 @@
+-- `end_text`: the rest of the text is a line if it has a byte; a comment's rest, nothing, or what is buffered.
 use Rattle.std.proofs.Common.{arith, sym, ◌∙◌, ◌≡◌, ◌<◌, ap, length, ℕ, List, ◌==◌, false, true}
 use Rattle.flow_text.specs.Lines.{rest}
 use Rattle.flow_text.specs.Rules.{Rules}
@@ -18,18 +19,21 @@ partial_len : {K : Type 0} (rules : Rules K) (known_of : List (List ℕ) → K) 
     → length items ≡ length (rest b)
 partial_len rules known_of old b items r plain same = ap length (same ∙ partial_plain rules known_of old b r plain)
 
+-- the rest is a comment, which has a byte
 pub returns-then-self : goal.returns-then-self
 returns-then-self g c = λ known_of adds b r.
     let comment : c.args.self.now.comment ≡ true = rw (← c.self.view_is) c.if-self.true in
     Finals-line g.J.Judge.rules known_of g.J.Judge.with_record adds _ _ b _ r
     (comment-some (rest b) (sym r.in_comment ∙ comment)) c.end_line.ensures
 
+-- nothing is buffered, so the text has ended with a line
 pub returns-then-is_empty : goal.returns-then-is_empty
 returns-then-is_empty g c = λ known_of adds b r.
     let plain : c.args.self.now.comment ≡ false = rw (← c.self.view_is) c.if-self.false in
     let len = partial_len g.J.Judge.rules known_of _ b _ r plain (ap (λ s. s.partial) c.self.view_is) in
     Finals-none g.J.Judge.rules known_of _ b r (sym len ∙ none _ c.if-is_empty.ensures)
 
+-- what is buffered is the last line
 pub returns : goal.returns
 returns g c = λ known_of adds b r.
     let plain : c.args.self.now.comment ≡ false = rw (← c.self.view_is) c.if-self.false in

@@ -1,3 +1,4 @@
+-- `judge_rest`: what is buffered and what follows are too long together, and the line is no comment.
 use Rattle.std.proofs.Common.{refl, sym, ◌∙◌, arith, length, ◌<◌, ◌≡◌, ◌≤◌, ◌==◌, ◌+◌, ℕ, true, false, length-append}
 use Rattle.std.proofs.Common.{inl, inr, true≢false}
 use Rattle.std.proofs.lemmas.Bool.{cases_lt}

@@ -1,3 +1,4 @@
+-- `new`: of the empty text nothing is known, and nothing is buffered.
 use Rattle.std.proofs.Common.{refl}
 use Rattle.flow_text.specs.Lines.{ended, rest}
 use Rattle.flow_text.specs.Rules.{early_fault, first_fault}

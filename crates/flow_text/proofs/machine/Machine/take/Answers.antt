@@ -1,3 +1,5 @@
+-- `take`: each ended line of the piece goes on with what is buffered and is judged; the rest of the piece is
+-- buffered.
 use Rattle.std.proofs.Common.{arith, subst, ◌+◌, drop, List, ℕ}
 use Rattle.std.proofs.lemmas.List.{take_rest, length-drop}
 use Rattle.flow_text.specs.Rules.{early_fault}
@@ -6,6 +8,7 @@ use Rattle.flow_text.proofs.ReaderLemmas.{HasRead-ends, Tells-ends}
 use Rattle.flow_text.proofs.PieceLemmas.{LineEndsAt-from, no_end_left, text-more, text-all, text-last, Takes-from}
 use Rattle.flow_text.proofs.machine.Machine.take.Goals as goal
 
+-- a line ends, and is accepted
 pub loop-at-preserved : goal.loop-at-preserved
 loop-at-preserved g c =
     let ends = rw (c.in-Ok-Some.field-0-is, take_rest c.args.piece.now c.loop-at.start) at c.in-Ok-Some.ensures in
@@ -19,6 +22,7 @@ loop-at-preserved g c =
           (c.loop-at.invariant.reads known_of adds b r) ends.1);
     }
 
+-- no line ends any more
 pub returns-in-Ok-None : goal.returns-in-Ok-None
 returns-in-Ok-None g c = λ known_of adds b r.
     let none = rw (c.in-Ok-None.field-0-is, take_rest c.args.piece.now c.loop-at.start) at c.in-Ok-None.ensures in
@@ -28,6 +32,7 @@ returns-in-Ok-None g c = λ known_of adds b r.
     (Takes-from g.J.Judge.rules known_of c.loop-at.self _ _ _ _ (no_end_left _ none.0)
     (c.loop-at.invariant.reads known_of adds b r) kept)
 
+-- a line ends, and is refused
 pub returns-in-Err : goal.returns-in-Err
 returns-in-Err g c = λ known_of adds b r.
     let fails = rw (take_rest c.args.piece.now c.loop-at.start) at c.in-Err.ensures in

@@ -1,3 +1,4 @@
+-- `take`: what has been read is the text so far with the piece's front; what is left of the piece gets shorter.
 use Rattle.std.proofs.Common.{ℕ, List, ◌≤◌, ◌-◌, ◌++◌, length, take}
 use Rattle.flow_text.specs.Reading.{HasRead, Adds}
 use Rattle.flow_text.proofs.machine.Machine.take.Given as goal

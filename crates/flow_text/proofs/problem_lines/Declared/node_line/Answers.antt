@@ -1,3 +1,4 @@
+-- `node_line`: the terminals stay nodes, none twice, where one is added and where memory is refused.
 use Rattle.std.proofs.Common.{rules, ◌≡◌, ◌∷◌, ◌∙◌, length, arith}
 use Rattle.flow_text.proofs.ProblemLemmas.{IsKept-mark, node_tests-own}
 use Rattle.flow_text.proofs.problem_lines.Declared.node_line.Goals as goal

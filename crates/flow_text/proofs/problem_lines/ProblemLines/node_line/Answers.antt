@@ -1,3 +1,4 @@
+-- `node_line`: after the problem line the tests are those of what is declared.
 use Rattle.std.proofs.Common.{sym, ap, ◌∙◌, ◌≡◌}
 use Rattle.flow_text.specs.ProblemReading.{known_with, known_from}
 use Rattle.flow_text.proofs.ProblemLemmas.{Judges-with}

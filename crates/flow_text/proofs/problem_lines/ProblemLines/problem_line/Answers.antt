@@ -1,3 +1,4 @@
+-- `problem_line`: the first problem line says the size, and nothing else is known yet.
 use Rattle.std.proofs.Common.{sym, ◌∙◌, ◌≡◌, ap, ℕ, Some, None}
 use Rattle.flow_text.specs.Problem.{Known}
 use Rattle.flow_text.specs.ProblemReading.{known_from}

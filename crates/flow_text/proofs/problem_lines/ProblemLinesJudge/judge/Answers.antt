@@ -1,3 +1,4 @@
+-- `judge`: the record by its letter.
 use Rattle.std.proofs.Common.{sym, ◌∙◌, ◌≡◌, true, false}
 use Rattle.std.specs.Prelude.{codes}
 use Rattle.std.specs.Str.{bytes_eq}
@@ -5,6 +6,7 @@ use Rattle.flow_text.proofs.RuleLemmas.{Judges-along}
 use Rattle.flow_text.proofs.ProblemLemmas.{of_problem, of_node, of_arc, of_unknown}
 use Rattle.flow_text.proofs.problem_lines.ProblemLinesJudge.judge.Goals as goal
 
+-- a problem line
 pub returns-then-eq : goal.returns-then-eq
 returns-then-eq c =
     let is : bytes_eq c.args.letter.now (codes "p") ≡ true =
@@ -12,6 +14,7 @@ returns-then-eq c =
     Judges-along _ _ _ _ _ c.problem_line.result (of_problem c.args.self.now c.args.letter.now c.args.others is)
     (c.problem_line.ensures c.args.letter.now)
 
+-- a node line
 pub returns-then-eq-2 : goal.returns-then-eq-2
 returns-then-eq-2 c =
     let p : bytes_eq c.args.letter.now (codes "p") ≡ false =
@@ -21,6 +24,7 @@ returns-then-eq-2 c =
     Judges-along _ _ _ _ _ c.node_line.result (of_node c.args.self.now c.args.letter.now c.args.others p is)
     (c.node_line.ensures c.args.letter.now)
 
+-- an arc line
 pub returns-then-eq-3 : goal.returns-then-eq-3
 returns-then-eq-3 c =
     let p : bytes_eq c.args.letter.now (codes "p") ≡ false =
@@ -32,6 +36,7 @@ returns-then-eq-3 c =
     Judges-along _ _ _ _ _ c.arc_line.result (of_arc c.args.self.now c.args.letter.now c.args.others p n is)
     (c.arc_line.ensures c.args.letter.now)
 
+-- no line of the format
 pub returns-else-eq-3 : goal.returns-else-eq-3
 returns-else-eq-3 c =
     let p : bytes_eq c.args.letter.now (codes "p") ≡ false =

@@ -1,3 +1,4 @@
+-- `judge_usual`: an arc line of the usual form is kept, is left to the general way, or finds no memory.
 use Rattle.std.proofs.Common.{sym, ap, ◌∙◌, ◌≡◌}
 use Rattle.flow_text.specs.ProblemReading.{known_with, known_from}
 use Rattle.flow_text.proofs.ProblemLemmas.{of_usual}

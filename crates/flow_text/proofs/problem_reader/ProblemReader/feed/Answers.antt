@@ -1,3 +1,4 @@
+-- `feed`: what the machine says of its rules is said of those of a problem.
 use Rattle.flow_text.specs.Problem.{known_of}
 use Rattle.flow_text.proofs.ProblemLemmas.{Adds-problem}
 use Rattle.flow_text.proofs.problem_reader.ProblemReader.feed.Goals as goal

@@ -1,3 +1,4 @@
+-- `new`: of the empty text no line is known.
 use Rattle.flow_text.specs.Problem.{known_of}
 use Rattle.flow_text.proofs.problem_reader.ProblemReader.new.Goals as goal
 

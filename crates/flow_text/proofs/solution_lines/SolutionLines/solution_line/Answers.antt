@@ -1,3 +1,4 @@
+-- `solution_line`: the first solution line says the value, and the flow lines stay.
 use Rattle.std.proofs.Common.{sym, ◌∙◌, ap, ℕ, Some}
 use Rattle.flow_text.specs.SolutionReading.{SolutionSoFar}
 use Rattle.flow_text.proofs.solution_lines.SolutionLines.solution_line.Goals as goal

@@ -1,3 +1,4 @@
+-- `judge`: the record by its letter.
 use Rattle.std.proofs.Common.{sym, ◌∙◌, ◌≡◌, true, false}
 use Rattle.std.specs.Prelude.{codes}
 use Rattle.std.specs.Str.{bytes_eq}
@@ -5,6 +6,7 @@ use Rattle.flow_text.proofs.RuleLemmas.{Judges-along}
 use Rattle.flow_text.proofs.SolutionLemmas.{of_solution, of_flow, of_unknown}
 use Rattle.flow_text.proofs.solution_lines.SolutionLinesJudge.judge.Goals as goal
 
+-- a solution line
 pub returns-then-eq : goal.returns-then-eq
 returns-then-eq c =
     let is : bytes_eq c.args.letter.now (codes "s") ≡ true =
@@ -12,6 +14,7 @@ returns-then-eq c =
     Judges-along _ _ _ _ _ c.solution_line.result (of_solution c.args.self.now c.args.letter.now c.args.others is)
     (c.solution_line.ensures c.args.letter.now)
 
+-- a flow line
 pub returns-then-eq-2 : goal.returns-then-eq-2
 returns-then-eq-2 c =
     let s : bytes_eq c.args.letter.now (codes "s") ≡ false =
@@ -21,6 +24,7 @@ returns-then-eq-2 c =
     Judges-along _ _ _ _ _ c.flow_line.result (of_flow c.args.self.now c.args.letter.now c.args.others s is)
     (c.flow_line.ensures c.args.letter.now)
 
+-- no line of the format
 pub returns-else-eq-2 : goal.returns-else-eq-2
 returns-else-eq-2 c =
     let s : bytes_eq c.args.letter.now (codes "s") ≡ false =

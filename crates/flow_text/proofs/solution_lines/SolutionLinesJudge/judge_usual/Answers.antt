@@ -1,3 +1,4 @@
+-- `judge_usual`: a flow line of the usual form has passed the tests of one, and is kept.
 use Rattle.std.proofs.Common.{◌∙◌}
 use Rattle.flow_text.proofs.SolutionLemmas.{of_usual}
 use Rattle.flow_text.proofs.solution_lines.SolutionLinesJudge.judge_usual.Goals as goal

@@ -1,3 +1,4 @@
+-- `feed`: what the machine says of its rules is said of those of a solution.
 use Rattle.flow_text.specs.SolutionReading.{so_far_of}
 use Rattle.flow_text.proofs.SolutionLemmas.{Adds-solution, feeds}
 use Rattle.flow_text.proofs.solution_reader.SolutionReader.feed.Goals as goal

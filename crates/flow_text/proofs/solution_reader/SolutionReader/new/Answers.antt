@@ -1,3 +1,4 @@
+-- `new`: of the empty text no line is known.
 use Rattle.std.proofs.Common.{[], sym, ◌∙◌}
 use Rattle.flow_text.specs.SolutionReading.{so_far_of}
 use Rattle.flow_text.proofs.SolutionLemmas.{early-same}

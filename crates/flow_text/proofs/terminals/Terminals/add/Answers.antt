@@ -1,8 +1,10 @@
+-- `add`: a node that is no terminal yet joins the sources or the sinks, and none stands there twice.
 use Rattle.std.proofs.Common.{rules, arith, ◌≡◌, ◌++◌, ◌∷◌, []}
 use Rattle.std.proofs.lemmas.Grind.{common_steps}
 use Rattle.flow_text.proofs.TerminalLemmas.{AreDistinct-source, AreDistinct-sink}
 use Rattle.flow_text.proofs.terminals.Terminals.add.Goals as goal
 
+-- a source
 pub invariant_of-self : goal.invariant_of-self
 invariant_of-self c = record {
   all = λ q. let h = c.self.invariant.all q in first_of (search rules, grind (arith, common_steps));
@@ -13,6 +15,7 @@ invariant_of-self c = record {
       c.args.node c.self.invariant.distinct (rw (← c.self.view_is) at c.requires));
 }
 
+-- a sink
 pub invariant_of-self-then-is_ok-3 : goal.invariant_of-self-then-is_ok-3
 invariant_of-self-then-is_ok-3 c = record {
   all = λ q. let h = c.self.invariant.all q in first_of (search rules, grind (arith, common_steps));

@@ -158,9 +158,10 @@ of_usual old text arc at u lacks room within =
     let fits = within.cap_fits in
     let passes : first_failed (arc_tests (known_with old) ((97 ∷ []) ∷ fields)) ≡ None =
     rw (lacks, few)
-    (ends-pass old.nodes CapacityOutOfRange (97 ∷ []) u.src_field u.dst_field u.number_field u.src_digits
-    (rw u.src_value (within.src_least, within.src_most)) u.dst_digits
-    (rw u.dst_value (within.dst_least, within.dst_most)) u.number_digits (rw u.number_value (omega arith))) in (
+    (ends-pass old.nodes CapacityOutOfRange (97 ∷ []) u.src_field u.dst_field u.number_field
+    (u.src_digits, rw u.src_value (within.src_least, within.src_most))
+    (u.dst_digits, rw u.dst_value (within.dst_least, within.dst_most)) u.number_digits
+    (rw u.number_value (omega arith))) in (
       of.0 ∙ as_arc.0 ∙ passes,
       sym (of.1 ∙ as_arc.1 ∙ ap (λ (a : Arc). known_with (record old { arcs = old.arcs ++ a ∷ [] })) is),
     )

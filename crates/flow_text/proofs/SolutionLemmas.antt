@@ -103,9 +103,10 @@ of_usual old text flow at u some room within =
     let fits = within.flow_fits in
     let passes : first_failed (flow_tests old.nodes (stated_in old) ((102 ∷ []) ∷ fields)) ≡ None =
     rw (some, few)
-    (ends-pass old.nodes FlowOutOfRange (102 ∷ []) u.src_field u.dst_field u.number_field u.src_digits
-    (rw u.src_value (within.src_least, within.src_most)) u.dst_digits
-    (rw u.dst_value (within.dst_least, within.dst_most)) u.number_digits (rw u.number_value (omega arith))) in (
+    (ends-pass old.nodes FlowOutOfRange (102 ∷ []) u.src_field u.dst_field u.number_field
+    (u.src_digits, rw u.src_value (within.src_least, within.src_most))
+    (u.dst_digits, rw u.dst_value (within.dst_least, within.dst_most)) u.number_digits
+    (rw u.number_value (omega arith))) in (
       of.0 ∙ as_flow.0 ∙ passes,
       sym (of.1 ∙ as_flow.1
           ∙ ap (λ (f : FlowLine). let known : SolutionSoFar = record old { lines = old.lines ++ f ∷ [] } in known) is),

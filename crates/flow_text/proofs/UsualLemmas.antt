@@ -224,18 +224,21 @@ IsLeading-at text value start i low inside digit nine so =
     (subst (λ d. IsLeading (drop start text) (value * 10 + (d - 48)) (i - start + 1)) same
     (IsLeading-more (drop start text) value (i - start) long (rw same digit) (rw same nine) so))
 
+-- a field that names one of so many nodes
+abbrev pub NamesNode : ℕ → List ℕ → Type 0
+NamesNode nodes field = (is_number field ≡ true) × ((1 ≤ value_of field) × (value_of field ≤ nodes))
+
 -- the tests of such a line pass
-pub ends-pass : (nodes : ℕ) (code : FaultCode) (letter src dst number : List ℕ)
-    → is_number src ≡ true → (1 ≤ value_of src) × (value_of src ≤ nodes)
-    → is_number dst ≡ true → (1 ≤ value_of dst) × (value_of dst ≤ nodes)
-    → is_number number ≡ true → value_of number ≤ GREATEST_CAPACITY
+pub ends-pass : (nodes : ℕ) (code : FaultCode) (letter src dst number : List ℕ) → NamesNode nodes src
+    → NamesNode nodes dst → is_number number ≡ true → value_of number ≤ GREATEST_CAPACITY
     → first_failed (ends_tests nodes code (letter ∷ src ∷ dst ∷ number ∷ [])) ≡ None
 unfolding ends_tests
-ends-pass nodes code letter src dst number s s_in d d_in n n_in =
+ends-pass nodes code letter src dst number s d n n_in =
+    let s_in = s.1 in let d_in = d.1 in
     let s_least : nat_lt (value_of src) 1 ≡ false = search (std_rules, arith) in
     let s_most : nat_lt nodes (value_of src) ≡ false = search (std_rules, arith) in
     let d_least : nat_lt (value_of dst) 1 ≡ false = search (std_rules, arith) in
     let d_most : nat_lt nodes (value_of dst) ≡ false = search (std_rules, arith) in
     let n_least : nat_lt (value_of number) 0 ≡ false = search (std_rules, arith) in
     let n_most : nat_lt GREATEST_CAPACITY (value_of number) ≡ false = search (std_rules, arith) in
-    simp (s, s_least, s_most, d, d_least, d_most, n, n_least, n_most)
+    simp (s.0, s_least, s_most, d.0, d_least, d_most, n, n_least, n_most)

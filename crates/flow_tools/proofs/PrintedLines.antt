@@ -179,8 +179,9 @@ flow_added old flow n some room s_least s_most d_least d_most fits =
     let is : flow_of ((102 ∷ []) ∷ s ∷ t ∷ x ∷ []) ≡ flow = rw (p.value, q.value, r.value) refl in
     let few : nat_le MOST_FLOW_LINES (length old.lines) ≡ false = search (std_rules, arith) in
     let passes : first_failed (flow_tests old.nodes (stated_in old) ((102 ∷ []) ∷ s ∷ t ∷ x ∷ [])) ≡ None =
-    rw (some, few) (ends-pass old.nodes FlowOutOfRange (102 ∷ []) s t x (number_printed flow.src s p)
-    (rw p.value (s_least, s_most)) (number_printed flow.dst t q) (rw q.value (d_least, d_most))
+    rw (some, few) (ends-pass old.nodes FlowOutOfRange (102 ∷ []) s t x
+    (number_printed flow.src s p, rw p.value (s_least, s_most))
+    (number_printed flow.dst t q, rw q.value (d_least, d_most))
     (number_printed flow.flow x r) (rw r.value (omega arith))) in (
       of.0 ∙ as_flow.0 ∙ passes,
       of.1 ∙ as_flow.1

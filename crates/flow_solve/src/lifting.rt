@@ -421,7 +421,8 @@ fn begun(source: u32) -> Walker
 fn farthest_source(task: Task<'_>, dist: &[u32]) -> u32
     requires task { IsTask task }
     requires dist_size { length dist.now ≡ task.packed.net.now.nodes }
-    ensures { (k : ℕ) → k < length task.entry.s.now → slice_index dist.now (slice_index task.entry.s.now k - 1) ≤ result }
+    ensures { (k : ℕ) → k < length task.entry.s.now
+        → slice_index dist.now (slice_index task.entry.s.now k - 1) ≤ result }
 {
     let mut farthest = 0;
     for source in task.s {

@@ -36,7 +36,8 @@ use Rattle.flow_text.specs.declared.faults.FaultCode.TheVariants.{NodeOutOfRange
 use Rattle.flow_text.specs.declared.faults.FaultCode.TheVariants.{ValueOutOfRange}
 use Rattle.flow_text.proofs.KindLemmas.{none_from}
 use Rattle.flow_text.proofs.ProblemLemmas.{Adds-problem, of_problem, of_node, of_arc, of_unknown}
-use Rattle.flow_text.proofs.SolutionLemmas.{Adds-solution, of_solution, of_flow, of_unknown as of_unknown_solution, whole-same}
+use Rattle.flow_text.proofs.SolutionLemmas.{Adds-solution, of_solution, of_flow, of_unknown as of_unknown_solution}
+use Rattle.flow_text.proofs.SolutionLemmas.{whole-same}
 use Rattle.flow_text.proofs.TerminalLemmas.{AreDistinct-source, AreDistinct-sink}
 use Rattle.flow_text.proofs.WithinLemmas.{by_text, accepted-parts, passed, number-passed, ends-passed}
 use Rattle.flow_text.specs.declared.limits.TheConstants.{GREATEST_VALUE, MOST_FLOW_LINES}

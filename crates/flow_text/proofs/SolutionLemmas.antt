@@ -9,9 +9,11 @@ use Rattle.std.proofs.lemmas.Bool.{cases_Bool}
 use Rattle.std.proofs.lemmas.List.{map-append}
 use Rattle.flow_text.specs.Fields.{fields_of}
 use Rattle.flow_text.specs.Tests.{first_failed}
-use Rattle.flow_text.specs.Rules.{is_comment, names, at_line, length_fault, fault_of, first_fault, early_fault, whole_fault}
+use Rattle.flow_text.specs.Rules.{is_comment, names, at_line, length_fault, fault_of, first_fault, early_fault}
+use Rattle.flow_text.specs.Rules.{whole_fault}
 use Rattle.flow_text.specs.Lines.{ended, rest, lines}
-use Rattle.flow_text.specs.Solution.{stated_of, solution_record_fault, solution_end_fault, solution_rules, early_solution}
+use Rattle.flow_text.specs.Solution.{stated_of, solution_record_fault, solution_end_fault, solution_rules}
+use Rattle.flow_text.specs.Solution.{early_solution}
 use Rattle.flow_text.specs.SolutionReading.{SolutionSoFar, so_far_of, so_far_rules, stated_in, FeedsSolution}
 use Rattle.flow_text.specs.SolutionReading.{solution_tests}
 use Rattle.flow_text.specs.Solution.{flow_tests}

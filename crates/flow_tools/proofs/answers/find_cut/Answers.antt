@@ -14,7 +14,8 @@ returns-then-sink-clause-valued g c =
     let p = c.args.problem.now in let r = c.cut_nearest_sinks.ensures in
     let net = c.net-net.ensures.net in let s = c.sources-s.ensures.sources in let t = c.sinks-t.ensures.sinks in
     let flow = rw (net, s, t) at r.flow in let side = rw (net, s, t) at r.side in
-    rw c.if-sink.true (same_value p c.cut_nearest_sinks.result c.cut_nearest_sinks.new.flow.flows flow.value _ side.value)
+    rw c.if-sink.true
+    (same_value p c.cut_nearest_sinks.result c.cut_nearest_sinks.new.flow.flows flow.value _ side.value)
 
 pub returns-then-sink-clause-nearest : goal.returns-then-sink-clause-nearest
 returns-then-sink-clause-nearest g c =

@@ -5,6 +5,7 @@ ghost use Rattle.std.specs.Prelude.{◌≡◌, Some, codes};
 use clap::{Arg, ArgAction, Command, Error};
 use std::alloc::Global;
 
+/// What the help of `flow` ends with.
 const ALL_STATUSES: &str =
     "flow COMMAND --help says what a command reads and prints, with an example.
 Guide, a page for each task: docs/GUIDE.md. What a message means: docs/MESSAGES.md.
@@ -16,6 +17,7 @@ Exit status:
   3  an input has a fault; standard error tells its line and what is wrong
   4  a file, a stream or memory failed; standard error tells which";
 
+/// What the help of a command with one input ends with.
 const STATUSES: &str =
     "Where no file is named, standard input is read; - names a file like any other.
 Guide, a page for each task: docs/GUIDE.md. What a message means: docs/MESSAGES.md.
@@ -26,6 +28,7 @@ Exit status:
   3  the problem has a fault; standard error tells its line and what is wrong
   4  a file, a stream or memory failed; standard error tells which";
 
+/// What the help of `check` ends with.
 const CHECK_STATUSES: &str =
     "Where no solution is named, standard input is read; - names a file like any other.
 Guide, a page for each task: docs/GUIDE.md. What a message means: docs/MESSAGES.md.
@@ -38,6 +41,7 @@ Exit status:
      what is wrong
   4  a file, a stream or memory failed; standard error tells which";
 
+/// How a problem is written.
 const PROBLEM: &str = "The problem, in the DIMACS maximum flow format. Its lines, in this order:
   p max NODES ARCS   the number of nodes, named from 1 on, and of arcs
   n ID s | n ID t    a source, a sink: one or more of each, no node twice
@@ -45,6 +49,7 @@ const PROBLEM: &str = "The problem, in the DIMACS maximum flow format. Its lines
 A line that begins with c is a comment. Limits: 2 to 1000000 nodes, 4000000
 arcs, whole capacities up to 18446744073709551615, lines of 200 bytes";
 
+/// How a solution is written.
 const SOLUTION: &str = "The solution. Its lines, in this order:
   s VALUE            the value that the flow is said to have
   f SRC DST FLOW     what flows from SRC to DST; lines of one pair add up,
@@ -52,6 +57,7 @@ const SOLUTION: &str = "The solution. Its lines, in this order:
 A line that begins with c is a comment. Limits: whole flows up to
 18446744073709551615, 4000000 lines f, lines of 200 bytes";
 
+/// What `solve` does.
 const SOLVE: &str = "Reads a maximum flow problem and prints
   s VALUE          the greatest value that a flow has
   f SRC DST FLOW   a flow of that value: a line for each arc, in their order
@@ -62,6 +68,7 @@ Example, with the problem on standard input:
   f 1 2 2
   f 2 3 2";
 
+/// What `cut` does.
 const CUT: &str = "Reads a maximum flow problem and prints
   s VALUE          the least capacity that a cut has
   n NODE           the nodes on the source side of such a cut, rising
@@ -78,6 +85,7 @@ Example, with the problem on standard input:
   n 2
   a 2 3 2";
 
+/// What `connect` does.
 const CONNECT: &str = "Reads a maximum flow problem and prints
   k VALUE          the edge connectivity of its network: the least number of arc
                    lines that leave a set of nodes, neither empty nor all
@@ -90,6 +98,7 @@ Example, with the problem on standard input:
   $ printf 'p max 3 3\\nn 1 s\\nn 3 t\\na 1 2 1\\na 2 3 1\\na 3 1 1\\n' | flow connect
   k 1";
 
+/// What `check` does.
 const CHECK: &str = "Reads a problem and a solution and prints a verdict, the first that applies:
   over SRC DST FLOW CAP    the flow from SRC to DST passes the capacity
   unbalanced NODE IN OUT   what enters the node isn't what leaves it

@@ -183,6 +183,7 @@ fn put_number(bytes: &mut [u8], n: u64, end: usize) -> usize
     start
 }
 
+/// The verdict on a pair of nodes whose flow passes its capacity: `over SRC DST FLOW CAP`.
 fn over_line(src: u32, dst: u32, flow: u128, cap: u128) -> Line
     ensures { result.items ≡ line_of "over" (src ∷ dst ∷ flow ∷ cap ∷ []) }
 {
@@ -196,6 +197,7 @@ fn over_line(src: u32, dst: u32, flow: u128, cap: u128) -> Line
     line
 }
 
+/// The verdict on a node that takes in other than it sends on: `unbalanced NODE IN OUT`.
 #[tactic(auto, unfolding(crate::specs::Output::line_of))]
 fn unbalanced_line(node: u32, into: u128, out: u128) -> Line
     ensures { result.items ≡ line_of "unbalanced" (node ∷ into ∷ out ∷ []) }
@@ -209,6 +211,7 @@ fn unbalanced_line(node: u32, into: u128, out: u128) -> Line
     line
 }
 
+/// The verdict on a value that isn't the flow's: `value GIVEN FOUND`.
 #[tactic(auto, unfolding(crate::specs::Output::verdict_line))]
 fn value_line(given: u128, found: i128) -> Line
     ensures { result.items ≡ verdict_line (Verdict.Value given found) }

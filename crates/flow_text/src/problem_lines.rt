@@ -88,6 +88,7 @@ impl Model for Declared {
 }
 
 impl Declared {
+    /// What a problem line with these numbers declares: no terminal and no arc yet.
     fn new(alloc: Global, nodes: u32, arcs: u32) -> Declared
         requires nodes_least { FEWEST_NODES ≤ nodes }
         requires nodes_most { nodes ≤ MOST_NODES }
@@ -102,6 +103,7 @@ impl Declared {
         }
     }
 
+    /// The arcs so far.
     fn net(&self) -> &Network
         ensures known { known_net (known_with self.now) ≡ Some result.now }
         ensures most { length result.now.arcs ≤ MOST_ARCS }

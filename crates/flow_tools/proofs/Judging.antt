@@ -1,7 +1,7 @@
 -- What a flow that carries the lines of a solution says of them.
-use Rattle.std.proofs.Common.{◌≡◌, ℕ, suc, ◌+◌, ◌<◌, Bool, true, eqb, List, [], ◌∷◌, length, get_or, ◌∙◌, sym, ap}
+use Rattle.std.proofs.Common.{◌≡◌, ℕ, ◌+◌, Bool, List, length, get_or, ◌∙◌, sym, ap}
 use Rattle.std.proofs.Common.{subst, inl, inr, pos, ◌-ℤ◌, length-append, arith}
-use Rattle.std.proofs.lemmas.Bool.{cases_eq, eqb-true, or_cases}
+use Rattle.std.proofs.lemmas.Bool.{cases_eq}
 use Rattle.std.proofs.lemmas.Int.{ints}
 use Rattle.std.proofs.lemmas.List.{get_or_append_left, get_or-append-add}
 use Rattle.flow_net.specs.Nets.{Net, Instance}
@@ -13,6 +13,7 @@ use Rattle.flow_net.specs.Laws.{AreApart}
 use Rattle.flow_net.proofs.Zips.{zip_from_fits}
 use Rattle.flow_net.proofs.Cuts.{flow_over-le-cap_over}
 use Rattle.flow_net.proofs.MaxFlows.{max_flow_min_cut}
+use Rattle.flow_net.proofs.NodeLists.{place_in}
 use Rattle.flow_text.specs.declared.solutions.FlowLine.{FlowLine}
 use Rattle.flow_tools.specs.SolutionFlows.{net_outflow}
 use Rattle.flow_tools.specs.ArcShares.{is_pair}
@@ -66,13 +67,6 @@ terminals_apart net sources sinks t v e =
     not_one_of sinks v
     (λ j l f. t.distinct at.0 (length sources + j) (omega (arith, at.1)) (omega (arith, length-append sources sinks))
     (get_or_append_left sources sinks 0 at.0 at.1 ∙ at.2 ∙ f ∙ sym (get_or-append-add sources sinks j 0)))
-  where
-    place_in : (ws : List ℕ) (v : ℕ) → one_of ws v ≡ true → (k : ℕ) × (k < length ws) × (get_or ws k 0 ≡ v)
-    place_in [] v e = cc
-    place_in (w ∷ ws) v e = elim (or_cases (eqb w v) (one_of ws v) e) [
-      | inl h ↦ (0, omega arith, eqb-true w v h)
-      | inr h ↦ let q = place_in ws v h in (suc q.0, omega (arith, q.1), q.2)
-    ]
 
 -- a value that isn't the greatest is less than it
 pub less_value : (p : Instance) (xs : List ℕ) → IsNet p.net → IsProblem p

@@ -1,3 +1,4 @@
+-- `solve`: it begins with the flow of zeros, and ends with cells that a method has worked in.
 use Rattle.std.proofs.Common.{◌≡◌, ◌*◌, ◌≤◌, List, ℕ, replicate, length, subst, sym, ap, ◌∙◌, arith}
 use Rattle.flow_solve.specs.Bounds.{work_cells}
 use Rattle.flow_solve.specs.Raising.{IsFlow}
@@ -5,6 +6,7 @@ use Rattle.flow_solve.proofs.Behind.{drop_farther}
 use Rattle.flow_solve.proofs.Raises.{zero_flow}
 use Rattle.flow_solve.proofs.raising.solve.Goals as goal
 
+-- the flow of zeros has the value 0
 pub raise_from_zero-requires-clause-flow : goal.raise_from_zero-requires-clause-flow
 raise_from_zero-requires-clause-flow g c =
     let zeros : c.clear.new.self.flows ≡ replicate (length c.args.net.now.arcs) 0 =

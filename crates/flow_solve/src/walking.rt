@@ -150,7 +150,7 @@ pub(crate) struct Phase<'a> {
     pub s: &'a [u32],
     /// The sinks.
     pub t: &'a [u32],
-    /// The distance of each node to a sink, or a number for an unseen node.
+    /// The distance of each node to a sink; of an unseen node `FAR`, or `WANTED` where it was looked out for.
     pub dist: &'a [u32],
     /// The rank of each node, the nearest first, or [`FAR`](crate::searching::FAR) for an unseen node.
     pub rank: &'a [u32],

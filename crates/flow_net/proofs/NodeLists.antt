@@ -1,8 +1,12 @@
 -- The nodes of a list, as a set.
-use Rattle.std.proofs.Common.{◌≡◌, ◌≢◌, ℕ, zero, suc, ◌<◌, true, eqb, List, [], ◌∷◌}
-use Rattle.std.proofs.Common.{length, get_or, take, refl, inl, inr, eq-eqb, arith}
-use Rattle.std.proofs.lemmas.Bool.{ne_eqb, eqb-true, or_cases, or_left, or_right}
+use Rattle.std.proofs.Common.{◌≡◌, ◌≢◌, ℕ, zero, suc, ◌+◌, ◌<◌, true, eqb, List, [], ◌∷◌}
+use Rattle.std.proofs.Common.{length, length-append, get_or, take, refl, ◌∙◌, sym, inl, inr, eq-eqb, arith}
+use Rattle.std.proofs.lemmas.Bool.{cases_Bool, ne_eqb, eqb-true, or_cases, or_left, or_right}
+use Rattle.std.proofs.lemmas.List.{get_or_append_left, get_or-append-add}
+use Rattle.flow_net.specs.Nets.{Net}
+use Rattle.flow_net.specs.Limits.{AreTerminals}
 use Rattle.flow_net.specs.NodeSets.{one_of}
+use Rattle.flow_net.specs.Laws.{AreApart}
 
 -- one element more: it is in the set, and no other node is new there
 pub one_of-here : (ws : List ℕ) (k : ℕ) → k < length ws → one_of (take (suc k) ws) (get_or ws k 0) ≡ true
@@ -30,4 +34,17 @@ place_in [] v e = cc
 place_in (w ∷ ws) v e = elim (or_cases (eqb w v) (one_of ws v) e) [
   | inl h ↦ (0, omega arith, eqb-true w v h)
   | inr h ↦ let p = place_in ws v h in (suc p.0, omega (arith, p.1), p.2)
+]
+
+-- no node is a source and a sink
+pub terminals_apart : (net : Net) (s t : List ℕ) → AreTerminals net s t → AreApart (one_of s) (one_of t)
+terminals_apart net s t a v i = elim (cases_Bool (one_of t v)) [
+  | inl both ↦
+      let p = place_in s v i in let q = place_in t v both in
+      let left = get_or_append_left s t 0 p.0 p.1 in
+      let right = get_or-append-add s t q.0 0 in
+      let size = length-append s t in
+      absurd
+      (a.distinct p.0 (length s + q.0) (omega (arith, p.1)) (omega (arith, q.1)) (left ∙ p.2 ∙ sym q.2 ∙ sym right))
+  | inr out ↦ out
 ]

@@ -9,12 +9,13 @@ use Rattle.flow_net.specs.MarkedNodes.{marked}
 use Rattle.flow_net.specs.Flows.{IsFeasible}
 use Rattle.flow_net.specs.GreatestFlows.{HasGreatestValue}
 use Rattle.flow_net.specs.Cuts.{capacity}
+use Rattle.flow_net.proofs.NodeLists.{terminals_apart}
 use Rattle.flow_solve.specs.declared.searching.Direction.{Direction}
 use Rattle.flow_solve.specs.declared.searching.Direction.TheVariants.{Forwards, Backwards}
 use Rattle.flow_solve.specs.Searches.{seen, Misses, HasRoute}
 use Rattle.flow_solve.specs.Sides.{starts_of, until_of, IsLeastSide}
 use Rattle.flow_solve.proofs.Outcomes.{forward_tight, forward_side, backward_tight, backward_side, answers}
-use Rattle.flow_solve.proofs.Routes.{terminals_apart, route_raises}
+use Rattle.flow_solve.proofs.Routes.{route_raises}
 
 -- the terminals are nodes, whichever way a search goes
 pub starts_within : (dir : Direction) (net : Net) (s t : List ℕ) → AreTerminals net s t

@@ -13,6 +13,7 @@ use Rattle.flow_net.specs.NodeSets.{one_of}
 use Rattle.flow_net.specs.Residual.{tail_of, head_of, residual}
 use Rattle.flow_net.specs.Paths.{IsPath, HasRoom, push_all}
 use Rattle.flow_net.proofs.Zips.{tail_is_node}
+use Rattle.flow_net.proofs.NodeLists.{terminals_apart}
 use Rattle.flow_solve.specs.declared.lifting.Ranked.{Ranked}
 use Rattle.flow_solve.specs.declared.lifting.Step.{Step}
 use Rattle.flow_solve.specs.declared.lifting.TheConstants.{KEYS_APART}
@@ -24,7 +25,7 @@ use Rattle.flow_solve.specs.Trees.{IsAugmenting}
 use Rattle.flow_solve.proofs.Descents.{path_length, path_take, path_more, all_take, all_more, all_made, halves_at}
 use Rattle.flow_solve.proofs.Descents.{take_nil, take_take, rooms_apart}
 use Rattle.flow_solve.proofs.Rising.{augmenting_halves, augmenting_apart}
-use Rattle.flow_solve.proofs.Routes.{terminals_apart, sink_no_source}
+use Rattle.flow_solve.proofs.Routes.{sink_no_source}
 
 -- ---- the path
 

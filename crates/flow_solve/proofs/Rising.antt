@@ -14,9 +14,9 @@ use Rattle.flow_net.proofs.AugmentingPaths.{climbs_apart, augmented, no_loops_cl
 use Rattle.flow_solve.specs.Raising.{IsFlow}
 use Rattle.flow_solve.specs.Trees.{key_of, IsRising, IsAugmenting}
 use Rattle.flow_solve.proofs.Descents.{all_whole, halves_at}
-use Rattle.flow_net.proofs.NodeLists.{one_of-at}
+use Rattle.flow_net.proofs.NodeLists.{one_of-at, terminals_apart}
 use Rattle.flow_solve.proofs.Raises.{value_most, capacities_fit}
-use Rattle.flow_solve.proofs.Routes.{sink_no_source, terminals_apart}
+use Rattle.flow_solve.proofs.Routes.{sink_no_source}
 
 -- what a node's label makes of the node
 abbrev pub level_by : List ℕ → ℕ → ℕ

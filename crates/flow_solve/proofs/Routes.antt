@@ -1,11 +1,9 @@
 -- Residual paths that a search has found, and what they show.
 use Rattle.std.proofs.Common.{◌≡◌, ◌≢◌, ℕ, zero, suc, ◌+◌, ◌-◌, ◌*◌, ◌/◌, ◌≤◌, ◌<◌, Bool, true, false, IsTrue, List, []}
-use Rattle.std.proofs.Common.{◌∷◌, length, get_or, refl, ◌∙◌, sym, ap, subst, inl, inr, arith}
+use Rattle.std.proofs.Common.{◌∷◌, length, get_or, refl, sym, ap, subst, inl, inr, arith}
 use Rattle.std.specs.List.{AllByRecursion}
-use Rattle.std.proofs.lemmas.List.{get_or_append_left, get_or-append-add, length-append}
 use Rattle.std.proofs.lemmas.Bool.{cases_Bool}
 use Rattle.flow_net.specs.Nets.{Net, IsNode}
-use Rattle.flow_net.specs.Limits.{AreTerminals}
 use Rattle.flow_net.specs.NodeSets.{one_of}
 use Rattle.flow_net.specs.Flows.{IsFeasible}
 use Rattle.flow_net.specs.GreatestFlows.{HasGreatestValue}
@@ -17,20 +15,6 @@ use Rattle.flow_solve.specs.declared.searching.Direction.{Direction}
 use Rattle.flow_solve.specs.declared.searching.Direction.TheVariants.{Forwards, Backwards}
 use Rattle.flow_solve.specs.Searches.{IsMarked, IsSearched, IsRoute, HasRoute}
 use Rattle.flow_solve.specs.Trails.{trail, trail_from, AreTrails}
-use Rattle.flow_net.proofs.NodeLists.{place_in}
-
--- no node is a source and a sink
-pub terminals_apart : (net : Net) (s t : List ℕ) → AreTerminals net s t → AreApart (one_of s) (one_of t)
-terminals_apart net s t a v i = elim (cases_Bool (one_of t v)) [
-  | inl both ↦
-      let p = place_in s v i in let q = place_in t v both in
-      let left = get_or_append_left s t 0 p.0 p.1 in
-      let right = get_or-append-add s t q.0 0 in
-      let size = length-append s t in
-      absurd
-      (a.distinct p.0 (length s + q.0) (omega (arith, p.1)) (omega (arith, q.1)) (left ∙ p.2 ∙ sym q.2 ∙ sym right))
-  | inr out ↦ out
-]
 
 pub sink_no_source : (s t : ℕ → Bool) → AreApart s t → (v : ℕ) → t v ≡ true → s v ≡ false
 sink_no_source s t a v i = elim (cases_Bool (s v)) [

@@ -15,8 +15,7 @@ use Rattle.flow_net.proofs.Zips.{arc_within}
 use Rattle.flow_solve.specs.declared.settling.TheConstants.{EVEN, HALF, INNER, SOURCE, SINK}
 use Rattle.flow_solve.specs.Raising.{IsFlow}
 use Rattle.flow_solve.specs.Settling.{pair_at, role_of, AreRoles, AreSums}
-use Rattle.flow_net.proofs.NodeLists.{one_of-here, one_of-other}
-use Rattle.flow_solve.proofs.Routes.{terminals_apart}
+use Rattle.flow_net.proofs.NodeLists.{one_of-here, one_of-other, terminals_apart}
 
 -- ---- roles
 

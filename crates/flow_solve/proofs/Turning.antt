@@ -14,6 +14,7 @@ use Rattle.flow_net.specs.Residual.{tail_of, head_of, residual}
 use Rattle.flow_net.specs.Paths.{IsPath, HasRoom, IsApart, push_all}
 use Rattle.flow_net.proofs.AugmentingPaths.{augmented}
 use Rattle.flow_net.proofs.Zips.{head_is_node, tail_is_node}
+use Rattle.flow_net.proofs.NodeLists.{terminals_apart}
 use Rattle.flow_solve.specs.Packs.{IsPacked}
 use Rattle.flow_solve.specs.Levels.{cell_of, place_of, left, fill_cost, to_fill, any, is_open, HasMoved, IsAdmissible}
 use Rattle.flow_solve.specs.Levels.{IsDead, IsBlocked, IsInPhase, AreSinks, IsOrdered, IsGentle, Descends, IsLooked}
@@ -26,7 +27,7 @@ use Rattle.flow_solve.proofs.Descents.{path_take, path_more, all_take, all_at, a
 use Rattle.flow_solve.proofs.Descents.{path_end, take_nil, take_take, no_loops_descended}
 use Rattle.flow_solve.proofs.Bounds.{IsPaid, paid_advance, paid_retreat, paid_augment}
 use Rattle.flow_solve.proofs.Distances.{gentle_descended}
-use Rattle.flow_solve.proofs.Routes.{terminals_apart, sink_no_source}
+use Rattle.flow_solve.proofs.Routes.{sink_no_source}
 use Rattle.flow_solve.proofs.Walks.{IsOn, on_up, moved_up, set_next, moved_within, blocked_pass}
 
 -- the walk stands at x, on a path from u on which the ranks fall; each of its half-arcs lies at its node's current

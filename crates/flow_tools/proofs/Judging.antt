@@ -1,25 +1,22 @@
 -- What a flow that carries the lines of a solution says of them.
-use Rattle.std.proofs.Common.{◌≡◌, ℕ, ◌+◌, Bool, List, length, get_or, ◌∙◌, sym, ap}
-use Rattle.std.proofs.Common.{subst, inl, inr, pos, ◌-ℤ◌, length-append, arith}
+use Rattle.std.proofs.Common.{◌≡◌, ℕ, ◌+◌, Bool, List, ◌∙◌, sym, ap}
+use Rattle.std.proofs.Common.{subst, inl, inr, pos, ◌-ℤ◌, arith}
 use Rattle.std.proofs.lemmas.Bool.{cases_eq}
 use Rattle.std.proofs.lemmas.Int.{ints}
-use Rattle.std.proofs.lemmas.List.{get_or_append_left, get_or-append-add}
 use Rattle.flow_net.specs.Nets.{Net, Instance}
-use Rattle.flow_net.specs.Limits.{IsNet, IsProblem, AreTerminals}
+use Rattle.flow_net.specs.Limits.{IsNet, IsProblem}
 use Rattle.flow_net.specs.NodeSets.{one_of, just}
 use Rattle.flow_net.specs.Flows.{Fits, IsFeasible, HasValue, IsGreatest}
 use Rattle.flow_net.specs.GreatestFlows.{HasGreatestValue}
-use Rattle.flow_net.specs.Laws.{AreApart}
 use Rattle.flow_net.proofs.Zips.{zip_from_fits}
 use Rattle.flow_net.proofs.Cuts.{flow_over-le-cap_over}
 use Rattle.flow_net.proofs.MaxFlows.{max_flow_min_cut}
-use Rattle.flow_net.proofs.NodeLists.{place_in}
+use Rattle.flow_net.proofs.NodeLists.{terminals_apart}
 use Rattle.flow_text.specs.declared.solutions.FlowLine.{FlowLine}
 use Rattle.flow_tools.specs.SolutionFlows.{net_outflow}
 use Rattle.flow_tools.specs.ArcShares.{is_pair}
 use Rattle.flow_tools.specs.Verdicts.{IsWithinCapacities, IsBalanced}
 use Rattle.flow_tools.specs.ArcShares.{Carries, HasLessValue}
-use Rattle.flow_tools.proofs.NodeSumLemmas.{not_one_of}
 
 -- no pair's flow passes its capacity
 pub carried_within : (net : Net) (lines : List FlowLine) (xs : List ℕ) → Fits net xs → Carries net lines xs
@@ -58,15 +55,6 @@ pub greatest_value : (net : Net) (s t : ℕ → Bool) (xs : List ℕ) (value : �
 greatest_value net s t xs value v g =
     let same : g.0 ≡ value = omega (arith, g.1, v) in
     subst (IsGreatest net s t) same g.2
-
--- no source is a sink
-pub terminals_apart : (net : Net) (sources sinks : List ℕ) → AreTerminals net sources sinks
-    → AreApart (one_of sources) (one_of sinks)
-terminals_apart net sources sinks t v e =
-    let at = place_in sources v e in
-    not_one_of sinks v
-    (λ j l f. t.distinct at.0 (length sources + j) (omega (arith, at.1)) (omega (arith, length-append sources sinks))
-    (get_or_append_left sources sinks 0 at.0 at.1 ∙ at.2 ∙ f ∙ sym (get_or-append-add sources sinks j 0)))
 
 -- a value that isn't the greatest is less than it
 pub less_value : (p : Instance) (xs : List ℕ) → IsNet p.net → IsProblem p

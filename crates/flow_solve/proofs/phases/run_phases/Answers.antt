@@ -2,12 +2,12 @@
 -- farther from the sinks.
 use Rattle.std.proofs.Common.{◌≡◌, ℕ, List, ◌+◌, ◌-◌, inl, inr, length, sym, subst, arith}
 use Rattle.std.proofs.lemmas.Bool.{cases_lt}
+use Rattle.flow_net.proofs.NodeLists.{terminals_apart}
 use Rattle.flow_solve.specs.Searches.{seen}
 use Rattle.flow_solve.specs.Levels.{IsFar}
 use Rattle.flow_solve.proofs.Bounds.{run_paid}
 use Rattle.flow_solve.proofs.Distances.{far_start}
 use Rattle.flow_solve.proofs.Raises.{settled}
-use Rattle.flow_solve.proofs.Routes.{terminals_apart}
 use Rattle.flow_solve.proofs.phases.run_phases.Goals as goal
 
 -- no phase yet

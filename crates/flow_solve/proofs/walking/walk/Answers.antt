@@ -5,10 +5,10 @@ use Rattle.std.specs.Prelude.{slice_index}
 use Rattle.std.proofs.lemmas.List.{get_or-take, length-take-le}
 use Rattle.flow_net.specs.NodeSets.{one_of}
 use Rattle.flow_net.specs.Residual.{tail_of}
+use Rattle.flow_net.proofs.NodeLists.{terminals_apart}
 use Rattle.flow_solve.specs.Levels.{cell_of, place_of, owed, IsInPhase, IsDead, IsGentle}
 use Rattle.flow_solve.proofs.Places.{cell_at}
 use Rattle.flow_solve.proofs.Raises.{value_most, capacities_fit}
-use Rattle.flow_solve.proofs.Routes.{terminals_apart}
 use Rattle.flow_solve.proofs.Walks.{moved_up, on_up, set_next}
 use Rattle.flow_solve.proofs.Turning.{turning_as, turning_augment, turning_gentle, turning_advance, turning_retreat}
 use Rattle.flow_solve.proofs.Turning.{turning_end, turning_apart, some_path, half_on, looked_phase, dead_here}

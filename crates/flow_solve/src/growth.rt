@@ -101,10 +101,10 @@ fn arrange(
     ensures reached { IfSome result (λ r. IsReached packed.entry.net.now r) }
 {
     let n = packed.net.nodes() as usize;
-    let (joins, rest) = rest.split_at_mut(n);
-    let most = least.saturating_mul(2).min(n as u64) as usize;
-    let (fronts, _) = rest.split_at_mut(most);
-    let sweep = order_nodes(packed, order, cells, joins, fronts)?;
+    let (joins, links) = rest.split_at_mut(n);
+    // A node that more half-arcs join isn't told from one that so many join.
+    let lists = least.saturating_mul(2).min(n as u64) as usize;
+    let sweep = order_nodes(packed, order, cells, joins, links, lists)?;
     Some(bound_by_prefix(packed.net, order, cells, sweep, least))
 }
 

@@ -1,16 +1,17 @@
 //! An order of all nodes in which each is joined with many earlier ones: that of maximum adjacency, where the next node
-//! is always one that the most half-arcs join with the nodes before it.
+//! is always one that the most half-arcs join with the nodes before it, and of several the one that was joined last. So
+//! the order goes round a ring one way, and the flow of each node stays near it.
 //!
-//! The order is made by exchanges. All nodes stand in a row from the start, those with a place in the order first, then
-//! the others by how many half-arcs join them with those, the most first; one more join moves a node to the front of
-//! the nodes with as many, by an exchange with the first of them. Nothing is proved of these exchanges but that they
-//! stay within the cells: whether the row has all nodes is tested when it is done.
-ghost use Rattle.std.specs.Prelude.{◌≡◌, ◌≤◌, IfSome, IsTrue, length};
+//! Nodes that are joined and have no place yet stand on lists, one for each number of half-arcs, linked both ways, the
+//! one joined last in front. Nothing is proved of these lists but that they stay within the cells: whether the order has
+//! all nodes is tested when it is done.
+ghost use Rattle.std.specs.Prelude.{◌≡◌, ◌<◌, ◌≤◌, IfSome, IsTrue, length};
 ghost use Rattle.flow_net.specs.Nets.{IsNode};
 ghost use Rattle.flow_net.specs.Orders.{IsOrder};
 ghost use Rattle.flow_solve.specs.Packs.{IsPacked};
 ghost use Rattle.flow_solve.specs.Growth.{ArePlaces, IsClean, IsInOrder};
 
+use crate::frontiers::{END, get, put};
 use crate::packing::Packed;
 use crate::searching::head;
 use flow_net::MOST_NODES;
@@ -27,80 +28,118 @@ pub(crate) struct Sweep {
     pub place: u32,
 }
 
-/// Puts each node at its own number's place.
-fn line_up(order: &mut [u32], cells: &mut [u32])
-    requires few { length cells.old ≤ MOST_NODES }
-    requires size { length order.old ≡ length cells.old }
-{
-    for place in 0..cells.len() {
-        order[place] = place as u32 + 1;
-        cells[place] = place as u32;
+/// Stands among the joins of a node that has its place.
+const PLACED: u32 = u32::MAX;
+
+/// Takes a node off a list. Nodes stand on lists by their number less 1, each with the one before it and the one after
+/// it side by side, and `firsts` has the first node of each list.
+fn unlink(links: &mut [u32], firsts: &mut [u32], list: usize, node: u32) {
+    let before = get(links, 2 * node as usize);
+    let after = get(links, 2 * node as usize + 1);
+    if before == END {
+        put(firsts, list, after);
+    } else {
+        put(links, 2 * before as usize + 1, after);
+    }
+    if after != END {
+        put(links, 2 * after as usize, before);
     }
 }
 
-/// Moves a node that has no place yet to the front of the nodes that are joined as often as it, as one that is joined
-/// once more.
-fn advance(
-    order: &mut [u32],
-    cells: &mut [u32],
-    joins: &mut [u32],
-    fronts: &mut [u32],
-    done: u32,
-    node: u32,
-)
-    requires order_size { length order.old ≡ length cells.old }
-    requires joins_size { length joins.old ≡ length cells.old }
-    requires node { (1 ≤ node) × (node ≤ length cells.old) }
-{
-    let nodes = cells.len();
-    let at = cells[node as usize - 1];
-    if at < done {
-        return;
+/// Puts a node in front of a list.
+fn link(links: &mut [u32], firsts: &mut [u32], list: usize, node: u32) {
+    let after = get(firsts, list);
+    put(links, 2 * node as usize, END);
+    put(links, 2 * node as usize + 1, after);
+    if after != END {
+        put(links, 2 * after as usize, node);
     }
-    let count = joins[node as usize - 1];
-    joins[node as usize - 1] = count.saturating_add(1);
-    if at as usize >= nodes || count as usize >= fronts.len() {
-        return;
-    }
-    let to = fronts[count as usize].max(done);
-    if to > at {
-        return;
-    }
-    let other = order[to as usize];
-    if other == 0 || other as usize > nodes {
-        return;
-    }
-    fronts[count as usize] = to.saturating_add(1);
-    order[to as usize] = node;
-    cells[node as usize - 1] = to;
-    order[at as usize] = other;
-    cells[other as usize - 1] = at;
+    put(firsts, list, node);
 }
 
-/// Joins the nodes behind the half-arcs of the node that has come to its place last, once more each.
+/// Takes the first node off a list, and answers it; [`END`] if the list has none.
+fn take_first(links: &mut [u32], firsts: &mut [u32], list: usize) -> u32 {
+    let node = get(firsts, list);
+    if node != END {
+        let after = get(links, 2 * node as usize + 1);
+        put(firsts, list, after);
+        if after != END {
+            put(links, 2 * after as usize, END);
+        }
+    }
+    node
+}
+
+/// Joins a node once more, which moves it to the front of the next list; on the last list it stays where it is. Answers
+/// how many half-arcs join the nodes of its new list, and 0 where it doesn't come to a new one.
+fn join(links: &mut [u32], firsts: &mut [u32], joins: &mut [u32], node: u32) -> u32
+    requires node { node < length joins.old }
+{
+    let count = joins[node as usize];
+    if count == PLACED {
+        return 0;
+    }
+    joins[node as usize] = count + 1;
+    let list = count as usize;
+    if list >= firsts.len() {
+        return 0;
+    }
+    if list > 0 {
+        unlink(links, firsts, list - 1, node);
+    }
+    link(links, firsts, list, node);
+    count + 1
+}
+
+/// Joins the nodes behind the half-arcs of a node once more each. Answers how many half-arcs join the nodes of the
+/// highest list that one of them has come to.
 fn join_all(
     packed: Packed<'_>,
-    order: &mut [u32],
-    cells: &mut [u32],
+    links: &mut [u32],
+    firsts: &mut [u32],
     joins: &mut [u32],
-    fronts: &mut [u32],
-    done: u32,
-)
+    node: u32,
+) -> u32
     requires packed { IsPacked packed.net.now packed.first.now packed.halves.now }
-    requires order_size { length order.old ≡ packed.net.now.nodes }
-    requires size { length cells.old ≡ packed.net.now.nodes }
     requires joins_size { length joins.old ≡ packed.net.now.nodes }
-    requires some { 1 ≤ done }
-    requires place { done ≤ packed.net.now.nodes }
+    requires node { IsNode packed.net.now node }
 {
-    let net = packed.net;
-    let node = order[done as usize - 1];
-    if node == 0 || node > net.nodes() {
-        return;
-    }
+    let mut top = 0;
     for spot in packed.first[node as usize - 1]..packed.first[node as usize] {
-        let next = head(net, packed.halves[spot as usize]);
-        advance(order, cells, joins, fronts, done, next);
+        let next = head(packed.net, packed.halves[spot as usize]);
+        top = top.max(join(links, firsts, joins, next - 1));
+    }
+    top
+}
+
+/// How many half-arcs join the nodes of the highest list, up to a number of half-arcs, that has any; 0 if none has.
+fn highest(firsts: &[u32], top: u32) -> u32 {
+    for i in 0..top {
+        if get(firsts, (top - 1 - i) as usize) != END {
+            return top - i;
+        }
+    }
+    0
+}
+
+/// The first of so many nodes, by its number less 1 and from a number on, that has no place.
+fn first_without_place(joins: &[u32], nodes: u32, from: u32) -> u32
+    requires size { length joins.now ≡ nodes }
+{
+    for node in from..nodes {
+        if joins[node as usize] != PLACED {
+            return node;
+        }
+    }
+    nodes
+}
+
+/// Puts the place of each node of an order into its cell.
+fn stand_all(order: &[u32], cells: &mut [u32])
+    requires few { length order.now ≤ MOST_NODES }
+{
+    for place in 0..order.len() {
+        put(cells, order[place].wrapping_sub(1) as usize, place as u32);
     }
 }
 
@@ -149,40 +188,74 @@ fn is_whole(order: &[u32], cells: &[u32]) -> bool
     true
 }
 
-/// Orders all nodes, and leaves the place of each in its cell; `joins` and `fronts` are worked in. Answers what a sweep
-/// over the order found, or nothing if not every node has its place.
-pub(crate) fn order_nodes(
+/// Takes all nodes, one after the other, each with the most joins, and writes them down. Answers what a sweep over the
+/// order found.
+fn take_all(
     packed: Packed<'_>,
     order: &mut [u32],
-    cells: &mut [u32],
     joins: &mut [u32],
-    fronts: &mut [u32],
+    links: &mut [u32],
+    firsts: &mut [u32],
 ) -> Option<Sweep>
     requires packed { IsPacked packed.net.now packed.first.now packed.halves.now }
     requires order_size { length order.old ≡ packed.net.now.nodes }
-    requires size { length cells.old ≡ packed.net.now.nodes }
     requires joins_size { length joins.old ≡ packed.net.now.nodes }
-    ensures order { IfSome result (λ _. IsOrder packed.entry.net.now order.new) }
-    ensures places { IfSome result (λ _. ArePlaces packed.entry.net.now.nodes order.new cells.new) }
-    ensures clean { IfSome result (λ _. IsClean packed.entry.net.now.nodes cells.new) }
 {
     let n = packed.net.nodes();
-    line_up(order, cells);
     joins.fill(0);
-    fronts.fill(0);
+    firsts.fill(END);
     let mut sweep = Sweep {
         crossing: 0,
         least: u32::MAX,
         place: 0,
     };
+    let mut top = 0;
+    let mut free = 0;
     for place in 0..n {
-        let node = order[place as usize];
-        if node == 0 || node > n {
+        top = highest(firsts, top);
+        if top == 0 {
+            free = first_without_place(joins, n, free);
+        }
+        let next = if top == 0 {
+            free
+        } else {
+            take_first(links, firsts, top as usize - 1)
+        };
+        if next >= n {
             return None;
         }
-        sweep = swept(packed, joins, sweep, place + 1, node);
-        join_all(packed, order, cells, joins, fronts, place + 1);
+        sweep = swept(packed, joins, sweep, place + 1, next + 1);
+        joins[next as usize] = PLACED;
+        order[place as usize] = next + 1;
+        top = top.max(join_all(packed, links, firsts, joins, next + 1));
     }
+    Some(sweep)
+}
+
+/// Orders all nodes, and leaves the place of each in its cell; `joins` and `links` are worked in, and so many lists are
+/// kept as `lists` says. Answers what a sweep over the order found, or nothing if not every node has its place.
+pub(crate) fn order_nodes(
+    packed: Packed<'_>,
+    order: &mut [u32],
+    cells: &mut [u32],
+    joins: &mut [u32],
+    links: &mut [u32],
+    lists: usize,
+) -> Option<Sweep>
+    requires packed { IsPacked packed.net.now packed.first.now packed.halves.now }
+    requires order_size { length order.old ≡ packed.net.now.nodes }
+    requires size { length cells.old ≡ packed.net.now.nodes }
+    requires joins_size { length joins.old ≡ packed.net.now.nodes }
+    requires lists { lists ≤ packed.net.now.nodes }
+    ensures order { IfSome result (λ _. IsOrder packed.entry.net.now order.new) }
+    ensures places { IfSome result (λ _. ArePlaces packed.entry.net.now.nodes order.new cells.new) }
+    ensures clean { IfSome result (λ _. IsClean packed.entry.net.now.nodes cells.new) }
+{
+    // Brings the network's limits, `IsNet`, into the proof.
+    let _ = packed.net.nodes();
+    let (firsts, _) = cells.split_at_mut(lists);
+    let sweep = take_all(packed, order, joins, links, firsts)?;
+    stand_all(order, cells);
     if !is_whole(order, cells) {
         return None;
     }

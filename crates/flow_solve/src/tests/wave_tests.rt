@@ -107,7 +107,6 @@ fn waves_that_end_of_themselves(rt: HostRuntime) {
                     layers.terminals,
                     layers.k,
                     First::Waves(100_000),
-                    0
                 )
             ),
             (
@@ -126,7 +125,7 @@ fn waves_that_are_left(rt: HostRuntime) {
     let mut last = 0u128;
     for allowance in 0u64..1000 {
         let waves = First::Waves(allowance);
-        let answer = stages(rt.alloc(), &net, layers.terminals, layers.k, waves, 0);
+        let answer = stages(rt.alloc(), &net, layers.terminals, layers.k, waves);
         let (reached, greatest, other) = answer.expect(&rt, "good terminals");
         assert!(&rt; reached <= layers.value);
         assert_eq!(&rt; (greatest, other), (layers.value, layers.value));
@@ -159,7 +158,6 @@ fn waves_agree_on_random_networks(rt: HostRuntime) {
             &terminals[..end],
             k,
             waves,
-            0,
         ) {
             assert!(&rt; reached <= greatest);
             assert_eq!(&rt; greatest, other);

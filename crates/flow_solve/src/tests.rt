@@ -574,17 +574,19 @@ fn known_answers(rt: HostRuntime) {
     }
 }
 
-/// The stage that comes before the phases, and how much it may take.
+/// What comes before the phases, and how much it may take.
 #[derive(Clone, Copy)]
 enum First {
     /// The search trees.
     Trees(u64),
     /// The waves.
     Waves(u64),
+    /// The trees, and then the waves.
+    Both(u64, u64),
 }
 
-/// The values that a first stage reaches, and the phases after it, and that of the other method, for a network of at
-/// most 6 nodes and 40 arcs, if the terminals are good.
+/// The values that a first stage reaches, and the phases after it, and that of the other method, if the terminals are
+/// good and there is memory.
 fn stages<'a>(
     alloc: Global,
     net: &'a Network,
@@ -592,12 +594,14 @@ fn stages<'a>(
     k: usize,
     first_stage: First,
 ) -> Option<(u128, u128, u128)> {
-    let mut work = [7u32; 120];
-    let n = net.nodes() as usize;
-    let m = net.len() as usize;
-    if n > 6 || m > 40 || !may_be_terminals(net, terminals, k) {
+    if !may_be_terminals(net, terminals, k) {
         return None;
     }
+    let n = net.nodes() as usize;
+    let m = net.len() as usize;
+    let Ok(mut work) = Vec::from_elem(alloc, 7u32, work_len(net.nodes(), net.len())) else {
+        return None;
+    };
     let mut flow = empty_flow(alloc, net)?;
     let (s, t) = terminals.split_at(k);
     let (cells, rest) = work.split_at_mut(5 * n);
@@ -609,15 +613,15 @@ fn stages<'a>(
     let reached = match first_stage {
         First::Trees(allowance) => grow_trees(task, &mut flow, cells, 0, allowance).value,
         First::Waves(allowance) => send_waves(task, &mut flow, cells, 0, allowance),
+        First::Both(trees, waves) => {
+            let grown = grow_trees(task, &mut flow, cells, 0, trees);
+            send_waves(task, &mut flow, cells, grown.value, waves)
+        }
     };
-    let greatest = run_phases(task, &mut flow, cells, reached);
+    let raised = run_phases(task, &mut flow, cells, reached);
     let mut other = empty_flow(alloc, net)?;
-    let mut work = [7u32; 120];
-    Some((
-        reached,
-        greatest,
-        Paths::greatest(net, s, t, &mut other, &mut work),
-    ))
+    let greatest = Paths::greatest(net, s, t, &mut other, &mut work);
+    Some((reached, raised, greatest))
 }
 
 /// Arcs on which the trees come to an end of themselves, and the greatest value. Node 1 is the source and node 6 the

@@ -10,8 +10,7 @@ ghost use Rattle.flow_solve.specs.Steps.{OnlyLooks, PaysLooks, PaysSteps, TakesS
 use crate::frontiers::{get, put};
 use crate::packing::Packed;
 use crate::searching::{FAR, head};
-use crate::settling::{get_pair, put_pair};
-use crate::waves::excess::{Wave, afford, book, count_on, level_of, link, pair_of};
+use crate::waves::excess::{Wave, afford, book, count_on, excess_of, level_of, link, set_excess};
 use flow_net::FlowTable;
 
 /// A node that sends its excess on.
@@ -48,14 +47,15 @@ fn receive(
     level: u32,
     amount: u64,
 ) -> u64
-    requires { 1 ≤ node }
+    requires cells { length cells.old ≡ 5 * nodes }
+    requires node { (1 ≤ node) × (node ≤ nodes) }
     ensures most { result ≤ amount }
     ensures left { wave.new.left ≡ wave.old.left }
 {
     if level == 0 || amount == 0 {
         return amount;
     }
-    if get_pair(cells, pair_of(nodes, node)) == 0 {
+    if excess_of(cells, nodes, node) == 0 {
         link(cells, nodes, wave, node, level);
     }
     book(cells, nodes, node, amount)
@@ -73,6 +73,7 @@ fn pass_on(
 ) -> u64
     requires fits { Fits packed.net.now flow.old.flows }
     requires half { half < 2 * length packed.net.now.arcs }
+    requires cells { length cells.old ≡ 5 * packed.net.now.nodes }
     ensures fits { Fits packed.entry.net.now flow.new.flows }
     ensures most { result ≤ amount }
     ensures left { wave.new.left ≡ wave.old.left }
@@ -220,6 +221,7 @@ fn lift(
 
 /// Sends a node's excess on, and lifts the node as often as it is stuck, until it has none, takes no part any more, or
 /// no more may be passed.
+#[inline(never)]
 pub(super) fn discharge(
     packed: Packed<'_>,
     flow: &mut FlowTable,
@@ -234,8 +236,8 @@ pub(super) fn discharge(
     ensures fits { Fits packed.entry.net.now flow.new.flows }
     ensures paid { PaysSteps flow.old wave.old.left flow.new wave.new.left }
 {
-    let pair = pair_of(packed.net.nodes(), node);
-    let mut amount = get_pair(cells, pair);
+    let nodes = packed.net.nodes();
+    let mut amount = excess_of(cells, nodes, node);
     let mut sender = Sender {
         node,
         from: 0,
@@ -250,5 +252,5 @@ pub(super) fn discharge(
             }
         }
     }
-    put_pair(cells, pair, amount);
+    set_excess(cells, nodes, node, amount);
 }

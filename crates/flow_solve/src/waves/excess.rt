@@ -2,11 +2,10 @@
 //!
 //! What these cells hold is a hint: nothing is claimed of it, and a push is held to what a look has shown. Nodes count
 //! from 1, and 0 stands for none; levels count from 0.
-ghost use Rattle.std.specs.Prelude.{◌≡◌, ◌+◌, ◌-◌, ◌≤◌, true, false};
+ghost use Rattle.std.specs.Prelude.{◌≡◌, ◌+◌, ◌-◌, ◌*◌, ◌≤◌, true, false, length};
 ghost use Rattle.std.specs.List.{All};
 
 use crate::frontiers::{get, put};
-use crate::settling::{get_pair, put_pair};
 
 /// How far waves are.
 #[derive(Clone, Copy)]
@@ -83,9 +82,31 @@ pub(super) fn queue_of(nodes: u32, place: u32) -> usize {
     nodes as usize + place as usize
 }
 
-/// Which two cells have a node's excess, behind levels and lists. So few nodes there are that nothing wraps.
-pub(super) fn pair_of(nodes: u32, node: u32) -> u32 {
-    nodes.wrapping_add(node).wrapping_sub(1)
+/// Where a node's excess begins, in two cells, behind levels and lists.
+fn pair_of(nodes: u32, node: u32) -> usize
+    requires { 1 ≤ node }
+    ensures { result ≡ 2 * (nodes + (node - 1)) }
+{
+    2 * (nodes as usize + (node as usize - 1))
+}
+
+/// A node's excess.
+pub(super) fn excess_of(cells: &[u32], nodes: u32, node: u32) -> u64
+    requires size { length cells.now ≡ 5 * nodes }
+    requires node { (1 ≤ node) × (node ≤ nodes) }
+{
+    let at = pair_of(nodes, node);
+    u64::from(cells[at]) + u64::from(cells[at + 1]) * 4_294_967_296
+}
+
+/// Sets a node's excess.
+pub(super) fn set_excess(cells: &mut [u32], nodes: u32, node: u32, amount: u64)
+    requires size { length cells.old ≡ 5 * nodes }
+    requires node { (1 ≤ node) × (node ≤ nodes) }
+{
+    let at = pair_of(nodes, node);
+    cells[at] = (amount % 4_294_967_296) as u32;
+    cells[at + 1] = (amount / 4_294_967_296) as u32;
 }
 
 /// Where the first node with excess on a level stands.
@@ -121,12 +142,13 @@ pub(super) fn unlink(cells: &mut [u32], nodes: u32, level: u32) -> u32 {
 
 /// Adds an amount to a node's excess, as far as 64 bits hold it. Answers how much.
 pub(super) fn book(cells: &mut [u32], nodes: u32, node: u32, amount: u64) -> u64
+    requires size { length cells.old ≡ 5 * nodes }
+    requires node { (1 ≤ node) × (node ≤ nodes) }
     ensures { result ≤ amount }
 {
-    let pair = pair_of(nodes, node);
-    let had = get_pair(cells, pair);
+    let had = excess_of(cells, nodes, node);
     let booked = amount.min(u64::MAX - had);
-    put_pair(cells, pair, had + booked);
+    set_excess(cells, nodes, node, had + booked);
     booked
 }
 

@@ -9,8 +9,9 @@ ghost use Rattle.flow_solve.specs.Steps.{OnlyLooks, PaysLooks};
 use crate::frontiers::{get, put};
 use crate::packing::Packed;
 use crate::searching::{Direction, FAR, cross, head};
-use crate::settling::get_pair;
-use crate::waves::excess::{Wave, afford, count_on, level_of, link, pair_of, queue_of, set_levels};
+use crate::waves::excess::{
+    Wave, afford, count_on, excess_of, level_of, link, queue_of, set_levels,
+};
 use flow_net::FlowTable;
 
 /// Stands for the level of a node that takes no part.
@@ -31,7 +32,7 @@ fn unlevel(cells: &mut [u32], nodes: u32) -> u32
     cells[4 * n..].fill(0);
     let mut count = 0u32;
     for place in 0..nodes {
-        if get_pair(cells, nodes.wrapping_add(place)) > 0 {
+        if excess_of(cells, nodes, place + 1) > 0 {
             count = count.saturating_add(1);
         }
     }
@@ -61,6 +62,7 @@ fn meet(
 )
     requires fits { Fits packed.net.now flow.old.flows }
     requires half { half < 2 * length packed.net.now.arcs }
+    requires cells { length cells.old ≡ 5 * packed.net.now.nodes }
     ensures looks { OnlyLooks flow.old flow.new 1 }
     ensures left { wave.new.left ≡ wave.old.left }
 {
@@ -69,7 +71,7 @@ fn meet(
         let nodes = packed.net.nodes();
         let next = head(packed.net, half);
         enter(cells, nodes, wave, next, level);
-        if get_pair(cells, pair_of(nodes, next)) > 0 {
+        if excess_of(cells, nodes, next) > 0 {
             wave.seen = wave.seen.saturating_add(1);
             wave.farthest = level;
         }
@@ -139,7 +141,7 @@ fn link_all(cells: &mut [u32], nodes: u32, wave: &mut Wave)
 {
     for place in 0..nodes {
         let level = cells[place as usize];
-        if level < nodes / 2 && get_pair(cells, nodes.wrapping_add(place)) > 0 {
+        if level < nodes / 2 && excess_of(cells, nodes, place + 1) > 0 {
             link(cells, nodes, wave, place + 1, level);
         }
     }
@@ -147,6 +149,7 @@ fn link_all(cells: &mut [u32], nodes: u32, wave: &mut Wave)
 
 /// Searches backwards from the roots, at level 0, and lists the nodes with excess by their levels. Answers whether
 /// there are any.
+#[inline(never)]
 pub(super) fn search(
     packed: Packed<'_>,
     roots: &[u32],

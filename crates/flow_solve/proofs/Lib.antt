@@ -26,5 +26,4 @@ mod Growing
 mod SeenCells
 mod Prefixes
 mod BothWays
-pub mod Lifted
 pub mod Settled

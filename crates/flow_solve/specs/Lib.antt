@@ -8,6 +8,5 @@ pub mod Trails
 pub mod Levels
 pub mod Trees
 pub mod Growth
-pub mod Lifting
 pub mod Settling
 pub mod Stages

@@ -19,7 +19,7 @@
 //! | `n` | the half-arc over which the search came to it; in a phase of [`Levels`] the node's rank after the search |
 //! | `n` | the search's queue; in a phase of [`Levels`] each node's current place: the half-arc that walks try next |
 //! | `n` | for [`Levels`] the half-arcs of the walk's path |
-//! | `n` | for [`Levels`] the search's queue; in lifting, where on each beginning of the path the least remains |
+//! | `n` | for [`Levels`] the search's queue |
 //! | `n + 1` | where each node's half-arcs begin in the next cells |
 //! | `2·m` | the half-arcs, those of a node side by side |
 //! | `1` | spare |
@@ -35,14 +35,14 @@
 //! | `n` | the node after it in its frontier |
 //! | `n - 1` | for each level its first orphan; while flow is pushed, the half-arcs of the path |
 //!
-//! The waves, which [`Levels`] sends where arcs lie in layers, have them for:
+//! The waves, which [`Levels`] sends where the trees don't finish, have them for:
 //!
 //! | Cells | What they hold |
 //! |---|---|
-//! | `n` | each node's rank in the last search |
-//! | `n` | the bound of what it can pass on |
-//! | `2·n` | its excess, in two cells |
-//! | `n` | the places of the nodes by rank, which is the search's queue |
+//! | `n` | each node's level |
+//! | `n` | the search's queue; then for each node the next one with excess on its level |
+//! | `2·n` | each node's excess, in two cells |
+//! | `n` | for each level below half of `n`, in two cells, its first node with excess and how many nodes it has |
 //!
 //! and, where their table is settled, for each node's balance (`2·n` cells) and its role (`n` cells).
 //!
@@ -61,7 +61,6 @@ mod chains;
 mod frontiers;
 mod growth;
 mod levels;
-mod lifting;
 mod method;
 mod orphans;
 mod packing;

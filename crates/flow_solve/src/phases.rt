@@ -13,11 +13,10 @@ ghost use Rattle.flow_solve.specs.Packs.{IsPacked};
 ghost use Rattle.flow_solve.specs.Raising.{IsFlow};
 ghost use Rattle.flow_solve.specs.Searches.{AreCells, HasMissed};
 ghost use Rattle.flow_solve.specs.Stages.{HasFlow, IsTask};
-ghost use Rattle.flow_solve.specs.Steps.{OnlyLooks, TakesSteps};
+ghost use Rattle.flow_solve.specs.Steps.{OnlyLooks};
 ghost use Rattle.flow_solve.specs.Levels.{AreDead, AreLevelsBy, AreLevelsOf, AreRankedIn, HasRank, IsAt, IsFarIn};
 ghost use Rattle.flow_solve.specs.Levels.{IsPhase, KeepsGentle, Pays};
 
-use crate::lifting::{Ranked, Supply, run_lifted};
 use crate::packing::Packed;
 use crate::searching::{Direction, FAR, Plan, WANTED, search};
 use crate::stages::Task;
@@ -134,7 +133,6 @@ pub(crate) fn run_phases(
     flow: &mut FlowTable,
     cells: &mut [u32],
     value: u128,
-    allowance: u64,
 ) -> u128
     requires task { IsTask task }
     requires cells { length cells.old ≡ 5 * task.packed.net.now.nodes }
@@ -144,7 +142,7 @@ pub(crate) fn run_phases(
     ensures least { IsLeastCapacity task.entry.packed.net.now (one_of task.entry.s.now) (one_of task.entry.t.now)
         result }
     ensures never_lowered { flow.old.steps ≤ flow.new.steps }
-    ensures steps { flow.new.steps ≤ flow.old.steps + allowance + phases_bound task.entry.packed.net.now }
+    ensures steps { flow.new.steps ≤ flow.old.steps + phases_bound task.entry.packed.net.now }
 {
     let Task { packed, s, t } = task;
     let n = packed.net.nodes() as usize;
@@ -158,31 +156,20 @@ pub(crate) fn run_phases(
         enough: count(s),
     };
     let mut value = value;
-    let search = 2 * u64::from(packed.net.len());
-    let mut supply = Supply {
-        left: allowance,
-        fuel: 0,
-    };
     // Read by the loop's invariant alone, `invariant-phases`: after so many phases the sources are farther than that.
     let mut phases = 0u32;
     'phases: while find_levels(plan, flow, dist, rank, &mut walks[2 * n..]) {
-        if supply.left > search {
-            supply.left -= search + 1;
-            value = run_lifted(Ranked { task, rank }, flow, &mut supply, dist, walks, value);
-        } else {
-            supply.left = 0;
-            let (current, path) = walks[..2 * n].split_at_mut(n);
-            let phase = Phase {
-                packed,
-                s,
-                t,
-                dist,
-                rank,
-            };
-            value = run_phase(phase, flow, current, path, value);
-            // Each phase brings the sources farther from the sinks, so there are fewer than `n`.
-            phases += 1;
-        }
+        let (current, path) = walks[..2 * n].split_at_mut(n);
+        let phase = Phase {
+            packed,
+            s,
+            t,
+            dist,
+            rank,
+        };
+        value = run_phase(phase, flow, current, path, value);
+        // Each phase brings the sources farther from the sinks, so there are fewer than `n`.
+        phases += 1;
     }
     value
 }

@@ -33,7 +33,7 @@ const SOURCE: u32 = 1;
 const SINK: u32 = 2;
 
 /// The number of 64 bits in two cells, the lower half first.
-pub(crate) fn get_pair(cells: &[u32], place: u32) -> u64
+fn get_pair(cells: &[u32], place: u32) -> u64
     ensures { result ≡ pair_at cells.now place }
 {
     let at = 2 * place as usize;
@@ -41,7 +41,7 @@ pub(crate) fn get_pair(cells: &[u32], place: u32) -> u64
 }
 
 /// Sets the number in two cells, if there are such cells.
-pub(crate) fn put_pair(cells: &mut [u32], place: u32, number: u64)
+fn put_pair(cells: &mut [u32], place: u32, number: u64)
     ensures size { length cells.new ≡ length cells.old }
     ensures here { 2 * place + 1 < length cells.old → pair_at cells.new place ≡ number }
     ensures others { (k : ℕ) → k ≢ place → pair_at cells.new k ≡ pair_at cells.old k }

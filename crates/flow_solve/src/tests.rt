@@ -6,7 +6,6 @@ ghost use Rattle.std.specs.List.{All};
 ghost use Rattle.flow_solve.specs.Bounds.{work_cells};
 ghost use Rattle.flow_solve.specs.Raising.{IsFlow};
 
-mod lifting;
 mod wave_tests;
 
 use super::*;
@@ -575,31 +574,34 @@ fn known_answers(rt: HostRuntime) {
     }
 }
 
-/// The stage that comes before the phases, and how much it may take.
+/// What comes before the phases, and how much it may take.
 #[derive(Clone, Copy)]
 enum First {
     /// The search trees.
     Trees(u64),
     /// The waves.
     Waves(u64),
+    /// The trees, and then the waves.
+    Both(u64, u64),
 }
 
-/// The values that a first stage reaches, and the phases after it, which lift as long as their allowance lasts, and
-/// that of the other method, for a network of at most 6 nodes and 40 arcs, if the terminals are good.
+/// The values that a first stage reaches, and the phases after it, and that of the other method, if the terminals are
+/// good and there is memory.
 fn stages<'a>(
     alloc: Global,
     net: &'a Network,
     terminals: &'a [u32],
     k: usize,
     first_stage: First,
-    lifting: u64,
 ) -> Option<(u128, u128, u128)> {
-    let mut work = [7u32; 120];
-    let n = net.nodes() as usize;
-    let m = net.len() as usize;
-    if n > 6 || m > 40 || !may_be_terminals(net, terminals, k) {
+    if !may_be_terminals(net, terminals, k) {
         return None;
     }
+    let n = net.nodes() as usize;
+    let m = net.len() as usize;
+    let Ok(mut work) = Vec::from_elem(alloc, 7u32, work_len(net.nodes(), net.len())) else {
+        return None;
+    };
     let mut flow = empty_flow(alloc, net)?;
     let (s, t) = terminals.split_at(k);
     let (cells, rest) = work.split_at_mut(5 * n);
@@ -609,17 +611,17 @@ fn stages<'a>(
     let packed = Packed { net, first, halves };
     let task = Task { packed, s, t };
     let reached = match first_stage {
-        First::Trees(allowance) => grow_trees(task, &mut flow, cells, 0, allowance),
+        First::Trees(allowance) => grow_trees(task, &mut flow, cells, 0, allowance).value,
         First::Waves(allowance) => send_waves(task, &mut flow, cells, 0, allowance),
+        First::Both(trees, waves) => {
+            let grown = grow_trees(task, &mut flow, cells, 0, trees);
+            send_waves(task, &mut flow, cells, grown.value, waves)
+        }
     };
-    let greatest = run_phases(task, &mut flow, cells, reached, lifting);
+    let raised = run_phases(task, &mut flow, cells, reached);
     let mut other = empty_flow(alloc, net)?;
-    let mut work = [7u32; 120];
-    Some((
-        reached,
-        greatest,
-        Paths::greatest(net, s, t, &mut other, &mut work),
-    ))
+    let greatest = Paths::greatest(net, s, t, &mut other, &mut work);
+    Some((reached, raised, greatest))
 }
 
 /// Arcs on which the trees come to an end of themselves, and the greatest value. Node 1 is the source and node 6 the
@@ -637,7 +639,7 @@ fn trees_that_end_of_themselves(rt: HostRuntime) {
     for (arcs, value) in GROWN {
         let net = network(rt.alloc(), 6, arcs).expect(&rt, "memory");
         assert_eq!(&rt;
-            stages(rt.alloc(), &net, &[1, 6], 1, First::Trees(1000), 0),
+            stages(rt.alloc(), &net, &[1, 6], 1, First::Trees(1000)),
             Some((*value, *value, *value))
         );
     }
@@ -650,7 +652,7 @@ fn trees_that_are_left(rt: HostRuntime) {
     let mut before = 0u128;
     let mut between = 0u32;
     for allowance in 0u64..200 {
-        let answer = stages(rt.alloc(), &net, &[1, 6], 1, First::Trees(allowance), 0);
+        let answer = stages(rt.alloc(), &net, &[1, 6], 1, First::Trees(allowance));
         let (reached, greatest, other) = answer.expect(&rt, "good terminals");
         assert!(&rt; before <= reached && reached <= value);
         assert_eq!(&rt; (greatest, other), (value, value));
@@ -663,62 +665,8 @@ fn trees_that_are_left(rt: HostRuntime) {
     assert_eq!(&rt; before, value);
 }
 
-/// Arcs on which walks come to be stuck, and the greatest value. Node 1 is the source and node 6 the sink.
-const STUCK: &[(&[(u32, u32, u64)], u128)] = &[
-    // The way over nodes 2 and 3 is filled, and node 2 is lifted to go on over nodes 4 and 5.
-    (
-        &[
-            (1, 2, 9),
-            (2, 3, 4),
-            (3, 6, 4),
-            (2, 4, 3),
-            (4, 5, 3),
-            (5, 6, 2),
-        ],
-        6,
-    ),
-    // Nodes that the search doesn't see have to be passed, and flow to be taken back.
-    (
-        &[
-            (1, 2, 1),
-            (1, 3, 1),
-            (2, 4, 1),
-            (3, 4, 1),
-            (2, 5, 1),
-            (4, 6, 1),
-            (5, 6, 1),
-        ],
-        2,
-    ),
-    // Full capacities.
-    (
-        &[
-            (1, 2, u64::MAX),
-            (2, 6, u64::MAX),
-            (1, 3, u64::MAX),
-            (3, 6, u64::MAX),
-        ],
-        2 * MOST,
-    ),
-    // Nothing leads to the sink.
-    (&[(2, 1, 3), (3, 6, 2), (1, 1, 9), (1, 4, 8)], 0),
-];
-
 /// The most that flows through an arc.
 const MOST: u128 = 18_446_744_073_709_551_615;
-
-#[test]
-fn phases_that_lift_until_they_are_left(rt: HostRuntime) {
-    for (arcs, value) in STUCK {
-        let net = network(rt.alloc(), 6, arcs).expect(&rt, "memory");
-        for lifting in 0u64..150 {
-            assert_eq!(&rt;
-                stages(rt.alloc(), &net, &[1, 6], 1, First::Trees(0), lifting),
-                Some((0, *value, *value))
-            );
-        }
-    }
-}
 
 #[test]
 fn methods_agree_on_random_networks(rt: HostRuntime) {
@@ -733,12 +681,11 @@ fn methods_agree_on_random_networks(rt: HostRuntime) {
         let k = 1 + random.below(2) as usize;
         let end = k + 1 + random.below(2) as usize;
         let trees = First::Trees(random.below(60));
-        let lifting = random.below(200);
         let terminals = &terminals[..end];
         if !may_be_terminals(&net, terminals, k) {
             continue;
         }
-        let answer = stages(rt.alloc(), &net, terminals, k, trees, lifting);
+        let answer = stages(rt.alloc(), &net, terminals, k, trees);
         let (reached, greatest, other) = answer.expect(&rt, "a small network, and memory");
         assert!(&rt; reached <= greatest);
         assert_eq!(&rt; greatest, other);

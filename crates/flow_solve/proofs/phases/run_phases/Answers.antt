@@ -1,7 +1,5 @@
--- `run_phases`: phases with lifting while its supply lasts, then phases without; each of those brings the sources
--- farther from the sinks.
-use Rattle.std.proofs.Common.{◌≡◌, ℕ, List, ◌+◌, ◌-◌, inl, inr, length, sym, subst, arith}
-use Rattle.std.proofs.lemmas.Bool.{cases_lt}
+-- `run_phases`: each phase brings the sources farther from the sinks.
+use Rattle.std.proofs.Common.{ℕ, List, ◌-◌, length, sym, subst, arith}
 use Rattle.flow_net.proofs.NodeLists.{terminals_apart}
 use Rattle.flow_solve.specs.Searches.{seen}
 use Rattle.flow_solve.specs.Levels.{IsFar}
@@ -17,13 +15,12 @@ phases-init c = record {
   far =
       far_start c.args.task.packed.net.now c.args.task.s.now c.args.task.t.now c.args.flow.now.flows
       (terminals_apart c.args.task.packed.net.now c.args.task.s.now c.args.task.t.now c.requires.task.terminals);
-  first = λ l. omega (arith, l);
   few = omega (arith, c.nodes-n.ensures.is_net.nodes_least);
   never_lowered = omega arith;
   steps = omega arith;
 }
 
--- a phase without lifting
+-- one phase more
 pub phases-preserved : goal.phases-preserved
 phases-preserved c =
     let old = c.phases.invariant in
@@ -36,34 +33,9 @@ phases-preserved c =
     record {
       flow = now.flow;
       far = now.far c.phases.phases far;
-      first = λ l. omega arith;
       few = now.few c.phases.phases far;
       never_lowered = omega (arith, old.never_lowered, found.looks.never_lowered, now.never_lowered);
       steps = omega (arith, old.steps, found.looks.steps, now.steps);
-    }
-
--- a phase with lifting comes before all others
-pub phases-preserved-then-supply-search : goal.phases-preserved-then-supply-search
-phases-preserved-then-supply-search c =
-    let old = c.phases.invariant in
-    let found = c.find_levels.ensures in
-    let lifted = c.run_lifted-value.ensures in
-    let net = c.args.task.packed.net.now in
-    let none : c.phases.phases ≡ 0 = elim (cases_lt 0 c.phases.phases) [
-      | inl l ↦ omega (arith, old.first (omega (arith, l)), c.if-supply-search.true)
-      | inr l ↦ omega (arith, l)
-    ] in
-    let far = far_start net c.args.task.s.now c.args.task.t.now c.run_lifted-value.new.flow.flows
-    (terminals_apart net c.args.task.s.now c.args.task.t.now c.requires.task.terminals) in
-    record {
-      flow = lifted.flow;
-      far =
-          subst (λ (j : ℕ). IsFar net c.args.task.s.now c.args.task.t.now c.run_lifted-value.new.flow.flows j)
-          (sym none) far;
-      first = λ l. omega (arith, l, none);
-      few = old.few;
-      never_lowered = omega (arith, old.never_lowered, found.looks.never_lowered, lifted.paid.never_lowered);
-      steps = omega (arith, old.steps, found.looks.steps, lifted.paid.steps);
     }
 
 -- the search that finds no source leaves a closed cut
@@ -87,7 +59,7 @@ returns-clause-least c =
 pub returns-clause-steps : goal.returns-clause-steps
 returns-clause-steps c =
     let old = c.phases.invariant in let found = c.find_levels.ensures in let net = c.args.task.packed.net.now in
-    run_paid net.nodes (length net.arcs) (net.nodes - 1) c.phases.phases (c.args.flow.now.steps + c.args.allowance)
+    run_paid net.nodes (length net.arcs) (net.nodes - 1) c.phases.phases c.args.flow.now.steps
     c.find_levels.new.flow.steps (omega (arith, old.few)) (omega (arith, c.nodes-n.ensures.is_net.nodes_least))
     (omega (arith, old.few)) (omega (arith, old.steps, found.looks.steps))
 

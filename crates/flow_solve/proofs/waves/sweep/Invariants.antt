@@ -1,19 +1,15 @@
--- `sweep`: a look and a push at each half-arc that was passed, and all of them are paid.
-use Rattle.std.proofs.Common.{◌≡◌, ◌+◌, ◌*◌, ◌-◌, ◌≤◌}
-use Rattle.std.specs.Prelude.{slice_index}
+-- `sweep`: what the nodes before have sent on is paid, and each turn takes something off what may still be done.
+use Rattle.std.proofs.Common.{◌≡◌, ◌*◌, length}
 use Rattle.flow_net.specs.Flows.{Fits}
-use Rattle.flow_solve.specs.Steps.{TakesSteps}
+use Rattle.flow_solve.specs.Steps.{PaysSteps}
 use Rattle.flow_solve.proofs.waves.sweep.Given as goal
 
-abbrev pub invariant-loop-spot : goal.invariant-loop-spot
-invariant-loop-spot l = record {
+abbrev pub invariant-turns : goal.invariant-turns
+invariant-turns l = record {
   fits : Fits l.packed.net.now l.flow.flows;
-  begun : slice_index l.packed.first.now l.place ≤ l.spot;
-  within : l.spot ≤ slice_index l.packed.first.now (l.place + 1);
-  left : l.wave.left + 2 * (slice_index l.packed.first.now (l.place + 1) - slice_index l.packed.first.now l.place)
-      ≡ l.fn.wave.left;
-  steps : TakesSteps l.fn.flow l.flow (2 * (l.spot - slice_index l.packed.first.now l.place));
+  size : length l.cells ≡ 5 * l.packed.net.now.nodes;
+  paid : PaysSteps l.fn.flow l.fn.wave.left l.flow l.wave.left;
 }
 
-abbrev pub decreases-loop-spot : goal.decreases-loop-spot
-decreases-loop-spot l = l.end - l.spot
+abbrev pub decreases-turns : goal.decreases-turns
+decreases-turns l = l.wave.left

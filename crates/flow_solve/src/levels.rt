@@ -87,7 +87,7 @@ use crate::waves::try_waves;
 use flow_net::{FlowTable, Network};
 
 /// How many times the number of arcs the trees may take, in steps and in half-arcs that they pass by.
-const TREES_SHARE: u64 = 16;
+const TREES_SHARE: u64 = 64;
 
 /// The most arcs for each node with which the trees are grown: each repair of theirs passes all half-arcs of some
 /// nodes.
@@ -139,7 +139,7 @@ impl Raise for Levels {
     fn raise(task: Task<'_>, flow: &mut FlowTable, cells: &mut [u32], value: u128) -> u128 {
         let net = task.packed.net;
         let given = allowance(net);
-        let raised = grow_trees(task, flow, cells, value, given);
+        let raised = grow_trees(task, flow, cells, value, given).value;
         let rest = rest_of_allowance(net, given);
         let share = share_of_waves(net, given, rest);
         // Where the trees have found a path, paths are short.

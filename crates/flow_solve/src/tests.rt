@@ -609,7 +609,7 @@ fn stages<'a>(
     let packed = Packed { net, first, halves };
     let task = Task { packed, s, t };
     let reached = match first_stage {
-        First::Trees(allowance) => grow_trees(task, &mut flow, cells, 0, allowance),
+        First::Trees(allowance) => grow_trees(task, &mut flow, cells, 0, allowance).value,
         First::Waves(allowance) => send_waves(task, &mut flow, cells, 0, allowance),
     };
     let greatest = run_phases(task, &mut flow, cells, reached, lifting);

@@ -96,7 +96,7 @@ fn key(label: u32) -> u32
 /// Whether a node is one of some terminals, by the place among them that stands in its parent's cell.
 fn is_root(cells: &[u32], terminals: &[u32], node: u32) -> bool
     requires node { 1 ≤ node }
-    ensures root { IsTrue result → IsTrue (one_of terminals.now node) }
+    ensures { IsTrue result → IsTrue (one_of terminals.now node) }
 {
     let place = get(cells, parent_of(node)) as usize;
     place < terminals.len() && terminals[place] == node

@@ -114,15 +114,37 @@ pub(crate) fn link(cells: &mut [u32], list: &mut Frontier, node: u32)
     list.last = node;
 }
 
-/// Takes the first node off its frontier.
-pub(crate) fn unlink(cells: &mut [u32], list: &mut Frontier, node: u32)
-    requires node { 1 ≤ node }
-{
+/// Takes the first node off a frontier and answers it, or answers `END`, or a number that is no node.
+pub(crate) fn unlink(cells: &mut [u32], list: &mut Frontier) -> u32 {
+    let node = list.first;
+    if node < 1 || node == END {
+        return node;
+    }
     list.first = get(cells, after(node));
     if list.first == END {
         list.last = 0;
     }
     put(cells, after(node), 0);
+    node
+}
+
+/// Takes all nodes off a frontier and answers the first of them.
+pub(crate) fn clear(list: &mut Frontier) -> u32 {
+    let node = list.first;
+    *list = NO_NODES;
+    node
+}
+
+/// Puts a free node that the tree has taken on the list of its next level. Answers whether it is on a list already.
+pub(crate) fn enter(tree: &mut Tree, cells: &mut [u32], node: u32) -> bool
+    requires node { 1 ≤ node }
+{
+    tree.waiting = tree.waiting.saturating_add(1);
+    let is_on_list = get(cells, after(node)) != 0;
+    if !is_on_list {
+        link(cells, &mut tree.later, node);
+    }
+    is_on_list
 }
 
 /// Puts a node of a tree on the frontier of its level, if the tree has yet to grow from it.

@@ -87,9 +87,9 @@ pub(crate) fn abandon_filled(
     ensures left { trees.new.left ≡ trees.old.left }
 {
     let nodes = packed.net.nodes();
-    for i in bottleneck.first..bottleneck.end.min(path.len()) {
+    for i in bottleneck.first.min(path.len())..path.len() {
         let half = path[i];
-        if half as usize >= packed.halves.len() {
+        if i >= bottleneck.end || half as usize >= packed.halves.len() {
             return;
         }
         let (next, room) = flow.look(packed.net, half);
@@ -128,7 +128,8 @@ fn find_parent(
     let begin = cells[place_of(node)]
         .max(packed.first[node as usize - 1])
         .min(end);
-    if !spend(trees, end - begin) {
+    if trees.left < u64::from(end - begin) {
+        trees.left = 0;
         return true;
     }
     for spot in begin..end {
@@ -138,11 +139,12 @@ fn find_parent(
             if room > 0 {
                 cells[parent_of(node)] = half;
                 cells[place_of(node)] = spot;
-                trees.left += u64::from(end - spot - 1);
+                trees.left -= u64::from(spot + 1 - begin);
                 return true;
             }
         }
     }
+    trees.left -= u64::from(end - begin);
     false
 }
 
@@ -271,11 +273,8 @@ fn adopt_level(
             return node == 0;
         }
         trees.left -= 1;
-        put(
-            cells,
-            orphan_on(nodes, level),
-            cells[parent_of(node)] & (ORPHAN - 1),
-        );
+        let rest = cells[parent_of(node)] & (ORPHAN - 1);
+        put(cells, orphan_on(nodes, level), rest);
         match direction_of(cells[label_of(node)]) {
             Direction::Forwards => trees.sources.orphans = trees.sources.orphans.saturating_add(1),
             Direction::Backwards => trees.sinks.orphans = trees.sinks.orphans.saturating_add(1),

@@ -1,5 +1,5 @@
 -- Paths through two search trees, and the flow after a push along one.
-use Rattle.std.proofs.Common.{◌≡◌, ℕ, ◌+◌, ◌*◌, ◌^◌, ◌≤◌, ◌<◌, List, ◌∷◌, length, get_or, drop, refl, ◌∙◌, sym, ap}
+use Rattle.std.proofs.Common.{◌≡◌, ℕ, ◌+◌, ◌-◌, ◌*◌, ◌^◌, ◌≤◌, ◌<◌, List, ◌∷◌, length, get_or, drop, refl, ◌∙◌, sym, ap}
 use Rattle.std.proofs.Common.{subst, IsTrue, arith}
 use Rattle.std.specs.Prelude.{slice_index}
 use Rattle.std.specs.List.{All}
@@ -20,7 +20,7 @@ use Rattle.flow_solve.proofs.Routes.{sink_no_source}
 
 -- what a node's label makes of the node
 abbrev pub level_by : List ℕ → ℕ → ℕ
-level_by cells v = key_of (slice_index cells v)
+level_by cells v = key_of (slice_index cells (4 * v - 4))
 
 rising_cons : {net : Net} {level : ℕ → ℕ} {xs : List ℕ} {d u v : ℕ} (h : ℕ) {w : ℕ} {rest : List ℕ}
     → h < 2 * length net.arcs → tail_of net h ≡ u → v ≡ head_of net h → level u < level v → d ≤ residual net xs h

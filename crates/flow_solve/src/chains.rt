@@ -2,7 +2,8 @@
 //! along another chain to a sink.
 //!
 //! The chains are written down first and then looked at as one path, so that nothing has to be known of the trees.
-ghost use Rattle.std.specs.Prelude.{◌≡◌, ℕ, ◌+◌, ◌*◌, ◌<◌, ◌≤◌, IsTrue, length, slice_index};
+ghost use Rattle.std.specs.Prelude.{◌≡◌, ℕ, ◌*◌, ◌^◌, ◌<◌, ◌≤◌, IsTrue, length};
+ghost use Rattle.flow_net.specs.Nets.{IsNode};
 ghost use Rattle.flow_net.specs.NodeSets.{one_of};
 ghost use Rattle.flow_net.specs.Flows.{Fits};
 ghost use Rattle.flow_solve.specs.Packs.{IsPacked};
@@ -31,11 +32,12 @@ pub(crate) fn supply(direction: Direction, half: u32) -> u32
 /// Writes the chain of parents of a node in the tree of the sources, the root's half-arc first.
 fn lead_in(packed: Packed<'_>, cells: &[u32], path: &mut [u32], node: u32)
     requires packed { IsPacked packed.net.now packed.first.now packed.halves.now }
+    requires size { 4 * packed.net.now.nodes ≤ length cells.now }
+    requires node { IsNode packed.net.now node }
 {
-    let nodes = packed.net.nodes();
     let mut node = node;
     for i in 0..path.len() {
-        let half = get(cells, parent_of(nodes, node));
+        let half = cells[parent_of(node)];
         if half as usize >= packed.halves.len() {
             return;
         }
@@ -48,11 +50,12 @@ fn lead_in(packed: Packed<'_>, cells: &[u32], path: &mut [u32], node: u32)
 /// Writes the chain of parents of a node in the tree of the sinks, the node's own half-arc first.
 fn lead_out(packed: Packed<'_>, cells: &[u32], path: &mut [u32], node: u32)
     requires packed { IsPacked packed.net.now packed.first.now packed.halves.now }
+    requires size { 4 * packed.net.now.nodes ≤ length cells.now }
+    requires node { IsNode packed.net.now node }
 {
-    let nodes = packed.net.nodes();
     let mut node = node;
     for i in 0..path.len() {
-        let half = get(cells, parent_of(nodes, node));
+        let half = cells[parent_of(node)];
         if half as usize >= packed.halves.len() {
             return;
         }
@@ -62,18 +65,22 @@ fn lead_out(packed: Packed<'_>, cells: &[u32], path: &mut [u32], node: u32)
 }
 
 /// How many half-arcs the chain of parents of a node has, by its label.
-pub(crate) fn chain_len(cells: &[u32], node: u32) -> u32 {
-    (get(cells, label_of(node)) / 2).saturating_sub(1)
+pub(crate) fn chain_len(cells: &[u32], node: u32) -> usize
+    requires node { 1 ≤ node }
+    ensures { result < 2 ^ 32 }
+{
+    (get(cells, label_of(node)) / 2).saturating_sub(1) as usize
 }
 
-/// Writes the path over a half-arc from the tree of the sources to that of the sinks, the chain in front of it having
-/// so many half-arcs.
-pub(crate) fn gather(packed: Packed<'_>, cells: &[u32], path: &mut [u32], split: usize, half: u32)
+/// Writes the path over a half-arc from the tree of the sources to that of the sinks, the half-arc having this place on
+/// the path.
+pub(crate) fn gather(packed: Packed<'_>, cells: &[u32], path: &mut [u32], touch: usize, half: u32)
     requires packed { IsPacked packed.net.now packed.first.now packed.halves.now }
+    requires size { 4 * packed.net.now.nodes ≤ length cells.now }
     requires half { half < 2 * length packed.net.now.arcs }
-    requires split { split < length path.old }
+    requires touch { touch < length path.old }
 {
-    let (front, rest) = path.split_at_mut(split);
+    let (front, rest) = path.split_at_mut(touch);
     lead_in(packed, cells, front, tail(packed.net, half));
     rest[0] = half;
     lead_out(packed, cells, &mut rest[1..], head(packed.net, half));
@@ -87,47 +94,101 @@ fn key(label: u32) -> u32
 }
 
 /// Whether a node is one of some terminals, by the place among them that stands in its parent's cell.
-fn is_root(cells: &[u32], nodes: u32, terminals: &[u32], node: u32) -> bool
+fn is_root(cells: &[u32], terminals: &[u32], node: u32) -> bool
+    requires node { 1 ≤ node }
     ensures { IsTrue result → IsTrue (one_of terminals.now node) }
 {
-    let place = get(cells, parent_of(nodes, node)) as usize;
+    let place = get(cells, parent_of(node)) as usize;
     place < terminals.len() && terminals[place] == node
 }
 
+/// The least that remains on a path, and where.
+#[derive(Clone, Copy)]
+pub(crate) struct Bottleneck {
+    /// The least, or 0 where nothing can be pushed along the path.
+    pub amount: u64,
+    /// The first place on the path where so little remains.
+    pub first: usize,
+    /// One more than the last such place.
+    pub end: usize,
+}
+
+impl Bottleneck {
+    /// The bottleneck of the path with one more half-arc, on which so much remains.
+    fn with(self, place: usize, room: u64) -> Bottleneck
+        requires place { place < 2 ^ 63 }
+        ensures below { result.amount ≤ self.amount }
+        ensures within { result.amount ≤ room }
+    {
+        if room < self.amount {
+            Bottleneck {
+                amount: room,
+                first: place,
+                end: place + 1,
+            }
+        } else if room == self.amount {
+            Bottleneck {
+                amount: room,
+                first: self.first,
+                end: place + 1,
+            }
+        } else {
+            self
+        }
+    }
+}
+
+/// The bottleneck of what is no path.
+const CLOSED: Bottleneck = Bottleneck {
+    amount: 0,
+    first: 0,
+    end: 0,
+};
+
 /// The least that remains on a path, or 0 where it isn't a path from a source to a sink along which keys rise: each
 /// half-arc of it is looked at.
-pub(crate) fn room_along(task: Task<'_>, flow: &mut FlowTable, cells: &[u32], path: &[u32]) -> u64
+pub(crate) fn room_along(
+    task: Task<'_>,
+    flow: &mut FlowTable,
+    cells: &[u32],
+    path: &[u32],
+) -> Bottleneck
     requires task { IsTask task }
+    requires size { 4 * task.packed.net.now.nodes ≤ length cells.now }
     requires fits { Fits task.packed.net.now flow.old.flows }
-    ensures room { 1 ≤ result → Augments task.entry flow.old.flows path.now result }
+    ensures room { 1 ≤ result.amount → Augments task.entry flow.old.flows path.now result.amount }
     ensures looks { OnlyLooks flow.old flow.new (length path.now) }
 {
-    let Packed {
-        net,
-        first: _,
-        halves,
-    } = task.packed;
-    let nodes = net.nodes();
+    let net = task.packed.net;
+    let halves = task.packed.halves;
     if path.is_empty() || path[0] as usize >= halves.len() {
-        return 0;
+        return CLOSED;
     }
     let source = tail(net, path[0]);
     let mut node = source;
-    let mut least = u64::MAX;
-    for half in path {
-        if *half as usize >= halves.len() || tail(net, *half) != node {
-            return 0;
+    let mut rank = key(cells[label_of(source)]);
+    let mut least = Bottleneck {
+        amount: u64::MAX,
+        first: 0,
+        end: 0,
+    };
+    for i in 0..path.len() {
+        let half = path[i];
+        if half as usize >= halves.len() || tail(net, half) != node {
+            return CLOSED;
         }
-        let (next, room) = flow.look(net, *half);
-        if key(get(cells, label_of(next))) <= key(get(cells, label_of(node))) {
-            return 0;
+        let (next, room) = flow.look(net, half);
+        let above = key(cells[label_of(next)]);
+        if above <= rank {
+            return CLOSED;
         }
-        least = least.min(room);
+        least = least.with(i, room);
         node = next;
+        rank = above;
     }
-    if is_root(cells, nodes, task.s, source) && is_root(cells, nodes, task.t, node) {
+    if is_root(cells, task.s, source) && is_root(cells, task.t, node) {
         least
     } else {
-        0
+        CLOSED
     }
 }

@@ -1,30 +1,29 @@
 //! The cells of two search trees, and the lists of nodes that the trees have yet to grow from.
 //!
 //! What these cells hold is a hint: nothing is claimed of it, and a path is looked at before flow is pushed along it. A
-//! cell that doesn't exist reads as 0, and a write to it is dropped. Nodes and levels count from 1, so cell 0 is spare.
-ghost use Rattle.std.specs.Prelude.{◌≡◌, ◌+◌, ◌*◌, length, slice_index};
+//! cell that doesn't exist reads as 0, and a write to it is dropped. Nodes count from 1, and so do levels. The four
+//! cells of a node stand side by side, and behind those of all nodes stands for each level from 2 on its first orphan.
+ghost use Rattle.std.specs.Prelude.{◌≡◌, ◌+◌, ◌-◌, ◌*◌, ◌≤◌, length, slice_index};
 
 use crate::searching::Direction;
 
-/// Stands for no node at an end of a list. A node that is on no list has 0 after it.
+/// Stands behind the last node of a list. A node that is on no list has 0 after it.
 pub(crate) const END: u32 = u32::MAX;
 
-/// Nodes that a tree has yet to grow from, its frontier, linked both ways.
+/// Nodes that a tree has yet to grow from, its frontier, each with the one after it. A node that went elsewhere stays
+/// on its list until it comes up.
 #[derive(Clone, Copy)]
 pub(crate) struct Frontier {
-    /// The first of them.
+    /// The first of them, or `END`.
     pub first: u32,
-    /// The last of them.
+    /// The last of them, or 0.
     pub last: u32,
-    /// How many there are.
-    pub len: u32,
 }
 
 /// The frontier of no nodes.
 pub(crate) const NO_NODES: Frontier = Frontier {
     first: END,
-    last: END,
-    len: 0,
+    last: 0,
 };
 
 /// How far a tree has grown. Its roots are on level 1.
@@ -38,6 +37,10 @@ pub(crate) struct Tree {
     pub now: Frontier,
     /// The nodes on the level after it.
     pub later: Frontier,
+    /// How many nodes it has yet to grow from.
+    pub waiting: u32,
+    /// How many orphans it has had.
+    pub orphans: u32,
 }
 
 /// The number in a cell, or 0.
@@ -54,68 +57,104 @@ pub(crate) fn put(cells: &mut [u32], at: usize, number: u32) {
     }
 }
 
-/// Where a node's label stands: twice its level, and 1 more in the tree of the sinks; 0 while it is in no tree.
+/// Where a node's label stands: twice its level, and 1 more in the tree of the sinks. A free node has 0, or 1 if it was
+/// last in the tree of the sinks.
+#[inline(always)]
 pub(crate) fn label_of(node: u32) -> usize
-    ensures { result ≡ node }
+    requires { 1 ≤ node }
+    ensures { result ≡ 4 * node - 4 }
 {
-    node as usize
+    4 * node as usize - 4
 }
 
-/// Where the half-arc from a node to its parent stands; for a root its place among the terminals.
-pub(crate) fn parent_of(nodes: u32, node: u32) -> usize
-    ensures { result ≡ nodes + node }
+/// Where the half-arc from a node to its parent stands; for a root its place among the terminals, and for an orphan the
+/// next of its level.
+#[inline(always)]
+pub(crate) fn parent_of(node: u32) -> usize
+    requires { 1 ≤ node }
+    ensures { result ≡ 4 * node - 3 }
 {
-    nodes as usize + node as usize
+    4 * node as usize - 3
 }
 
-/// Where the node before a node in its frontier stands.
-fn before(nodes: u32, node: u32) -> usize {
-    2 * nodes as usize + node as usize
+/// Where a node's place stands: no half-arc of the node before this one leads to a parent for it while its level is the
+/// same.
+#[inline(always)]
+pub(crate) fn place_of(node: u32) -> usize
+    requires { 1 ≤ node }
+    ensures { result ≡ 4 * node - 2 }
+{
+    4 * node as usize - 2
 }
 
 /// Where the node after a node in its frontier stands.
-pub(crate) fn after(nodes: u32, node: u32) -> usize
-    ensures { result ≡ 3 * nodes + node }
+#[inline(always)]
+pub(crate) fn after(node: u32) -> usize
+    requires { 1 ≤ node }
+    ensures { result ≡ 4 * node - 1 }
 {
-    3 * nodes as usize + node as usize
+    4 * node as usize - 1
 }
 
 /// Where the first orphan of a level stands.
-pub(crate) fn orphan_on(nodes: u32, level: u32) -> usize
-    ensures { result ≡ 4 * nodes + level }
-{
-    4 * nodes as usize + level as usize
+pub(crate) fn orphan_on(nodes: u32, level: u32) -> usize {
+    (4 * nodes as usize + level as usize).saturating_sub(2)
 }
 
 /// Puts a node at the end of a frontier.
-pub(crate) fn link(cells: &mut [u32], nodes: u32, list: Frontier, node: u32) -> Frontier {
-    put(cells, after(nodes, node), END);
-    put(cells, before(nodes, node), list.last);
-    if list.last != END {
-        put(cells, after(nodes, list.last), node);
+pub(crate) fn link(cells: &mut [u32], list: &mut Frontier, node: u32)
+    requires node { 1 ≤ node }
+{
+    put(cells, after(node), END);
+    if list.last == 0 {
+        list.first = node;
+    } else {
+        put(cells, after(list.last), node);
     }
-    Frontier {
-        first: if list.last == END { node } else { list.first },
-        last: node,
-        len: list.len.saturating_add(1),
-    }
+    list.last = node;
 }
 
-/// Takes a node off its frontier.
-pub(crate) fn unlink(cells: &mut [u32], nodes: u32, list: Frontier, node: u32) -> Frontier {
-    let left = get(cells, before(nodes, node));
-    let right = get(cells, after(nodes, node));
-    if left != END {
-        put(cells, after(nodes, left), right);
+/// Takes the first node off a frontier and answers it, or answers `END`, or a number that is no node.
+pub(crate) fn unlink(cells: &mut [u32], list: &mut Frontier) -> u32 {
+    let node = list.first;
+    if node < 1 || node == END {
+        return node;
     }
-    if right != END {
-        put(cells, before(nodes, right), left);
+    list.first = get(cells, after(node));
+    if list.first == END {
+        list.last = 0;
     }
-    put(cells, after(nodes, node), 0);
-    Frontier {
-        first: if left == END { right } else { list.first },
-        last: if right == END { left } else { list.last },
-        len: list.len.saturating_sub(1),
+    put(cells, after(node), 0);
+    node
+}
+
+/// Takes all nodes off a frontier and answers the first of them.
+pub(crate) fn clear(list: &mut Frontier) -> u32 {
+    let node = list.first;
+    *list = NO_NODES;
+    node
+}
+
+/// Puts a free node that the tree has taken on the list of its next level. Answers whether it is on a list already.
+pub(crate) fn enter(tree: &mut Tree, cells: &mut [u32], node: u32) -> bool
+    requires node { 1 ≤ node }
+{
+    tree.waiting = tree.waiting.saturating_add(1);
+    let is_on_list = get(cells, after(node)) != 0;
+    if !is_on_list {
+        link(cells, &mut tree.later, node);
+    }
+    is_on_list
+}
+
+/// Puts a node of a tree on the frontier of its level, if the tree has yet to grow from it.
+pub(crate) fn enlist(tree: &mut Tree, cells: &mut [u32], node: u32, level: u32)
+    requires node { 1 ≤ node }
+{
+    if level == tree.level {
+        link(cells, &mut tree.now, node);
+    } else if level == tree.level.saturating_add(1) {
+        link(cells, &mut tree.later, node);
     }
 }
 

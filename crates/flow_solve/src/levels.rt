@@ -47,7 +47,7 @@ use crate::waves::send_waves;
 use flow_net::{FlowTable, Network};
 
 /// How many times the number of arcs the trees may take, in steps and in half-arcs that they pass by.
-const TREES_SHARE: u64 = 16;
+const TREES_SHARE: u64 = 64;
 
 /// The most arcs for each node with which the trees are grown: each repair of theirs passes all half-arcs of some
 /// nodes.

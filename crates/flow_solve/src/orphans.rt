@@ -1,17 +1,18 @@
 //! Orphans: nodes of two search trees whose half-arc to their parent was filled (Boykov and Kolmogorov 2004), and their
 //! adoption at the least level that has room for them (Goldberg and others 2011).
-ghost use Rattle.std.specs.Prelude.{◌≡◌, ◌+◌, ◌<◌, ◌≤◌, ◌*◌, true, false, length};
+ghost use Rattle.std.specs.Prelude.{◌≡◌, ◌+◌, ◌<◌, ◌≤◌, ◌*◌, IsTrue, IsFalse, length};
 ghost use Rattle.flow_net.specs.Nets.{IsNode};
 ghost use Rattle.flow_net.specs.Flows.{Fits};
 ghost use Rattle.flow_solve.specs.Packs.{IsPacked};
 ghost use Rattle.flow_solve.specs.Steps.{OnlyLooks, PaysLooks};
 
-use crate::chains::supply;
+use crate::chains::{Bottleneck, supply};
 use crate::frontiers::{
-    Tree, after, direction_of, get, label_of, link, orphan_on, parent_of, put, unlink,
+    Tree, after, direction_of, enlist, get, label_of, orphan_on, parent_of, place_of, put,
 };
 use crate::packing::Packed;
 use crate::searching::{Direction, head};
+use crate::walking::tail;
 use flow_net::FlowTable;
 
 /// Marks the parent's cell of an orphan, which else has the next orphan of its level.
@@ -24,82 +25,150 @@ pub(crate) struct Trees {
     pub sources: Tree,
     /// The tree of the sinks.
     pub sinks: Tree,
+    /// Whether a tree has taken a node that is on a list of the other.
+    pub mixed: bool,
     /// The least level that has orphans.
     pub lowest: u32,
     /// The greatest level that has orphans.
     pub highest: u32,
     /// What may still be done: steps, and half-arcs that are passed by.
     pub left: u64,
+    /// The trees are tired where no more than this is left: they have brought too little for what they took.
+    pub floor: u64,
 }
 
-/// Takes one off what may still be done. Answers whether there was one left.
-pub(crate) fn spend(trees: &mut Trees) -> bool
-    ensures some { result ≡ true → trees.new.left + 1 ≡ trees.old.left }
-    ensures none { result ≡ false → trees.new.left ≡ trees.old.left }
+/// Whether the trees have taken so much for what they bring that they end.
+pub(crate) fn is_tired(trees: &Trees) -> bool
+    ensures { IsFalse result → 1 ≤ trees.now.left }
 {
-    if trees.left == 0 {
+    trees.left <= trees.floor
+}
+
+/// Takes as many as some half-arcs off what may still be done, or all that is left. Answers whether there were so many.
+pub(crate) fn spend(trees: &mut Trees, count: u32) -> bool
+    ensures some { IsTrue result → trees.new.left + count ≡ trees.old.left }
+    ensures none { IsFalse result → trees.new.left ≡ 0 }
+{
+    if trees.left < u64::from(count) {
+        trees.left = 0;
         return false;
     }
-    trees.left -= 1;
+    trees.left -= u64::from(count);
     true
 }
 
 /// Makes a node an orphan.
 fn abandon(trees: &mut Trees, nodes: u32, cells: &mut [u32], node: u32)
+    requires node { 1 ≤ node }
     ensures left { trees.new.left ≡ trees.old.left }
 {
     let level = get(cells, label_of(node)) / 2;
     let next = get(cells, orphan_on(nodes, level));
-    put(cells, parent_of(nodes, node), ORPHAN | next);
+    put(cells, parent_of(node), ORPHAN | next);
     put(cells, orphan_on(nodes, level), node);
     trees.lowest = trees.lowest.min(level);
     trees.highest = trees.highest.max(level);
 }
 
-/// Makes orphans of the nodes on a chain of parents whose half-arc was filled.
+/// Makes orphans of the nodes on a path whose half-arc to their parent was filled: those that half-arcs lead to before
+/// the one where the trees touch, and those that half-arcs leave behind it.
 pub(crate) fn abandon_filled(
     packed: Packed<'_>,
     flow: &mut FlowTable,
     trees: &mut Trees,
     cells: &mut [u32],
-    node: u32,
-    count: u32,
+    path: &[u32],
+    touch: usize,
+    bottleneck: Bottleneck,
 )
     requires fits { Fits packed.net.now flow.old.flows }
     requires packed { IsPacked packed.net.now packed.first.now packed.halves.now }
-    ensures looks { OnlyLooks flow.old flow.new count }
+    ensures looks { OnlyLooks flow.old flow.new (length path.now) }
     ensures left { trees.new.left ≡ trees.old.left }
 {
     let nodes = packed.net.nodes();
-    let direction = direction_of(get(cells, label_of(node)));
-    let mut node = node;
-    for i in 0..count {
-        let half = get(cells, parent_of(nodes, node));
-        if half as usize >= packed.halves.len() {
+    for i in bottleneck.first.min(path.len())..path.len() {
+        let half = path[i];
+        if i >= bottleneck.end || half as usize >= packed.halves.len() {
             return;
         }
-        let next = head(packed.net, half);
-        let (_, room) = flow.look(packed.net, supply(direction, half));
-        if room == 0 {
+        let (next, room) = flow.look(packed.net, half);
+        if room == 0 && i != touch {
+            let node = if i < touch {
+                next
+            } else {
+                tail(packed.net, half)
+            };
             abandon(trees, nodes, cells, node);
         }
-        node = next;
     }
 }
 
-/// The least level, from an orphan's own on, on which it would have a parent in its tree, or one past the farthest. At
-/// its own level it gets that parent.
+/// Gives an orphan a parent on the level before its own, if one is left there. Answers whether that, or all that may
+/// still be done, is done.
 fn find_parent(
     packed: Packed<'_>,
     flow: &mut FlowTable,
     trees: &mut Trees,
     cells: &mut [u32],
     node: u32,
-    limit: u32,
-) -> Option<u32>
+) -> bool
     requires fits { Fits packed.net.now flow.old.flows }
     requires packed { IsPacked packed.net.now packed.first.now packed.halves.now }
-    requires size { 5 * packed.net.now.nodes ≤ length cells.old }
+    requires size { 4 * packed.net.now.nodes ≤ length cells.old }
+    requires node { IsNode packed.net.now node }
+    ensures paid { PaysLooks flow.old trees.old.left flow.new trees.new.left }
+{
+    // Brings the network's limits, `IsNet`, into the proof.
+    let _ = packed.net.nodes();
+    let own = cells[label_of(node)];
+    let direction = direction_of(own);
+    let nearer = own.saturating_sub(2);
+    let end = packed.first[node as usize];
+    let begin = cells[place_of(node)]
+        .max(packed.first[node as usize - 1])
+        .min(end);
+    if trees.left < u64::from(end - begin) {
+        trees.left = 0;
+        return true;
+    }
+    for spot in begin..end {
+        let half = packed.halves[spot as usize];
+        if cells[label_of(head(packed.net, half))] == nearer {
+            let (_, room) = flow.look(packed.net, supply(direction, half));
+            if room > 0 {
+                cells[parent_of(node)] = half;
+                cells[place_of(node)] = spot;
+                trees.left -= u64::from(spot + 1 - begin);
+                return true;
+            }
+        }
+    }
+    trees.left -= u64::from(end - begin);
+    false
+}
+
+/// A level on which an orphan could have a parent, and the place of the half-arc that leads to it.
+#[derive(Clone, Copy)]
+struct Spot {
+    /// The level, or one past the farthest.
+    level: u32,
+    /// The place.
+    place: u32,
+}
+
+/// The least level past its own on which a node would have a parent in its tree. The node's children become orphans.
+fn leave_level(
+    packed: Packed<'_>,
+    flow: &mut FlowTable,
+    trees: &mut Trees,
+    cells: &mut [u32],
+    node: u32,
+    limit: u32,
+) -> Spot
+    requires fits { Fits packed.net.now flow.old.flows }
+    requires packed { IsPacked packed.net.now packed.first.now packed.halves.now }
+    requires size { 4 * packed.net.now.nodes ≤ length cells.old }
     requires node { IsNode packed.net.now node }
     ensures paid { PaysLooks flow.old trees.old.left flow.new trees.new.left }
 {
@@ -109,97 +178,76 @@ fn find_parent(
     let level = own / 2;
     let begin = packed.first[node as usize - 1];
     let end = packed.first[node as usize];
-    let mut found = limit.saturating_add(1);
+    let mut found = Spot {
+        level: limit.saturating_add(1),
+        place: 0,
+    };
+    if level >= limit || !spend(trees, end - begin) {
+        return found;
+    }
     for spot in begin..end {
         let half = packed.halves[spot as usize];
-        let other = cells[label_of(head(packed.net, half))];
-        let on = other / 2 + 1;
-        if other != 0 && other % 2 == own % 2 && level <= on && on < found {
-            if !spend(trees) {
-                return None;
-            }
-            let (_, room) = flow.look(packed.net, supply(direction, half));
-            if room > 0 {
-                if on == level {
-                    cells[parent_of(nodes, node)] = half;
-                    trees.left = trees.left.saturating_sub(u64::from(spot - begin));
-                    return Some(level);
-                }
-                found = on;
-            }
-        }
-    }
-    trees.left = trees.left.saturating_sub(u64::from(end - begin));
-    Some(found)
-}
-
-/// Makes orphans of a node's children.
-fn abandon_children(packed: Packed<'_>, trees: &mut Trees, cells: &mut [u32], node: u32)
-    requires packed { IsPacked packed.net.now packed.first.now packed.halves.now }
-    requires size { 5 * packed.net.now.nodes ≤ length cells.old }
-    requires node { IsNode packed.net.now node }
-    ensures left { trees.new.left ≡ trees.old.left }
-{
-    let nodes = packed.net.nodes();
-    let child = cells[label_of(node)].saturating_add(2);
-    for spot in packed.first[node as usize - 1]..packed.first[node as usize] {
-        let half = packed.halves[spot as usize];
         let next = head(packed.net, half);
-        if cells[label_of(next)] == child && cells[parent_of(nodes, next)] == half ^ 1 {
-            abandon(trees, nodes, cells, next);
+        let label = cells[label_of(next)];
+        let on = label / 2 + 1;
+        if label % 2 == own % 2 && on > level {
+            if on == level + 2 && cells[parent_of(next)] == half ^ 1 {
+                abandon(trees, nodes, cells, next);
+            }
+            if on < found.level {
+                let (_, room) = flow.look(packed.net, supply(direction, half));
+                if room > 0 {
+                    found = Spot {
+                        level: on,
+                        place: spot,
+                    };
+                }
+            }
+        }
+    }
+    found
+}
+
+/// Puts a node, whose level in the tree has changed, on the list of its new level.
+fn relist(tree: &mut Tree, cells: &mut [u32], node: u32, level: u32)
+    requires node { 1 ≤ node }
+{
+    let is_on_list = get(cells, after(node)) != 0;
+    if is_on_list {
+        tree.waiting = tree.waiting.saturating_sub(1);
+    }
+    if tree.level <= level && level <= tree.limit {
+        tree.waiting = tree.waiting.saturating_add(1);
+        if !is_on_list {
+            enlist(tree, cells, node, level);
         }
     }
 }
 
-/// Takes a node whose label is about to change off its list, if it is on one, and puts it on that of its new level.
-fn relist(tree: &mut Tree, nodes: u32, cells: &mut [u32], node: u32, level: u32, found: u32) {
-    if get(cells, after(nodes, node)) != 0 {
-        if level == tree.level {
-            tree.now = unlink(cells, nodes, tree.now, node);
-        } else {
-            tree.later = unlink(cells, nodes, tree.later, node);
-        }
-    }
-    if found <= tree.limit {
-        if found == tree.level {
-            tree.now = link(cells, nodes, tree.now, node);
-        } else if found == tree.level.saturating_add(1) {
-            tree.later = link(cells, nodes, tree.later, node);
-        }
-    }
-}
-
-/// Moves an orphan to a farther level, or out of its tree where that is past the farthest. Its children become orphans;
-/// a node on the farthest level has none.
-fn raise(
-    packed: Packed<'_>,
-    trees: &mut Trees,
-    cells: &mut [u32],
-    node: u32,
-    limit: u32,
-    found: u32,
-)
+/// Moves an orphan that found no parent to a farther level, or out of its tree where that is past the farthest.
+fn raise(packed: Packed<'_>, flow: &mut FlowTable, trees: &mut Trees, cells: &mut [u32], node: u32)
+    requires fits { Fits packed.net.now flow.old.flows }
     requires packed { IsPacked packed.net.now packed.first.now packed.halves.now }
-    requires size { 5 * packed.net.now.nodes ≤ length cells.old }
+    requires size { 4 * packed.net.now.nodes ≤ length cells.old }
     requires node { IsNode packed.net.now node }
-    ensures left { trees.new.left ≤ trees.old.left }
+    ensures paid { PaysLooks flow.old trees.old.left flow.new trees.new.left }
 {
     let nodes = packed.net.nodes();
     let own = cells[label_of(node)];
-    let level = own / 2;
-    if level < limit {
-        let degree = packed.first[node as usize] - packed.first[node as usize - 1];
-        trees.left = trees.left.saturating_sub(u64::from(degree));
-        abandon_children(packed, trees, cells, node);
-    }
+    let limit = match direction_of(own) {
+        Direction::Forwards => trees.sources.limit,
+        Direction::Backwards => trees.sinks.limit,
+    };
+    let found = leave_level(packed, flow, trees, cells, node, limit);
     match direction_of(own) {
-        Direction::Forwards => relist(&mut trees.sources, nodes, cells, node, level, found),
-        Direction::Backwards => relist(&mut trees.sinks, nodes, cells, node, level, found),
+        Direction::Forwards => relist(&mut trees.sources, cells, node, found.level),
+        Direction::Backwards => relist(&mut trees.sinks, cells, node, found.level),
     }
-    if found > limit {
-        cells[label_of(node)] = 0;
+    if found.level > limit {
+        cells[label_of(node)] = own % 2;
     } else {
-        cells[label_of(node)] = found.saturating_mul(2).saturating_add(own % 2);
+        cells[label_of(node)] = found.level.saturating_mul(2).saturating_add(own % 2);
+        cells[place_of(node)] = found.place;
         // It takes its parent when the orphans of its new level do.
         abandon(trees, nodes, cells, node);
     }
@@ -215,31 +263,24 @@ fn adopt_level(
 ) -> bool
     requires fits { Fits packed.net.now flow.old.flows }
     requires packed { IsPacked packed.net.now packed.first.now packed.halves.now }
-    requires size { 5 * packed.net.now.nodes ≤ length cells.old }
-    requires level { level < packed.net.now.nodes }
+    requires size { 4 * packed.net.now.nodes ≤ length cells.old }
     ensures paid { PaysLooks flow.old trees.old.left flow.new trees.new.left }
 {
     let nodes = packed.net.nodes();
-    'orphans: while spend(trees) {
-        let node = cells[orphan_on(nodes, level)];
-        if node == 0 {
-            return true;
+    'orphans: while !is_tired(trees) {
+        let node = get(cells, orphan_on(nodes, level));
+        if node < 1 || node > nodes {
+            return node == 0;
         }
-        if node > nodes {
-            return false;
+        trees.left -= 1;
+        let rest = cells[parent_of(node)] & (ORPHAN - 1);
+        put(cells, orphan_on(nodes, level), rest);
+        match direction_of(cells[label_of(node)]) {
+            Direction::Forwards => trees.sources.orphans = trees.sources.orphans.saturating_add(1),
+            Direction::Backwards => trees.sinks.orphans = trees.sinks.orphans.saturating_add(1),
         }
-        cells[orphan_on(nodes, level)] = cells[parent_of(nodes, node)] & (ORPHAN - 1);
-        let limit = match direction_of(cells[label_of(node)]) {
-            Direction::Forwards => trees.sources.limit,
-            Direction::Backwards => trees.sinks.limit,
-        };
-        match find_parent(packed, flow, trees, cells, node, limit) {
-            None => return false,
-            Some(found) => {
-                if found != level {
-                    raise(packed, trees, cells, node, limit, found);
-                }
-            }
+        if !find_parent(packed, flow, trees, cells, node) {
+            raise(packed, flow, trees, cells, node);
         }
     }
     false
@@ -255,7 +296,7 @@ pub(crate) fn adopt(
 ) -> bool
     requires fits { Fits packed.net.now flow.old.flows }
     requires packed { IsPacked packed.net.now packed.first.now packed.halves.now }
-    requires size { 5 * packed.net.now.nodes ≤ length cells.old }
+    requires size { 4 * packed.net.now.nodes ≤ length cells.old }
     ensures paid { PaysLooks flow.old trees.old.left flow.new trees.new.left }
 {
     for level in trees.lowest..packed.net.nodes() {

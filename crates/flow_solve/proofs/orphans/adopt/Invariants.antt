@@ -7,6 +7,6 @@ use Rattle.flow_solve.proofs.orphans.adopt.Given as goal
 abbrev pub invariant-loop-level : goal.invariant-loop-level
 invariant-loop-level l = record {
   fits : Fits l.packed.net.now l.flow.flows;
-  size : 5 * l.packed.net.now.nodes ≤ length l.cells;
+  size : 4 * l.packed.net.now.nodes ≤ length l.cells;
   paid : PaysLooks l.fn.flow l.fn.trees.left l.flow l.trees.left;
 }

@@ -7,7 +7,7 @@ use Rattle.flow_solve.proofs.orphans.adopt_level.Given as goal
 abbrev pub invariant-orphans : goal.invariant-orphans
 invariant-orphans l = record {
   fits : Fits l.packed.net.now l.flow.flows;
-  size : 5 * l.packed.net.now.nodes ≤ length l.cells;
+  size : 4 * l.packed.net.now.nodes ≤ length l.cells;
   paid : PaysLooks l.fn.flow l.fn.trees.left l.flow l.trees.left;
 }
 

@@ -1,7 +1,7 @@
 // The value of a DIMACS maximum flow problem by the library of Boykov and Kolmogorov (Debian: libmaxflow-dev).
 // Its sums are exact below 2^53. The reader is as plain as it can be, so that the time is the library's: the whole
-// file at once, and no test of it. All sources are the library's source, all sinks its sink; a line 't SECONDS' says what
-// its search alone took of the processor.
+// file at once, and no test of it. All sources are the library's source, all sinks its sink; a line 't SECONDS' says
+// what its search alone took of the processor.
 #include <cstdio>
 #include <ctime>
 #include <memory>
@@ -30,8 +30,8 @@ static std::vector<char> bytes_of(const char *name) {
 
 enum class Kind : unsigned char { inner, source, sink };
 
-// A network as the library takes it: what leaves a source or enters a sink is told of a node, and two opposite arcs that
-// follow each other are one edge. An arc into a source or out of a sink changes no value.
+// A network as the library takes it: what leaves a source or enters a sink is told of a node, and two opposite arcs
+// that follow each other are one edge. An arc into a source or out of a sink changes no value.
 struct Network {
   using Graph = maxflow::Graph<double, double, double>;
   std::unique_ptr<Graph> graph;

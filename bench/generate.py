@@ -11,6 +11,7 @@ folder. Equal words give equal files. With no words it lists the families.
 """
 import argparse
 import gc
+import os
 import random
 import sys
 from pathlib import Path
@@ -124,7 +125,7 @@ def write_both(folder, *what):
     problem = made(*what)
     for order in ORDERS:
         path = path_of(folder, *what, order)
-        unfinished = path.with_suffix('.part')
+        unfinished = path.with_suffix(f'.{os.getpid()}.part')
         with unfinished.open('w', encoding='ascii') as out:
             out.writelines(written(problem if order == 'generated' else shuffled(problem, *what), *what))
         unfinished.rename(path)

@@ -46,7 +46,7 @@ def random_levels(rand, width, count):
 
 def mesh(rand, arcs):
     """The Washington generator's mesh (Johnson and McGeoch 1993): arcs to the three nearest nodes of the next level."""
-    width = max(3, round((arcs / 3) ** .5))
+    width = min(999, max(3, round((arcs / 3) ** .5)))
     near = [[k for k in (j - 1, j, j + 1) if 0 <= k < width] for j in range(width)]
     return levels(width, width, 30000, near.__getitem__, lambda: 1 + int(10000 * rand.random()))
 

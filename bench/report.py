@@ -124,7 +124,8 @@ class Report:
         worst = group.worst()
         text = (f'From file to value `flow solve` takes **{group.mean()}** times what the fastest other solver takes, '
                 f'in the geometric mean over {len(group.ratios)} problems of {len(families)} families. It is **behind '
-                f'on {len(group.behind)} of the {len(group.ratios)} problems**, which are of {len(slower)} families.')
+                f'on {len(group.behind)} of the {len(group.ratios)} problems**, which are of {len(slower)} of the '
+                'families.')
         if worst:
             text += (f' The worst is {worst.words()} ({self.size(worst.problem)}, {worst.problem.order}).')
         if self.found.left_out:

@@ -146,7 +146,7 @@ class Bench:
 
     def reading(self, problem, own):
         """What flow takes to read a problem: the file with one line more that no problem has, after which it ends."""
-        faulty = self.given.folder / 'faulty.part'
+        faulty = self.given.folder / f'faulty.{os.getpid()}.part'
         shutil.copyfile(problem.path, faulty)
         with faulty.open('a', encoding='ascii') as out:
             out.write('x\n')

@@ -4,6 +4,7 @@ import os
 import re
 import resource
 import shutil
+import signal
 import subprocess
 import sys
 import tempfile
@@ -11,6 +12,8 @@ from pathlib import Path
 
 HERE = Path(__file__).resolve().parent
 MEMORY = 8 << 30
+# How a program ends that the limit on its time stops: by a signal, or by way of GNU time by a status.
+STOPPED = [way for number in (signal.SIGXCPU, signal.SIGKILL) for way in (-number, 128 + number)]
 
 # Those that are never the fastest and take long: a run of twenty minutes leaves them out.
 SLOW = ('NetworkX', 'GLPK')
@@ -157,5 +160,5 @@ def measured(solver, path, seconds, timer=None):
     took = used.ru_utime + used.ru_stime
     value = solver.value(text) if started.returncode == 0 else None
     if value is None:
-        value = 'time' if took >= seconds - .1 else 'failed'
+        value = 'time' if started.returncode in STOPPED else 'failed'
     return Run(took, solver.search_time(text), int(peak[-1]) if peak else None, value)

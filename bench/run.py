@@ -3,9 +3,10 @@
 
 With no option it proves and builds flow (minutes, unless that is done), makes the problems, measures for as long as is
 left of twenty minutes, and prints the tables; with --write it puts the tables and the picture into docs/BENCHMARKS.md,
-docs/benchmarks.svg and README.md. With --night it leaves nothing out. Debian's packages of the other solvers:
-liblemon-utils, glpk-utils, python3-igraph, python3-networkx, python3-scipy, libmaxflow-dev and libboost-graph-dev with
-g++; of the photographs python3-skimage. The values of all solvers must agree: where two differ, the status is 1.
+docs/benchmarks.svg and README.md. With --night no time is set, and every solver runs. Debian's packages of the other
+solvers: liblemon-utils, glpk-utils, python3-igraph, python3-networkx, python3-scipy, libmaxflow-dev and
+libboost-graph-dev with g++; of the photographs python3-skimage. The values of all solvers must agree: where two differ,
+the status is 1.
 """
 import argparse
 import concurrent.futures
@@ -34,8 +35,8 @@ SIZES = {'tiny': (200, 60), 'small': (50000, 10000), 'medium': (500000, 100000),
 COMPARED = 1000
 # Runs begin while a solver has taken less than this on a problem, in seconds.
 ENOUGH = 1
-# What is kept of the time for the counts of instructions, in seconds.
-COUNTING = 45
+# No problem is begun where less is left of the time, in seconds: for one large problem and the counts of instructions.
+RESERVED = 120
 
 
 class Clock:
@@ -49,7 +50,8 @@ class Clock:
         return self.start + 60 * self.minutes - time.monotonic()
 
     def told(self):
-        return f'[{(time.monotonic() - self.start) / 60:.1f} of {self.minutes:.0f} minutes]'
+        of = '' if self.minutes == math.inf else f' of {self.minutes:.0f}'
+        return f'[{(time.monotonic() - self.start) / 60:.1f}{of} minutes]'
 
 
 class Problem:
@@ -112,10 +114,13 @@ class Bench:
                 sys.exit('a problem could not be made')
 
     def contenders(self, family, order, others):
-        """The solvers that may be the fastest other: after a smaller size those that came near, three at most."""
+        """The solvers that may be the fastest other: after a smaller size those that came near, three at most; of a
+        night all that weren't stopped there."""
         before = self.before.get((family, order))
         fastest = before.fastest_other() if before else None
-        if self.given.night or fastest is None:
+        if self.given.night and before:
+            return [solver for solver in others if solver.name not in before.stopped]
+        if fastest is None:
             return others
         near = sorted((before.times[solver.name], solver.name) for solver in others if solver.name in before.times
                       and before.times[solver.name] <= 3 * fastest[0])
@@ -173,7 +178,7 @@ class Bench:
         found = []
         for order in self.given.orders:
             for family in families:
-                if self.clock.left() < COUNTING:
+                if self.clock.left() < RESERVED:
                     self.left_out += 1
                     continue
                 problem = Problem(family, label, order,
@@ -222,10 +227,10 @@ def options():
     parser.add_argument('--seed', type=int, default=1, help='of the problems (%(default)s)')
     parser.add_argument('--repeat', type=int, default=5,
                         help='runs, the least of which counts, as far as they begin within a second (%(default)s)')
-    parser.add_argument('--limit', type=float, metavar='SECONDS', help='to stop a solver at (20; of a night 600)')
+    parser.add_argument('--limit', type=float, metavar='SECONDS', help='to stop a solver at (20; of a night 120)')
     parser.add_argument('--minutes', type=float, help='after which problems are left out (20; of a night none)')
     parser.add_argument('--night', action='store_true',
-                        help='every solver on every problem, each up to the limit and as often as asked')
+                        help='every solver on every problem, each up to the limit, and none left out for want of time')
     cache = Path(os.environ.get('XDG_CACHE_HOME') or Path.home() / '.cache')
     parser.add_argument('--folder', type=Path, default=cache / 'flow-bench',
                         help='of problems and programs (%(default)s)')
@@ -236,7 +241,7 @@ def options():
     parser.add_argument('--no-instructions', action='store_true', help='leave valgrind out')
     parser.add_argument('--write', action='store_true', help="write the documents' tables and the picture")
     given = parser.parse_args()
-    given.limit = given.limit or (600 if given.night else 20)
+    given.limit = given.limit or (120 if given.night else 20)
     given.minutes = given.minutes or (math.inf if given.night else 20)
     return given
 

@@ -3,10 +3,14 @@
 
 SOLVER is igraph, networkx or scipy, and the line that is printed 's VALUE', the greatest value of a flow; or
 igraph-connect or networkx-connect, and the line 'k VALUE', the edge connectivity of the undirected network. Each
-library is used as its manual says, with its reader of the format where it has one. With a SOLVER alone its version is
-printed.
+library is used as its manual says, with its reader of the format where it has one. A line 't SECONDS' says what the
+search alone took of the processor. With a SOLVER alone its version is printed.
 """
 import sys
+import time
+
+# igraph would load it where it's installed, which takes longer than most problems, and it isn't needed here.
+sys.modules['matplotlib'] = None
 
 
 def read(name):
@@ -26,15 +30,22 @@ def read(name):
     return nodes, source, sink, arcs
 
 
+def timed(search, *words, **named):
+    """What a search answers, and what it took of the processor."""
+    start = time.process_time()
+    value = search(*words, **named)
+    return value, time.process_time() - start
+
+
 def by_igraph(name):
     import igraph
     graph = igraph.Graph.Read_DIMACS(name, directed=True)
-    return 's', graph.maxflow_value(int(graph['source']), int(graph['target']), capacity='capacity')
+    return 's', *timed(graph.maxflow_value, int(graph['source']), int(graph['target']), capacity='capacity')
 
 
 def by_igraph_connect(name):
     import igraph
-    return 'k', igraph.Graph.Read_DIMACS(name, directed=False).edge_connectivity()
+    return 'k', *timed(igraph.Graph.Read_DIMACS(name, directed=False).edge_connectivity)
 
 
 def by_networkx(name):
@@ -46,7 +57,7 @@ def by_networkx(name):
             graph[tail][head]['capacity'] += capacity
         else:
             graph.add_edge(tail, head, capacity=capacity)
-    return 's', networkx.maximum_flow_value(graph, source, sink)
+    return 's', *timed(networkx.maximum_flow_value, graph, source, sink)
 
 
 def by_networkx_connect(name):
@@ -57,7 +68,8 @@ def by_networkx_connect(name):
             graph[tail][head]['weight'] += 1
         elif tail != head:
             graph.add_edge(tail, head, weight=1)
-    return 'k', networkx.stoer_wagner(graph)[0]
+    (value, _), took = timed(networkx.stoer_wagner, graph)
+    return 'k', value, took
 
 
 def by_scipy(name):
@@ -66,8 +78,11 @@ def by_scipy(name):
     from scipy.sparse.csgraph import maximum_flow
     nodes, source, sink, arcs = read(name)
     tails, heads, capacities = numpy.array(arcs, dtype=numpy.int64).T
+    if max(capacities.max(), capacities[tails == source].sum(), capacities[heads == sink].sum()) >= 1 << 31:
+        sys.exit('SciPy has capacities and values of 32 bits')
     matrix = coo_matrix((capacities.astype(numpy.int32), (tails, heads)), shape=(nodes, nodes)).tocsr()
-    return 's', maximum_flow(matrix, source, sink).flow_value
+    flow, took = timed(maximum_flow, matrix, source, sink)
+    return 's', flow.flow_value, took
 
 
 SOLVERS = {
@@ -85,8 +100,8 @@ def main():
     if len(sys.argv) == 2:
         print(__import__(sys.argv[1].split('-')[0]).__version__)
         return
-    letter, value = SOLVERS[sys.argv[1]](sys.argv[2])
-    print(letter, int(value))
+    letter, value, took = SOLVERS[sys.argv[1]](sys.argv[2])
+    print(f'{letter} {int(value)}\nt {took:.6f}')
 
 
 if __name__ == '__main__':

@@ -1,14 +1,14 @@
-"""The tables and the picture of a comparison, and where they stand in the documents."""
+"""The tables of a comparison, and where they stand in the documents."""
 import math
 import re
-from xml.sax.saxutils import escape
+
+import picture
 
 BEGIN = '<!-- bench: begin -->'
 END = '<!-- bench: end -->'
 
-# Colours that differ for every eye (Okabe and Ito 2008), and a shape each. The first is flow's.
-LOOKS = [('#000000', 'diamond'), ('#D55E00', 'circle'), ('#0072B2', 'square'), ('#009E73', 'up'), ('#CC79A7', 'down'),
-         ('#E69F00', 'circle'), ('#56B4E9', 'square'), ('#8C6D31', 'up'), ('#777777', 'down'), ('#B22222', 'square')]
+# Times that differ by less than this are told as level.
+LEVEL = 1.05
 
 
 def seconds(took):
@@ -18,99 +18,242 @@ def seconds(took):
 
 def times(factor):
     """A factor as it stands in a table."""
-    return f'{factor:.1f}' if factor < 10 else f'{factor:.0f}'
+    return f'{factor:.0f}' if factor >= 10 else f'{factor:.1f}' if factor >= 1 else f'{factor:.2f}'
 
 
 def thousands(count):
     return f'{count:,}'
 
 
-class Part:
-    """Problems of one kind with the solvers that ran on them, flow first."""
+def table(head, rows, numbers):
+    """A table of Markdown, whose last columns, so many, are of numbers."""
+    bars = ['---'] * (len(head) - numbers) + ['---:'] * numbers
+    return '\n'.join(['| ' + ' | '.join(head) + ' |', '|' + '|'.join(bars) + '|',
+                      *('| ' + ' | '.join(map(str, row)) + ' |' for row in rows)])
 
-    def __init__(self, title, problems, solvers):
-        self.title = title
-        self.problems = problems
-        self.solvers = solvers
+
+class Measured:
+    """All that a run measured: problems of flows, photographs, networks on which connect is compared, and those on
+    which it is seen to grow; with the solvers of flows and of connectivity besides flow."""
+
+    def __init__(self, own, others, compared_solvers):
+        self.own = own
+        self.others = others
+        self.compared_solvers = compared_solvers
+        self.flows = []
+        self.photographs = []
+        self.compared = []
+        self.growth = []
+        self.left_out = 0
+
+
+class Ratio:
+    """What flow takes on a problem over what the fastest other solver takes: a factor, a sign that says whether it is
+    a bound ('<' where all others were stopped, '>' where flow was), and that solver with its time."""
+
+    def __init__(self, problem):
+        own, other = problem.times.get('flow'), problem.fastest_other()
+        limits = [limit for name, limit in problem.stopped.items() if name != 'flow' and limit != 'failed']
+        self.problem = problem
+        self.factor, self.sign, self.name, self.took = None, '', 'none', None
+        if other:
+            self.took, self.name = other
+        if own is not None and other:
+            self.factor = own / self.took
+        elif own is not None and limits:
+            self.factor, self.sign = own / min(limits), '<'
+        elif other and isinstance(problem.stopped.get('flow'), int):
+            self.factor, self.sign = problem.stopped['flow'] / self.took, '>'
+
+    def behind(self):
+        return self.factor is not None and self.sign != '<' and self.factor > LEVEL
+
+    def cell(self):
+        """The factor as it stands in a table, in bold where flow is behind."""
+        if self.factor is None:
+            return '-'
+        text = f'{self.sign} {times(self.factor)}'.strip()
+        return f'**{text}**' if self.behind() else text
+
+    def words(self):
+        """The problem, the factor and the solver, in words."""
+        at_least = 'at least ' if self.sign == '>' else ''
+        return f'{self.problem.family} {at_least}{times(self.factor)} times {self.name}'
+
+
+class Group:
+    """The ratios of some problems, and what they come to."""
+
+    def __init__(self, problems):
+        ratios = [Ratio(problem) for problem in problems]
+        self.ratios = [ratio for ratio in ratios if ratio.factor is not None]
+        self.behind = sorted((ratio for ratio in self.ratios if ratio.behind()), key=lambda ratio: -ratio.factor)
+
+    def mean(self):
+        """The geometric mean of the factors; bounds count as they are, so they speak against flow where the others
+        were stopped, and for it where flow was."""
+        if not self.ratios:
+            return '-'
+        return times(math.exp(sum(math.log(max(ratio.factor, 1e-9)) for ratio in self.ratios) / len(self.ratios)))
+
+    def worst(self):
+        return max(self.ratios, key=lambda ratio: ratio.factor, default=None)
+
+    def row(self, label, order):
+        """A row of the table of groups."""
+        worst = self.worst()
+        return [label, order, self.mean(), f'{len(self.behind)} of {len(self.ratios)}', worst.words() if worst else '-']
 
 
 class Report:
-    """What was measured, in parts."""
+    """What was measured, as tables."""
 
-    def __init__(self, parts, given, machine, date, instructions):
-        self.parts = [part for part in parts if part.problems]
+    def __init__(self, found, given, machine, date, instructions):
+        self.found = found
         self.given = given
         self.machine = machine
         self.date = date
         self.instructions = instructions
+        self.solved = found.flows + found.photographs
 
-    def cell(self, problem, solver, best):
-        """What a solver took on a problem."""
-        took = problem.times.get(solver.name)
-        if took is None:
-            return f'> {self.given.limit:.0f}' if problem.stopped.get(solver.name) == 'time' else 'failed'
-        return f'**{seconds(took)}**' if took == best else seconds(took)
+    def summary(self):
+        """First of all: the mean, how many families flow is behind on, and the worst."""
+        group = Group(self.solved)
+        families = dict.fromkeys(problem.family for problem in self.solved)
+        slower = [family for family in families if any(ratio.problem.family == family for ratio in group.behind)]
+        worst = group.worst()
+        text = (f'From file to value `flow solve` takes **{group.mean()}** times what the fastest other solver takes, '
+                f'in the geometric mean over {len(group.ratios)} problems of {len(families)} families. It is **behind '
+                f'on {len(group.behind)} of the {len(group.ratios)} problems**, which are of {len(slower)} of the '
+                'families.')
+        if worst:
+            text += (f' The worst is {worst.words()} ({self.size(worst.problem)}, {worst.problem.order}).')
+        if self.found.left_out:
+            text += f' For want of time {self.found.left_out} more problems were left out.'
+        return text
 
-    def table(self, part):
-        """The whole table of a part."""
-        lines = ['| Family | Nodes | Arcs | ' + ' | '.join(solver.name for solver in part.solvers) + ' |',
-                 '|---|---:|---:|' + '---:|' * len(part.solvers)]
-        for problem in part.problems:
-            best = min(problem.times.values(), default=0)
-            cells = [self.cell(problem, solver, best) for solver in part.solvers]
-            lines.append(f'| {problem.family} | {thousands(problem.nodes)} | {thousands(problem.arcs)} | '
-                         + ' | '.join(cells) + ' |')
-        return '\n'.join(lines)
+    def size(self, problem):
+        return problem.size if isinstance(problem.size, str) else f'{thousands(problem.size)} arcs'
 
-    def against(self, problem):
-        """What flow took on a problem, the fastest other solver with what it took, and in words how they compare."""
-        took = problem.times.get('flow')
-        others = [(other, name) for name, other in problem.times.items() if name != 'flow']
-        if took is None or not others:
-            return took, None, 'no other solver finished' if took is not None else 'flow was stopped'
-        least, name = min(others)
-        if max(took, least) <= 1.05 * min(took, least):
-            return took, f'{name} {seconds(least)}', 'level with it'
-        if took < least:
-            return took, f'{name} {seconds(least)}', f'{times(least / took)} times as fast'
-        return took, f'{name} {seconds(least)}', f'behind, {times(took / least)} times the time'
+    def sizes(self, problems):
+        return list(dict.fromkeys(problem.size for problem in problems))
 
-    def short_table(self):
-        """A row for each family: flow and the fastest of the others."""
-        lines = ['| Family | Arcs | flow, seconds | Fastest other, seconds | flow is |', '|---|---:|---:|---|---|']
-        for part in self.parts:
-            for problem in part.problems:
-                took, other, words = self.against(problem)
-                own = '-' if took is None else seconds(took)
-                kind = '' if part is self.parts[0] else f' ({part.title.lower()})'
-                lines.append(f'| {problem.family}{kind} | {thousands(problem.arcs)} | {own} | {other or "-"} '
-                             f'| {words} |')
-        return '\n'.join(lines)
+    def orders(self, problems):
+        return list(dict.fromkeys(problem.order for problem in problems))
+
+    def of(self, problems, size, order):
+        return [problem for problem in problems if problem.size == size and problem.order == order]
+
+    def groups(self):
+        """The table of groups: each size of flows, the photographs and the networks of connect, in each order."""
+        rows = []
+        for problems, kind in ((self.found.flows, 'solve, {} arcs'), (self.found.photographs, 'solve, {}'),
+                               (self.found.compared, 'connect, {} nodes')):
+            for size in self.sizes(problems):
+                for order in self.orders(problems):
+                    label = kind.format(size if isinstance(size, str) else thousands(size))
+                    rows.append(Group(self.of(problems, size, order)).row(label, order))
+        return table(['Problems', 'Order', 'flow over fastest other', 'Behind on', 'Worst'], rows, 0)
 
     def behind(self):
-        """A sentence on the families where another solver is faster."""
-        rows = [(problem.family, *self.against(problem)) for part in self.parts for problem in part.problems]
-        slower = [f'{family} ({other}; flow {seconds(took)})' for family, took, other, words in rows
-                  if took is not None and words.startswith('behind')]
-        stopped = [family for family, took, _, _ in rows if took is None]
-        sentence = f'`flow` is behind on {len(slower) + len(stopped)} of {len(rows)} families'
-        return sentence + (': ' + ', '.join(slower + stopped) if slower or stopped else '') + '.'
+        """A row for each problem that flow is behind on, the worst first."""
+        rows = [[ratio.problem.family, self.size(ratio.problem), ratio.problem.order,
+                 seconds(ratio.problem.times['flow']) if not ratio.sign else f'> {ratio.problem.stopped["flow"]}',
+                 f'{ratio.name} {seconds(ratio.took)}', ratio.cell().strip('*')]
+                for ratio in Group(self.solved + self.found.compared).behind]
+        return table(['Family', 'Size', 'Order', 'flow, seconds', 'Fastest other, seconds', 'Ratio'], rows, 1)
+
+    def ratios(self):
+        """The ratio of each family at each size in each order, with the fastest other."""
+        columns = list(dict.fromkeys((problem.size, problem.order) for problem in self.found.flows))
+        by_place = {(problem.family, problem.size, problem.order): Ratio(problem) for problem in self.found.flows}
+        rows = []
+        for family in dict.fromkeys(problem.family for problem in self.found.flows):
+            cells = [by_place.get((family, *column)) for column in columns]
+            rows.append([family, *(f'{cell.cell()} {short(cell.name)}' if cell else '-' for cell in cells)])
+        return table(['Family', *(f'{thousands(size)}, {order}' for size, order in columns)], rows, len(columns))
+
+    def cell(self, problem, name, kept, form):
+        """A figure of a solver on a problem, or why there is none, in bold where it is the least."""
+        figure = kept(problem).get(name)
+        if figure is not None:
+            return f'**{form(figure)}**' if figure == min(kept(problem).values()) else form(figure)
+        why = problem.stopped.get(name, '-')
+        return f'> {why}' if isinstance(why, int) else why
+
+    def figures(self, problems, solvers, kept, form=seconds):
+        """The figures of solvers on problems, as a table."""
+        shown = [solver for solver in solvers if any(solver.name in problem.times or solver.name in problem.stopped
+                                                     for problem in problems)]
+        rows = [[problem.family, problem.order, thousands(problem.nodes), thousands(problem.arcs),
+                 *(self.cell(problem, solver.name, kept, form) for solver in shown)] for problem in problems]
+        return table(['Family', 'Order', 'Nodes', 'Arcs', *(solver.name for solver in shown)], rows, 2 + len(shown))
+
+    def middle(self):
+        """The problems of the middle size, in the first order: those of the picture and the tables of one size."""
+        sizes = self.sizes(self.found.flows)
+        return self.of(self.found.flows, sizes[len(sizes) // 2], self.found.flows[0].order) if sizes else []
+
+    def growth(self):
+        """The time of connect on networks of each size, in each order."""
+        columns = list(dict.fromkeys((problem.size, problem.order) for problem in self.found.growth))
+        by_place = {(problem.family, problem.size, problem.order): problem for problem in self.found.growth}
+        rows = []
+        for family in dict.fromkeys(problem.family for problem in self.found.growth):
+            cells = [by_place.get((family, *column)) for column in columns]
+            rows.append([family, *(self.cell(cell, 'flow', lambda problem: {**problem.times, ' ': 0}, seconds)
+                                   if cell else '-' for cell in cells)])
+        return table(['Network', *(f'{thousands(size)}, {order}' for size, order in columns)], rows, len(columns))
+
+    def grown(self):
+        """A sentence on the largest networks of connect."""
+        sizes = self.sizes(self.found.growth)
+        problems = [problem for problem in self.found.growth if problem.size == sizes[-1] and problem.family != 'ring']
+        took = [(problem.times['flow'], problem.family) for problem in problems if 'flow' in problem.times]
+        if not took:
+            return ''
+        stopped = sorted({problem.family for problem in problems if 'flow' in problem.stopped})
+        least, most = min(took), max(took)
+        text = (f'`flow connect` takes {seconds(least[0])} ({least[1]}) to {seconds(most[0])} seconds ({most[1]}) on '
+                f'networks of {thousands(sizes[-1])} nodes')
+        return text + (f', and was stopped on {", ".join(stopped)}.' if stopped else '.')
+
+    def run_words(self):
+        """How it was measured, in a paragraph."""
+        versions = dict.fromkeys(f'{solver.name} {solver.version}'.strip() for solver in (
+            self.found.own, *self.found.others, *self.found.compared_solvers))
+        stop = ('' if self.given.night else 'ten times the fastest solver before it and one second more, at most at ')
+        return (f'Run of {self.date} on {self.machine}. Seed {self.given.seed}; seconds of the processor (user and '
+                f'system), the least of {self.given.repeat} runs in turn, or of as many as begin within '
+                f'{60 if self.given.night else 1} seconds. A solver is stopped at {stop}{self.given.limit:.0f} '
+                f'seconds. Solvers: {", ".join(versions)}.')
+
+    def sections(self):
+        """The titles and texts of the report, after its head."""
+        found, solvers = self.found, [self.found.own, *self.found.others]
+        middle = self.middle()
+        size = self.size(middle[0]) if middle else ''
+        yield 'Where flow is behind', self.behind()
+        yield "flow's time over the fastest other's", self.ratios()
+        for each in self.sizes(found.flows):
+            yield f'Seconds, {thousands(each)} arcs wanted', self.figures(
+                [problem for problem in found.flows if problem.size == each], solvers, lambda problem: problem.times)
+        if found.photographs:
+            yield 'Seconds, photographs', self.figures(found.photographs, solvers, lambda problem: problem.times)
+        yield f'Seconds of the search alone, {size}', self.figures(middle, solvers, lambda problem: problem.searches)
+        yield f'Memory at the peak in MiB, {size}', self.figures(
+            middle, solvers, lambda problem: problem.peaks, lambda peak: f'{peak / 1024:.0f}')
+        yield 'Seconds of connect and of others', self.figures(
+            found.compared, [found.own, *found.compared_solvers], lambda problem: problem.times)
+        yield 'Seconds of connect by nodes', self.growth()
+        if self.instructions:
+            yield 'Instructions for each byte', self.instructions
 
     def tables(self):
         """All that docs/BENCHMARKS.md says of a run."""
-        versions = {}
-        for part in self.parts:
-            for solver in part.solvers:
-                versions.setdefault(f'{solver.name} {solver.version}'.strip())
-        words = [f'Run of {self.date} on {self.machine}. Problems of size `{self.given.size}`, '
-                 f'seed {self.given.seed}; '
-                 f'the least of {self.given.repeat} runs in turn, in seconds of the processor (user and system). A '
-                 f'solver is stopped at {self.given.limit:.0f} seconds. Solvers: ' + ', '.join(versions) + '.', '',
-                 self.behind()]
-        for part in self.parts:
-            words += ['', f'### {part.title}', '', self.table(part)]
-        if self.instructions:
-            words += ['', '### Instructions for each byte', '', self.instructions]
+        words = [self.summary(), '', self.groups(), '', self.grown(), '', self.run_words()]
+        for title, text in self.sections():
+            words += ['', f'### {title}', '', text]
         return '\n'.join(words)
 
     def write(self, top):
@@ -118,12 +261,24 @@ class Report:
         page, readme = places(top)
         (top / 'docs' / 'benchmarks.svg').write_text(self.picture(), encoding='utf-8')
         put(page, self.tables() + '\n\n![Seconds by family and solver](benchmarks.svg)')
-        put(readme, f'Run of {self.date} on {self.machine}; seconds of the processor, the least of {self.given.repeat} '
-            'runs.\n\n' + self.short_table())
+        put(readme, '\n\n'.join(filter(None, [self.summary(), self.groups(), self.grown()]))
+            + f'\n\nRun of {self.date} on {self.machine}; seconds of the processor.')
 
     def picture(self):
-        """A row for each family, a mark for each solver at its time, on a scale by tens."""
-        return Picture(self).text()
+        """A row for each family of the middle size and each network of connect, a mark for each solver."""
+        middle = self.middle()
+        compared = self.of(self.found.compared, self.found.compared[0].size, self.found.compared[0].order) \
+            if self.found.compared else []
+        title = f'Maximum flow, {self.size(middle[0])} wanted' if middle else ''
+        parts = [(title, middle, [self.found.own, *self.found.others]),
+                 ('Edge connectivity', compared, [self.found.own, *self.found.compared_solvers])]
+        return picture.Picture(parts, f'{self.date}, {self.machine}').text()
+
+
+def short(name):
+    """A solver's name, so short that a column holds it."""
+    return {'Boykov-Kolmogorov': 'B-K', 'Boost push-relabel': 'Boost p-r', 'Boost Boykov-Kolmogorov': 'Boost B-K',
+            'none': ''}.get(name, name)
 
 
 def places(top):
@@ -141,88 +296,3 @@ def put(path, text):
     page = path.read_text(encoding='utf-8')
     pattern = re.compile(re.escape(BEGIN) + '.*?' + re.escape(END), re.S)
     path.write_text(pattern.sub(lambda _: f'{BEGIN}\n{text}\n{END}', page), encoding='utf-8')
-
-
-class Picture:
-    """The drawing of a report."""
-
-    LEFT, RIGHT, ROW, WIDTH = 170, 30, 30, 960
-
-    def __init__(self, report):
-        self.report = report
-        found = [took for part in report.parts for problem in part.problems for took in problem.times.values()]
-        self.low = math.floor(math.log10(max(min(found, default=1), .001)))
-        self.high = max(self.low + 1, math.ceil(math.log10(max(max(found, default=1), report.given.limit * 1.1))))
-        self.looks = {}
-        for part in report.parts:
-            for solver in part.solvers:
-                self.looks.setdefault(solver.name, LOOKS[len(self.looks) % len(LOOKS)])
-        self.lines = []
-
-    def across(self, took):
-        """Where a time stands."""
-        share = (math.log10(max(took, 10 ** self.low)) - self.low) / (self.high - self.low)
-        return self.LEFT + share * (self.WIDTH - self.LEFT - self.RIGHT)
-
-    def label(self, x, y, text, anchor='start', weight='normal', size=13):
-        self.lines.append(f'<text x="{x:.1f}" y="{y:.1f}" text-anchor="{anchor}" font-weight="{weight}" '
-                          f'font-size="{size}">{escape(text)}</text>')
-
-    def mark(self, x, y, name, hollow=False):
-        """The mark of a solver: its shape in its colour."""
-        colour, shape = self.looks[name]
-        big = 7 if name == 'flow' else 5.5
-        look = f'fill="{"#ffffff" if hollow else colour}" stroke="{colour}" stroke-width="1.5"'
-        points = {'diamond': [(0, -1), (1, 0), (0, 1), (-1, 0)], 'square': [(-.8, -.8), (.8, -.8), (.8, .8), (-.8, .8)],
-                  'up': [(0, -1), (.95, .75), (-.95, .75)], 'down': [(0, 1), (.95, -.75), (-.95, -.75)]}
-        if shape == 'circle':
-            self.lines.append(f'<circle cx="{x:.1f}" cy="{y:.1f}" r="{big * .85:.1f}" {look}/>')
-        else:
-            corners = ' '.join(f'{x + big * a:.1f},{y + big * b:.1f}' for a, b in points[shape])
-            self.lines.append(f'<polygon points="{corners}" {look}/>')
-
-    def legend(self, y):
-        """The solvers with their marks; it answers where the rows may begin."""
-        x = 20
-        for name in self.looks:
-            width = 42 + 7.9 * len(name) + (8 if name == 'flow' else 0)
-            if x + width > self.WIDTH - 10:
-                x, y = 20, y + 24
-            self.mark(x + 8, y, name)
-            self.label(x + 22, y + 5, name, weight='bold' if name == 'flow' else 'normal')
-            x += width
-        return y + 22
-
-    def rows(self, part, y):
-        """The rows of a part below its scale; it answers where the next part may begin."""
-        self.label(20, y + 14, part.title, weight='bold', size=14)
-        top, bottom = y + 44, y + 44 + self.ROW * len(part.problems)
-        for power in range(self.low, self.high + 1):
-            x = self.across(10 ** power)
-            self.lines.append(f'<line x1="{x:.1f}" y1="{top}" x2="{x:.1f}" y2="{bottom}" stroke="#cccccc"/>')
-            self.label(x, top - 6, f'{10.0 ** power:g} s', 'middle', size=12)
-        for at, problem in enumerate(part.problems):
-            middle = top + self.ROW * (at + .5)
-            self.label(self.LEFT - 12, middle + 5, problem.family, 'end')
-            self.lines.append(f'<line x1="{self.LEFT}" y1="{middle}" x2="{self.WIDTH - self.RIGHT}" y2="{middle}" '
-                              'stroke="#eeeeee"/>')
-            for solver in reversed(part.solvers):
-                if solver.name in problem.times:
-                    self.mark(self.across(problem.times[solver.name]), middle, solver.name)
-                elif problem.stopped.get(solver.name) == 'time':
-                    self.mark(self.across(self.report.given.limit), middle, solver.name, hollow=True)
-        return bottom + 14
-
-    def text(self):
-        y = self.legend(52)
-        for part in self.report.parts:
-            y = self.rows(part, y)
-        self.label(20, y + 8, f'Hollow: stopped at {self.report.given.limit:.0f} seconds. {self.report.date}, '
-                   f'{self.report.machine}', size=12)
-        height = y + 24
-        head = (f'<svg xmlns="http://www.w3.org/2000/svg" viewBox="0 0 {self.WIDTH} {height:.0f}" width="{self.WIDTH}" '
-                f'height="{height:.0f}" font-family="DejaVu Sans, Helvetica, Arial, sans-serif" fill="#222222">\n'
-                f'<rect width="{self.WIDTH}" height="{height:.0f}" fill="#ffffff"/>\n'
-                '<text x="20" y="28" font-size="17" font-weight="bold">From file to value: seconds of the processor, '
-                'less is better</text>\n')
-        return head + '\n'.join(self.lines) + '\n</svg>\n'

@@ -1,22 +1,24 @@
 #!/usr/bin/env python3
 """Compares flow with the solvers that are installed: from file to value, families of problems, least of several times.
 
-With no option it proves and builds flow (minutes), makes the problems, measures, and prints the tables; with --write
-it puts the tables and the picture into docs/BENCHMARKS.md, docs/benchmarks.svg and README.md. Debian's packages of the
-other solvers: liblemon-utils, glpk-utils, python3-igraph, python3-networkx, python3-scipy, libmaxflow-dev and
-libboost-graph-dev with g++. The values of all solvers must agree: where two differ, the status is 1.
+With no option it proves and builds flow (minutes, unless that is done), makes the problems, measures for as long as is
+left of twenty minutes, and prints the tables; with --write it puts the tables and the picture into docs/BENCHMARKS.md,
+docs/benchmarks.svg and README.md. With --night no time is set, and every solver runs. Debian's packages of the other
+solvers: liblemon-utils, glpk-utils, python3-igraph, python3-networkx, python3-scipy, libmaxflow-dev and
+libboost-graph-dev with g++; of the photographs python3-skimage. The values of all solvers must agree: where two differ,
+the status is 1.
 """
 import argparse
+import concurrent.futures
 import datetime
+import math
 import os
 import re
-import resource
 import shlex
 import shutil
-import signal
 import subprocess
 import sys
-import tempfile
+import time
 from pathlib import Path
 
 HERE = Path(__file__).resolve().parent
@@ -25,175 +27,167 @@ sys.dont_write_bytecode = True
 
 import generate  # noqa: E402
 import report  # noqa: E402
+import solvers  # noqa: E402
 
-# Arcs of a problem: of a flow, and of a connectivity, whose other solvers take a time that grows by the square.
-SIZES = {'tiny': (300, 300), 'small': (30000, 3000), 'medium': (400000, 20000), 'large': (3000000, 100000)}
-MEMORY = 8 << 30
-
-
-class Solver:
-    """A command that prints the value of a problem."""
-
-    def __init__(self, name, version, words, pattern=r'^[sk] (\d+)', success='', exact=True):
-        self.name = name
-        self.version = version
-        self.words = words
-        self.pattern = re.compile(pattern, re.M)
-        self.success = success
-        self.exact = exact
-
-    def value(self, text):
-        """The value that an output says; nothing where it says none."""
-        found = self.pattern.findall(text)
-        if not found or self.success not in text:
-            return None
-        return int(found[-1]) if self.exact else int(float(found[-1]))
+# Arcs of a problem, and the nodes of a network for connect.
+SIZES = {'tiny': (200, 60), 'small': (50000, 10000), 'medium': (500000, 100000), 'large': (3000000, 1000000)}
+# The nodes of the networks on which connect is compared: the time of the others grows by the square.
+COMPARED = 1000
+# Runs begin while a solver has taken less than this on a problem, in seconds.
+ENOUGH = 1
+# No problem is begun where less is left of the time, in seconds: for one large problem and the counts of instructions.
+RESERVED = 120
 
 
-def output_of(*words):
-    """What a command prints; nothing where it can't be run or fails."""
-    try:
-        return subprocess.run(words, capture_output=True, text=True, check=True, timeout=120).stdout.strip()
-    except (OSError, subprocess.SubprocessError):
-        return ''
+class Clock:
+    """How much is left of the time that a run may take, in seconds."""
 
+    def __init__(self, minutes):
+        self.start = time.monotonic()
+        self.minutes = minutes
 
-def package_version(package):
-    """The upstream version of a Debian package, or nothing."""
-    version = output_of('dpkg-query', '-W', '-f', '${Version}', package)
-    return version.split(':')[-1].split('-')[0].split('+')[0]
+    def left(self):
+        return self.start + 60 * self.minutes - time.monotonic()
 
-
-def compiled(folder, name, *libraries):
-    """The program of a C++ file beside this one; nothing where the library or a compiler is missing."""
-    compiler = shutil.which('g++') or shutil.which('c++')
-    program = folder / name
-    source = HERE / f'{name}.cpp'
-    if not compiler:
-        return None
-    if program.exists() and program.stat().st_mtime > source.stat().st_mtime:
-        return str(program)
-    words = [compiler, '-O2', '-w', '-isystem', '/usr/include/maxflow-3.0', '-o', str(program), str(source), *libraries]
-    return str(program) if subprocess.run(words, capture_output=True).returncode == 0 else None
-
-
-def python_solver(name):
-    """The words of a solver of Python and its version, by the system's Python or else by this one."""
-    for interpreter in ('/usr/bin/python3', sys.executable):
-        version = output_of(interpreter, str(HERE / 'python_solvers.py'), name)
-        if version:
-            return [interpreter, str(HERE / 'python_solvers.py'), name], version
-    return None
-
-
-def asked_python(asked, name, title):
-    """A solver of Python, in a list; none where it isn't asked for or there."""
-    known = python_solver(name) if asked(title) else None
-    return [Solver(title, known[1], known[0])] if known else []
-
-
-def asked_boost(asked, folder, methods):
-    """The solvers of Boost's graph library that are asked for, of those methods by their names."""
-    named = [(name, method) for name, method in methods.items() if asked(name)]
-    program = compiled(folder, 'boost_flow') if named else None
-    version = package_version('libboost-graph-dev')
-    return [Solver(name, version, [program, method]) for name, method in named] if program else []
-
-
-def flow_solvers(asked, folder):
-    """The other solvers of maximum flows that are asked for and found."""
-    found = []
-    if asked('LEMON') and shutil.which('dimacs-solver'):
-        found.append(Solver('LEMON', package_version('liblemon-utils'), ['dimacs-solver', '-long'],
-                            r'^Max flow value: (\d+)'))
-    kolmogorov = compiled(folder, 'boykov_kolmogorov', '-lmaxflow') if asked('Boykov-Kolmogorov') else None
-    if kolmogorov:
-        found.append(Solver('Boykov-Kolmogorov', package_version('libmaxflow-dev'), [kolmogorov]))
-    found += asked_boost(asked, folder, {'Boost push-relabel': 'push-relabel',
-                                         'Boost Boykov-Kolmogorov': 'boykov-kolmogorov'})
-    found += asked_python(asked, 'igraph', 'igraph')
-    found += asked_python(asked, 'scipy', 'SciPy')
-    found += asked_python(asked, 'networkx', 'NetworkX')
-    if asked('GLPK') and shutil.which('glpsol'):
-        found.append(Solver('GLPK', package_version('glpk-utils'), ['glpsol', '--maxflow'],
-                            r'obj = +(\d[0-9.e+]*)', 'OPTIMAL', exact=False))
-    return found
-
-
-def connectivity_solvers(asked, folder):
-    """The other solvers of the edge connectivity of undirected networks that are asked for and found."""
-    return [*asked_boost(asked, folder, {'Boost Stoer-Wagner': 'stoer-wagner'}),
-            *asked_python(asked, 'igraph-connect', 'igraph'), *asked_python(asked, 'networkx-connect', 'NetworkX')]
-
-
-def limits(seconds):
-    """What a solver may take of the processor and of memory."""
-    resource.setrlimit(resource.RLIMIT_CPU, (int(seconds) + 1, int(seconds) + 2))
-    resource.setrlimit(resource.RLIMIT_AS, (MEMORY, MEMORY))
-
-
-def measured(solver, problem, seconds):
-    """The processor time, user and system, of one run, and its value, or in words why it has none."""
-    with tempfile.TemporaryFile('w+') as out:
-        started = subprocess.Popen([*solver.words, str(problem)], stdout=out, stderr=subprocess.STDOUT,
-                                   stdin=subprocess.DEVNULL, preexec_fn=lambda: limits(seconds))
-        _, status, used = os.wait4(started.pid, 0)
-        started.returncode = os.waitstatus_to_exitcode(status)
-        out.seek(0)
-        value = solver.value(out.read()) if started.returncode == 0 else None
-    if value is None:
-        value = 'time' if -started.returncode in (signal.SIGXCPU, signal.SIGKILL) else 'failed'
-    return used.ru_utime + used.ru_stime, value
+    def told(self):
+        of = '' if self.minutes == math.inf else f' of {self.minutes:.0f}'
+        return f'[{(time.monotonic() - self.start) / 60:.1f}{of} minutes]'
 
 
 class Problem:
-    """A problem of a family, and what was measured on it."""
+    """A problem of a family, and what was measured on it: for each solver its least time, of its search alone, and its
+    memory at the peak in KiB; its value; or why it was stopped: a number of seconds, or 'failed'."""
 
-    def __init__(self, family, path):
+    def __init__(self, family, size, order, path):
         self.family = family
+        self.size = size
+        self.order = order
         self.path = path
         self.nodes, self.arcs = map(int, re.search(rb'^p max (\d+) (\d+)', path.open('rb').read(4096), re.M).groups())
         self.times = {}
+        self.searches = {}
+        self.peaks = {}
         self.values = {}
         self.stopped = {}
 
+    def fastest_other(self):
+        """The least time of the other solvers, with its name; nothing where none finished."""
+        return min(((took, name) for name, took in self.times.items() if name != 'flow'), default=None)
 
-def made(folder, family, arcs, seed):
-    """The file of a problem; it is written where it isn't there yet."""
-    path = folder / f'{family}-{arcs}-{seed}.max'
-    if not path.exists():
-        print(f'making {path.name}', file=sys.stderr)
-        unfinished = path.with_suffix('.part')
-        with unfinished.open('w', encoding='ascii') as out:
-            generate.write(out, family, arcs, seed)
-        unfinished.rename(path)
-    return path
-
-
-def measure(problem, solvers, repeat, seconds):
-    """Runs the solvers in turn, as often as asked; one that was stopped, or takes long, isn't run again."""
-    for turn in range(repeat):
-        for solver in solvers:
-            least = problem.times.get(solver.name)
-            if solver.name in problem.stopped or (least and turn > 0 and least > seconds / 4):
-                continue
-            took, value = measured(solver, problem.path, seconds)
-            if isinstance(value, str):
-                problem.stopped[solver.name] = value
-                continue
-            problem.values[solver.name] = value
-            problem.times[solver.name] = min(took, least or took)
-    told = [f'{name} {took:.3f}' for name, took in problem.times.items()]
-    told += [f'{name} {why}' for name, why in problem.stopped.items()]
-    print(f'{problem.family}: {", ".join(told)}', file=sys.stderr)
+    def keep(self, name, run):
+        """Keeps what a run says."""
+        if isinstance(run.value, str):
+            self.stopped[name] = run.value
+            return
+        self.values[name] = run.value
+        self.times[name] = min(run.took, self.times.get(name, math.inf))
+        if run.search is not None:
+            self.searches[name] = min(run.search, self.searches.get(name, math.inf))
+        if run.peak:
+            self.peaks[name] = run.peak
 
 
-def disagreements(problem, solvers):
-    """The solvers whose value isn't the first one's. A solver of numbers with a point has nine digits."""
-    exact = {solver.name: solver.exact for solver in solvers}
-    wanted = next(iter(problem.values.values()), None)
-    return [f'{problem.family}: {name} says {value}, and not {wanted}' for name, value in problem.values.items()
-            if value != wanted and (exact[name] or abs(value - wanted) > 1 + wanted * 1e-8)]
+class Bench:
+    """What a run measures with: the words of its command line, its clock, and what was seen so far."""
+
+    def __init__(self, given, clock):
+        self.given = given
+        self.clock = clock
+        self.timer = solvers.gnu_time()
+        self.left_out = 0
+        self.wrong = []
+        self.before = {}
+
+    def make(self, wanted):
+        """Writes the files of the problems that aren't there yet, some at a time."""
+        missing = [what for what in dict.fromkeys(wanted) if not all(
+            generate.path_of(self.given.folder, *what, order).exists() for order in generate.ORDERS)]
+
+        def making(what):
+            done = subprocess.run([sys.executable, '-B', HERE / 'generate.py', *map(str, what), '--into',
+                                   self.given.folder])
+            print(f'{self.clock.told()} made {what[0]} of {what[1]}', file=sys.stderr)
+            return done.returncode
+
+        with concurrent.futures.ThreadPoolExecutor(max(1, (os.cpu_count() or 2) - 1)) as workers:
+            if any(workers.map(making, missing)):
+                sys.exit('a problem could not be made')
+
+    def contenders(self, family, order, others):
+        """The solvers that may be the fastest other: after a smaller size those that came near, three at most; of a
+        night all that weren't stopped there."""
+        before = self.before.get((family, order))
+        fastest = before.fastest_other() if before else None
+        if self.given.night and before:
+            return [solver for solver in others if solver.name not in before.stopped]
+        if fastest is None:
+            return others
+        near = sorted((before.times[solver.name], solver.name) for solver in others if solver.name in before.times
+                      and before.times[solver.name] <= 3 * fastest[0])
+        names = {name for _, name in near[:3]}
+        return [solver for solver in others if solver.name in names]
+
+    def limit(self, problem):
+        """The seconds after which a solver is stopped: ten times the fastest so far, and one more."""
+        fastest = min(problem.times.values(), default=math.inf)
+        return self.given.limit if self.given.night else min(self.given.limit, 10 * fastest + 1)
+
+    def measure(self, problem, own, others):
+        """Runs the solvers in turn, as often as asked, a solver that has taken long enough no more."""
+        spent = {}
+        for turn in range(self.given.repeat):
+            for solver in [own, *others]:
+                if solver.name in problem.stopped or spent.get(solver.name, 0) >= (60 if self.given.night else ENOUGH):
+                    continue
+                limit = self.limit(problem) if turn == 0 and solver is not own else self.given.limit
+                run = solvers.measured(solver, problem.path, limit, None if turn else self.timer)
+                problem.keep(solver.name, run)
+                if run.value == 'time':
+                    problem.stopped[solver.name] = math.ceil(limit)
+                spent[solver.name] = spent.get(solver.name, 0) + run.took
+        if own.words[1] == 'solve' and own.name in problem.times:
+            problem.searches[own.name] = max(0, problem.times[own.name] - self.reading(problem, own))
+        self.tell(problem)
+
+    def reading(self, problem, own):
+        """What flow takes to read a problem: the file with one line more that no problem has, after which it ends."""
+        faulty = self.given.folder / f'faulty.{os.getpid()}.part'
+        shutil.copyfile(problem.path, faulty)
+        with faulty.open('a', encoding='ascii') as out:
+            out.write('x\n')
+        took = min(solvers.measured(own, faulty, self.given.limit).took for _ in range(2))
+        faulty.unlink()
+        return took
+
+    def tell(self, problem):
+        """Says what was measured on a problem."""
+        told = [f'{name} {took:.3f}' for name, took in problem.times.items()]
+        told += [f'{name} {why if why == "failed" else f"> {why}"}' for name, why in problem.stopped.items()]
+        print(f'{self.clock.told()} {problem.family} {problem.size} {problem.order}: {", ".join(told)}',
+              file=sys.stderr)
+
+    def disagreements(self, problem, others):
+        """The solvers whose value isn't the first one's. A solver of numbers with a point has nine digits."""
+        exact = {solver.name: solver.exact for solver in others}
+        wanted = next(iter(problem.values.values()), None)
+        return [f'{problem.family}: {name} says {value}, and not {wanted}' for name, value in problem.values.items()
+                if value != wanted and (exact.get(name, True) or abs(value - wanted) > 1 + wanted * 1e-8)]
+
+    def part(self, families, size, label, own, others):
+        """The problems of some families at a size, in all orders, as they were measured."""
+        found = []
+        for order in self.given.orders:
+            for family in families:
+                if self.clock.left() < RESERVED:
+                    self.left_out += 1
+                    continue
+                problem = Problem(family, label, order,
+                                  generate.path_of(self.given.folder, family, size, self.given.seed, order))
+                self.measure(problem, own, self.contenders(family, order, others))
+                self.wrong += self.disagreements(problem, others)
+                self.before[family, order] = problem
+                found.append(problem)
+        return found
 
 
 def machine():
@@ -219,17 +213,24 @@ def instructions(flow):
     script = HERE / 'instructions.py'
     if not script.exists() or not shutil.which('valgrind'):
         return ''
-    return output_of(sys.executable, str(script), flow)
+    return solvers.output_of(sys.executable, str(script), flow)
 
 
 def options():
     """The words of the command line."""
     parser = argparse.ArgumentParser(description=__doc__, formatter_class=argparse.RawDescriptionHelpFormatter)
     parser.add_argument('--flow', metavar='PROGRAM', help='the program to measure, in place of one built anew')
-    parser.add_argument('--size', choices=SIZES, default='medium', help='of the problems (%(default)s)')
+    parser.add_argument('--sizes', nargs='+', choices=SIZES, default=['small', 'medium', 'large'],
+                        help='of the problems (%(default)s)')
+    parser.add_argument('--orders', nargs='+', choices=generate.ORDERS, default=list(generate.ORDERS),
+                        help='of nodes and arcs (%(default)s)')
     parser.add_argument('--seed', type=int, default=1, help='of the problems (%(default)s)')
-    parser.add_argument('--repeat', type=int, default=5, help='runs, the least of which counts (%(default)s)')
-    parser.add_argument('--limit', type=float, default=60, metavar='SECONDS', help='to stop a solver at (%(default)s)')
+    parser.add_argument('--repeat', type=int, default=5,
+                        help='runs, the least of which counts, as far as they begin within a second (%(default)s)')
+    parser.add_argument('--limit', type=float, metavar='SECONDS', help='to stop a solver at (20; of a night 120)')
+    parser.add_argument('--minutes', type=float, help='after which problems are left out (20; of a night none)')
+    parser.add_argument('--night', action='store_true',
+                        help='every solver on every problem, each up to the limit, and none left out for want of time')
     cache = Path(os.environ.get('XDG_CACHE_HOME') or Path.home() / '.cache')
     parser.add_argument('--folder', type=Path, default=cache / 'flow-bench',
                         help='of problems and programs (%(default)s)')
@@ -239,48 +240,69 @@ def options():
                         help='one more solver of flows, whose last word will be the file and which prints s VALUE')
     parser.add_argument('--no-instructions', action='store_true', help='leave valgrind out')
     parser.add_argument('--write', action='store_true', help="write the documents' tables and the picture")
-    return parser.parse_args()
+    given = parser.parse_args()
+    given.limit = given.limit or (120 if given.night else 20)
+    given.minutes = given.minutes or (math.inf if given.night else 20)
+    return given
+
+
+def chosen(given):
+    """The families that are asked for: of flows, photographs and connectivities."""
+    return [[family for family in families if not given.only or family in given.only]
+            for families in (generate.FLOWS, generate.PHOTOGRAPHS, generate.CONNECTIVITY)]
+
+
+def measured_parts(bench, flow, version):
+    """All parts of a run, the large problems last, since they are left out where the time is over."""
+    given = bench.given
+
+    def asked(name):
+        return name in given.solvers if given.solvers else given.night or name not in solvers.SLOW
+
+    flows, photographs, networks = chosen(given)
+    own = solvers.Solver('flow', version, [flow, 'solve', '--value'])
+    others = [*solvers.flow_solvers(asked, given.folder),
+              *(solvers.Solver(name, '', shlex.split(command)) for name, command in given.also)]
+    connecting = solvers.Solver('flow', version, [flow, 'connect', '--undirected'])
+    compared = solvers.connectivity_solvers(asked, given.folder)
+    least = min(COMPARED, SIZES[given.sizes[0]][1])
+    photographs = [] if given.sizes == ['tiny'] else photographs
+    bench.make([(family, SIZES[size][0], given.seed) for size in given.sizes for family in flows]
+               + [(family, 1, given.seed) for family in photographs]
+               + [(family, count, given.seed) for family in networks
+                  for count in (least, *(SIZES[size][1] for size in given.sizes))])
+    found = report.Measured(own, others, compared)
+    *smaller, largest = given.sizes
+    for size in smaller:
+        found.flows += bench.part(flows, SIZES[size][0], SIZES[size][0], own, others)
+    found.photographs = bench.part(photographs, 1, 'photographs', own, others)
+    found.compared = bench.part(networks, least, least, connecting, compared)
+    for size in given.sizes:
+        found.growth += bench.part(networks, SIZES[size][1], SIZES[size][1], connecting,
+                                   compared if given.night else [])
+    found.flows += bench.part(flows, SIZES[largest][0], SIZES[largest][0], own, others)
+    found.left_out = bench.left_out
+    return found
 
 
 def main():
     given = options()
     if given.write:
         report.places(HERE.parent)
+    bench = Bench(given, Clock(given.minutes))
     given.folder.mkdir(parents=True, exist_ok=True)
     flow = given.flow or built_flow(given.folder / 'bin')
     flow = str(Path(flow).resolve())
-    version = output_of(flow, '--version').removeprefix('flow ')
-
-    def asked(name):
-        return not given.solvers or name in given.solvers
-
-    flows = [Solver('flow', version, [flow, 'solve', '--value']), *flow_solvers(asked, given.folder),
-             *(Solver(name, '', shlex.split(command)) for name, command in given.also)]
-    connectivities = [Solver('flow', version, [flow, 'connect', '--undirected']),
-                      *connectivity_solvers(asked, given.folder)]
-    wrong = []
-    parts = []
-    for title, families, solvers, arcs in (
-            ('Maximum flow', generate.FLOWS, flows, SIZES[given.size][0]),
-            ('Edge connectivity', generate.CONNECTIVITY, connectivities, SIZES[given.size][1])):
-        part = []
-        for family in families:
-            if given.only and family not in given.only:
-                continue
-            problem = Problem(family, made(given.folder, family, arcs, given.seed))
-            measure(problem, solvers, given.repeat, given.limit)
-            wrong += disagreements(problem, solvers)
-            part.append(problem)
-        parts.append(report.Part(title, part, solvers))
-    told = report.Report(parts, given, machine(), datetime.date.today().isoformat(),
+    found = measured_parts(bench, flow, solvers.output_of(flow, '--version').removeprefix('flow '))
+    told = report.Report(found, given, machine(), datetime.date.today().isoformat(),
                          '' if given.no_instructions else instructions(flow))
     if given.write:
         told.write(HERE.parent)
     else:
         (given.folder / 'benchmarks.svg').write_text(told.picture(), encoding='utf-8')
         print(told.tables())
-    print('\n'.join(wrong) or 'all values agree', file=sys.stderr)
-    return 1 if wrong else 0
+    print('\n'.join(bench.wrong) or 'all values agree', file=sys.stderr)
+    return 1 if bench.wrong else 0
 
 
 if __name__ == '__main__':

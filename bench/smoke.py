@@ -2,10 +2,11 @@
 """Tries the generator and the runner on tiny problems: smoke.py FLOW
 
 FLOW is the program that was built. Each family has to be repeatable, within the format and of the value that a plain
-search for augmenting paths finds; the runner has to write its tables and its picture, to tell of a solver that is
-wrong or stopped, and to do without one that isn't there. The last line is 'bench: N passed, M failed'.
+search for augmenting paths finds, in both orders; the runner has to write its tables and its picture, to tell of a
+solver that is wrong or stopped, to do without one that isn't there, and to end in time; the program of the library of
+Boykov and Kolmogorov has to solve problems of several sources and sinks. The last line is 'bench: N passed, M failed'.
 """
-import io
+import random
 import re
 import shutil
 import subprocess
@@ -19,9 +20,13 @@ sys.path.insert(0, str(HERE))
 sys.dont_write_bytecode = True
 
 import generate  # noqa: E402
+import grids  # noqa: E402
 import report  # noqa: E402
+import run as run_module  # noqa: E402
+import solvers  # noqa: E402
 
 ARCS = 200
+NODES = 60
 passed = failed = 0
 
 
@@ -35,10 +40,25 @@ def holds(what, truth):
         print(f'bench: {what}: no')
 
 
-def text_of(family, seed):
-    out = io.StringIO()
-    generate.write(out, family, ARCS, seed)
-    return out.getvalue()
+def size_of(family):
+    """A tiny size: of a network for connect its nodes, else its arcs."""
+    return NODES if family in generate.CONNECTIVITY else ARCS
+
+
+def text_of(family, seed, order='generated'):
+    what = family, size_of(family), seed
+    problem = generate.made(*what)
+    return ''.join(generate.written(problem if order == 'generated' else generate.shuffled(problem, *what), *what))
+
+
+def arcs_of(text):
+    """The arcs of a problem."""
+    return [tuple(map(int, line.split()[1:])) for line in text.splitlines() if line.startswith('a')]
+
+
+def terminals_of(text):
+    """The source and the sink of a problem, in this order."""
+    return (int(line.split()[1]) for line in text.splitlines() if line.startswith('n'))
 
 
 def greatest_value(capacities, source, sink):
@@ -70,52 +90,141 @@ def greatest_value(capacities, source, sink):
         value += least
 
 
+def value_by_flow(flow, path, text):
+    """The value of a problem, as the program prints it."""
+    path.write_text(text, encoding='ascii')
+    return subprocess.run([flow, 'solve', '--value', path], capture_output=True, text=True).stdout
+
+
 def families(flow, folder):
     """Each family, against its own definition in words and against the plain search."""
-    for family in generate.FAMILIES:
-        text = text_of(family, 1)
+    for family in (*generate.FLOWS, *generate.CONNECTIVITY):
+        text, other = text_of(family, 1), text_of(family, 1, 'shuffled')
         holds(f'{family} is the same again', text == text_of(family, 1))
-        holds(f'{family} differs by its seed', text != text_of(family, 2) or family == 'grid')
-        lines = [line.split() for line in text.splitlines()]
-        arcs = [tuple(map(int, line[1:])) for line in lines if line[0] == 'a']
-        nodes = int(lines[1][2])
-        holds(f'{family} has as many arcs as it says, near those wanted',
-              len(arcs) == int(lines[1][3]) and ARCS / 2 <= len(arcs) <= 2 * ARCS)
+        holds(f'{family} shuffled is the same again', other == text_of(family, 1, 'shuffled'))
+        holds(f'{family} differs by its seed',
+              text != text_of(family, 2) or family in ('grid', 'ring', 'two-halves'))
+        arcs = arcs_of(text)
+        nodes, count = map(int, text.splitlines()[1].split()[2:])
+        holds(f'{family} has as many arcs as it says, near what is wanted', len(arcs) == count and (
+            NODES / 2 <= nodes <= NODES if family in generate.CONNECTIVITY else ARCS / 2 <= count <= 2 * ARCS))
         holds(f'{family} names its nodes', all(1 <= end <= nodes for arc in arcs for end in arc[:2]))
-        source, sink = (int(line[1]) for line in lines if line[0] == 'n')
+        holds(f'{family} shuffled has the same capacities and other ends',
+              sorted(arc[2] for arc in arcs) == sorted(arc[2] for arc in arcs_of(other)) and arcs != arcs_of(other))
+        value = f's {greatest_value(arcs, *terminals_of(text))}\n'
         path = folder / f'{family}.max'
-        path.write_text(text, encoding='ascii')
-        told = subprocess.run([flow, 'solve', '--value', path], capture_output=True, text=True)
-        holds(f'{family} has the value that the plain search finds',
-              told.stdout == f's {greatest_value(arcs, source, sink)}\n')
+        holds(f'{family} has the value that the plain search finds', value_by_flow(flow, path, text) == value)
+        holds(f'{family} shuffled has the same value', value_by_flow(flow, path, other) == value)
+
+
+def within_limits():
+    """A problem beyond the limits of the format is refused."""
+    for what, problem in (('nodes', (1000001, 0, 1, [])), ('arcs', (2, 0, 1, range(4000001)))):
+        generate.FAMILIES['beyond'] = lambda rand, size, problem=problem: problem
+        try:
+            holds(f'too many {what} are refused', not generate.made('beyond', 1, 1))
+        except ValueError:
+            holds(f'too many {what} are refused', True)
+    del generate.FAMILIES['beyond']
+
+
+def photographs():
+    """A picture of a few pixels, where there are none: strokes, colours and outlines as arcs."""
+    if not generate.PHOTOGRAPHS:
+        print('bench: python3-skimage is not installed, so no photograph was tried')
+        return
+    for family in generate.PHOTOGRAPHS:
+        holds(f'the picture of {family} is there', (grids.PHOTOGRAPHS / f'{family.split("-")[1]}.png').exists())
+    holds('strokes are as thick as they should be', len(grids.stroked([(5, 5, 7, 5)], 20, 20)) == 35)
+
+
+def several_terminals(folder):
+    """The library of Boykov and Kolmogorov on random problems of several sources and sinks, against the plain search
+    on the same problem with one source and one sink more, joined to them by ample arcs."""
+    program = solvers.compiled(folder, 'boykov_kolmogorov', '-lmaxflow')
+    if not program:
+        print('bench: libmaxflow-dev is not installed, so the program of Boykov and Kolmogorov was skipped')
+        return
+    for seed in range(40):
+        rand = random.Random(seed)
+        nodes = rand.randint(4, 12)
+        order = rand.sample(range(1, nodes + 1), nodes)
+        sources, sinks = order[:1 + seed % 3], order[3:4 + seed % 4] if nodes > 6 else order[3:4]
+        arcs = [(rand.randint(1, nodes), rand.randint(1, nodes), rand.randint(0, 9)) for _ in range(4 * nodes)]
+        path = folder / 'several.max'
+        path.write_text(f'p max {nodes} {len(arcs)}\n' + ''.join(
+            [f'n {node} s\n' for node in sources] + [f'n {node} t\n' for node in sinks]
+            + [f'a {tail} {head} {capacity}\n' for tail, head, capacity in arcs]), encoding='ascii')
+        ample = [(0, node, 10 ** 6) for node in sources] + [(node, nodes + 1, 10 ** 6) for node in sinks]
+        told = subprocess.run([program, path], capture_output=True, text=True)
+        holds(f'{len(sources)} sources and {len(sinks)} sinks are all taken (seed {seed})',
+              told.stdout.startswith(f's {greatest_value(arcs + ample, 0, nodes + 1)}\n'))
 
 
 def run(flow, folder, *words):
     """The runner on tiny problems, with no other solver than those that the words add."""
-    return subprocess.run([sys.executable, HERE / 'run.py', '--flow', flow, '--size', 'tiny', '--folder', folder,
+    return subprocess.run([sys.executable, HERE / 'run.py', '--flow', flow, '--sizes', 'tiny', '--folder', folder,
                            '--repeat', '2', '--no-instructions', '--solvers', 'none', *words],
                           capture_output=True, text=True)
 
 
+def rows_of(text, title):
+    """The rows of the table under a title, its head first, as lists of cells."""
+    section = text.split(f'### {title}')[-1].split('###')[0]
+    return [line.strip('| ').split(' | ') for line in section.splitlines() if line.startswith('| ')]
+
+
 def runner(flow, folder):
     """The runner with a solver that is right, one that is wrong, and one that doesn't end."""
-    plain = f'{flow} solve'
-    told = run(flow, folder, '--also', 'plain', plain)
+    told = run(flow, folder, '--also', 'plain', f'{flow} solve')
     holds('the runner ends well where all agree', told.returncode == 0 and 'all values agree' in told.stderr)
-    rows = [line.split(' | ') for line in told.stdout.splitlines() if line.startswith('| ')]
-    found = [row[0].removeprefix('| ') for row in rows if row[0] != '| Family']
-    holds('the tables have a row for each family', found == list(generate.FAMILIES))
-    holds('the head of the table names the solvers', rows[0][3:] == ['flow', 'plain |'])
+    head, *rows = rows_of(told.stdout, 'Seconds, 200 arcs wanted')
+    holds('the table of times has two rows for each family',
+          [row[0] for row in rows] == [*generate.FLOWS, *generate.FLOWS])
+    holds('the head of that table names the solvers', head[4:] == ['flow', 'plain'])
+    holds('the table of ratios has a row for each family',
+          [row[0] for row in rows_of(told.stdout, "flow's time over")[1:]] == list(generate.FLOWS))
+    holds('connect has a row for each network',
+          [row[0] for row in rows_of(told.stdout, 'Seconds of connect by nodes')[1:]] == list(generate.CONNECTIVITY))
+    holds('the summary is first', re.match(r'From file to value .* \*\*[0-9.]+\*\* times', told.stdout))
+    holds('progress is told', told.stderr.count(' minutes]') >= 3 * len(generate.FLOWS))
+    if solvers.gnu_time():
+        peaks = [int(row[4].strip('*')) for row in rows_of(told.stdout, 'Memory at the peak')[1:]]
+        holds('memory is told, that of the program and not of the runner', peaks and max(peaks) < 8 and min(peaks) > 0)
     picture = xml.etree.ElementTree.parse(folder / 'benchmarks.svg').getroot()
     words = [''.join(element.itertext()) for element in picture.iter() if element.tag.endswith('text')]
-    holds('the picture names each family and solver', {*generate.FAMILIES, 'flow', 'plain'} <= set(words))
+    holds('the picture names each family and solver',
+          {*generate.FLOWS, *generate.CONNECTIVITY, 'flow', 'plain'} <= set(words))
 
-    told = run(flow, folder, '--only', 'roads', '--also', 'wrong', "sh -c 'echo s 1'")
+
+def failures(flow, folder):
+    """The runner with a solver that is wrong, one that doesn't end, one that fails, and with no time."""
+    few = '--only', 'roads', '--orders', 'shuffled'
+    told = run(flow, folder, *few, '--also', 'wrong', "sh -c 'echo s 1'")
     holds('a wrong value is told', told.returncode == 1 and 'roads: wrong says 1, and not' in told.stderr)
-    told = run(flow, folder, '--only', 'roads', '--limit', '1', '--also', 'slow', "sh -c 'while :; do :; done'")
-    holds('a solver that takes too long is stopped', told.returncode == 0 and '> 1' in told.stdout)
-    told = run(flow, folder, '--only', 'roads', '--also', 'plain', 'false')
+    told = run(flow, folder, *few, '--limit', '1', '--also', 'slow', "sh -c 'while :; do :; done'")
+    holds('a solver that takes too long is stopped', told.returncode == 0 and '| > 1 |' in told.stdout)
+    told = run(flow, folder, *few, '--also', 'plain', 'false')
     holds('a solver that fails is told', told.returncode == 0 and '| failed |' in told.stdout)
+    told = run(flow, folder, *few, '--minutes', '0.01')
+    holds('a run ends in time and says what it left out',
+          told.returncode == 0 and '1 more problems were left out' in told.stdout)
+
+
+def ratios():
+    """What is told of a problem: behind, ahead, and bounds where one side was stopped."""
+    def ratio(times, stopped):
+        problem = run_module.Problem.__new__(run_module.Problem)
+        problem.family, problem.times, problem.stopped = 'any', times, stopped
+        return report.Ratio(problem)
+
+    holds('twice the time is behind', ratio({'flow': 2, 'a': 1, 'b': 3}, {}).cell() == '**2.0**')
+    holds('half the time is ahead', ratio({'flow': 1, 'a': 2}, {}).cell() == '0.50')
+    holds('a little more is level', not ratio({'flow': 1.04, 'a': 1}, {}).behind())
+    holds('where all others were stopped it is a bound',
+          ratio({'flow': 1}, {'a': 4, 'b': 5, 'c': 'failed'}).cell() == '< 0.25')
+    holds('where flow was stopped it is behind', ratio({'a': 2}, {'flow': 10}).cell() == '**> 5.0**')
+    holds('nothing is told where nothing can be', ratio({'flow': 1}, {'a': 'failed'}).cell() == '-')
 
 
 def instructions(flow):
@@ -144,7 +253,12 @@ def main():
     with tempfile.TemporaryDirectory() as name:
         folder = Path(name)
         families(flow, folder)
+        within_limits()
+        photographs()
+        several_terminals(folder)
+        ratios()
         runner(flow, folder)
+        failures(flow, folder)
         documents(folder)
         instructions(flow)
     print(f'bench: {passed} passed, {failed} failed')

@@ -1,0 +1,246 @@
+"""Problems on grids: pictures, volumes and photographs to be cut into object and background, and roads.
+
+A problem is its number of nodes, its source, its sink, and its arcs as triples of tail, head and capacity. Nodes are
+numbers from 0.
+"""
+import math
+import sys
+from pathlib import Path
+
+sys.path.insert(0, str(Path(__file__).resolve().parent.parent / 'examples' / 'common'))
+
+import png  # noqa: E402
+
+# Where Debian's package python3-skimage has its photographs, and the strokes on each, as a user would draw them: from
+# and to a point, the pixels within two of the line between.
+PHOTOGRAPHS = Path('/usr/lib/python3/dist-packages/skimage/data')
+STROKES = {
+    'coffee': ([(190, 60, 185, 110), (290, 28, 345, 50), (230, 150, 340, 160), (200, 190, 260, 215),
+                (300, 215, 390, 160), (110, 180, 130, 260), (150, 310, 260, 360), (300, 360, 420, 300),
+                (450, 200, 440, 150), (345, 280, 375, 300)],
+               [(20, 120, 120, 50), (15, 30, 70, 15), (15, 200, 40, 330), (60, 350, 160, 395), (480, 40, 580, 120),
+                (500, 250, 580, 200), (430, 385, 560, 320), (420, 30, 540, 20)]),
+    'astronaut': ([(200, 90, 240, 130), (180, 30, 260, 30), (130, 330, 300, 330), (60, 420, 380, 480),
+                   (220, 200, 230, 250)],
+                  [(20, 20, 60, 300), (350, 30, 500, 30), (480, 60, 480, 480), (300, 30, 330, 60)]),
+}
+
+
+def grown(count, share):
+    """The sides of a picture of so many pixels, its height that share of its width."""
+    height = max(2, math.isqrt(int(count * share)))
+    return height, max(2, int(count) // height)
+
+
+def blurred(rand):
+    """A number near 0 that is more likely the nearer: the sum of three of equal likelihood."""
+    return rand.random() + rand.random() + rand.random() - 1.5
+
+
+def discs(rand, height, width):
+    """A picture of light discs on a dark ground, in grey from 0 to 1, with noise."""
+    image = [[.35] * width for _ in range(height)]
+    for _ in range(6 + height * width // 8000):
+        y, x, radius, grey = rand.randrange(height), rand.randrange(width), rand.randint(3, 60), rand.uniform(.5, .8)
+        for i in range(max(0, y - radius), min(height, y + radius + 1)):
+            reach = math.isqrt(radius * radius - (i - y) * (i - y))
+            left, right = max(0, x - reach), min(width, x + reach + 1)
+            image[i][left:right] = [grey] * max(0, right - left)
+    return [[grey + .28 * blurred(rand) for grey in row] for row in image]
+
+
+def segmentation(rand, arcs, neighbours):
+    """Boykov and Jolly 2001: a pixel is a node; the terminals take its likelihoods, neighbours its contrasts."""
+    height, width = grown(arcs / (1 + neighbours), 3 / 4)
+    image = discs(rand, height, width)
+    steps = [(0, 1, 400), (1, 0, 400)] + ([(1, 1, 283), (1, -1, 283)] if neighbours == 8 else [])
+    source, sink = height * width, height * width + 1
+    found = []
+    for i, row in enumerate(image):
+        for j, grey in enumerate(row):
+            here = i * width + j
+            likelihood = int(1000 * (grey - .5))
+            found.append((source, here, likelihood + 1) if likelihood >= 0 else (here, sink, 1 - likelihood))
+            for down, right, most in steps:
+                if i + down < height and 0 <= j + right < width:
+                    there = here + down * width + right
+                    contrast = grey - image[i + down][j + right]
+                    weight = 1 + int(most * math.exp(-contrast * contrast / .045))
+                    found += [(here, there, weight), (there, here, weight)]
+    return height * width + 2, source, sink, found
+
+
+def stereo(rand, arcs):
+    """Boykov, Veksler and Zabih 2001: one expansion move; weak costs of either sign, smoothing that is strong and not
+    the same both ways."""
+    height, width = grown(arcs / 5, 3 / 4)
+    source, sink = height * width, height * width + 1
+    found = []
+    above, along = [0.] * width, 0.
+    for i in range(height):
+        for j in range(width):
+            here = i * width + j
+            along = .9 * along + rand.random() - .5
+            above[j] = along + .6 * above[j]
+            cost = int(above[j] * 12 + 41 * rand.random() - 20)
+            if cost:
+                found.append((source, here, cost) if cost > 0 else (here, sink, -cost))
+            for there, inside in ((here + 1, j + 1 < width), (here + width, i + 1 < height)):
+                if inside:
+                    most = 60 if rand.random() < .2 else 20
+                    found += [(here, there, most), (there, here, int(rand.random() * (most + 1)))]
+    return height * width + 2, source, sink, found
+
+
+def cube(side):
+    """The steps from a point of a cube to those beyond it, each with how far it goes in each direction."""
+    return [(1, (0, 0, 1)), (side, (0, 1, 0)), (side * side, (1, 0, 0))]
+
+
+def volume(rand, arcs):
+    """Boykov and Funka-Lea 2006: a scan in three dimensions, 6 neighbours, bodies of every size in noise."""
+    side = max(2, round((arcs / 6.5) ** (1 / 3)))
+    count = side ** 3
+    grey = [.35 + .3 * blurred(rand) for _ in range(count)]
+    for _ in range(4 + side // 6):
+        centre = [side * rand.random() for _ in range(3)]
+        radius, light = 2 + side / 5 * rand.random(), rand.uniform(.1, .3)
+        ends = [range(max(0, int(at - radius)), min(side, int(at + radius) + 1)) for at in centre]
+        for z in ends[0]:
+            for y in ends[1]:
+                reach = radius ** 2 - (z - centre[0]) ** 2 - (y - centre[1]) ** 2
+                for x in (x for x in ends[2] if (x - centre[2]) ** 2 <= reach):
+                    grey[(z * side + y) * side + x] += light
+    source, sink = count, count + 1
+    found = []
+    for here in range(count):
+        likelihood = int(1000 * (grey[here] - .5))
+        found.append((source, here, likelihood + 1) if likelihood >= 0 else (here, sink, 1 - likelihood))
+        for step, _ in cube(side):
+            if here // step % side + 1 < side:
+                contrast = grey[here] - grey[here + step]
+                weight = 1 + int(300 * math.exp(-contrast * contrast / .05))
+                found += [(here, here + step, weight), (here + step, here, weight)]
+    return count + 2, source, sink, found
+
+
+def surface(rand, arcs):
+    """Boykov and Kolmogorov 2003: a least surface between seeds, a ball within and the faces of the cube without; no
+    other costs but those of the surface, low along a bumpy shell."""
+    side = max(4, round((arcs / 6) ** (1 / 3)))
+    count = side ** 3
+    middle = (side - 1) / 2
+    source, sink = count, count + 1
+    bumps = [(rand.uniform(.1, .5), rand.uniform(.1, .5), 6 * rand.random()) for _ in range(4)]
+    cost, found = [], []
+    for here in range(count):
+        z, y, x = here // (side * side), here // side % side, here % side
+        far = math.dist((z, y, x), (middle, middle, middle))
+        bump = sum(math.sin(a * z + b * y + c + a * x) for a, b, c in bumps)
+        off = abs(far - .3 * side) - .6 * bump
+        cost.append(10 + int(200 * (1 - math.exp(-off * off / 8)) + 90 * rand.random()))
+        if far <= max(1, .08 * side):
+            found.append((source, here, 1000000))
+        elif 0 in (z, y, x) or side - 1 in (z, y, x):
+            found.append((here, sink, 1000000))
+    for here in range(count):
+        for step, _ in cube(side):
+            if here // step % side + 1 < side:
+                weight = cost[here] + cost[here + step]
+                found += [(here, here + step, weight), (here + step, here, weight)]
+    return count + 2, source, sink, found
+
+
+def photograph(name, neighbours):
+    """Boykov and Jolly 2001 on a whole photograph: strokes are terminals, colours cost by the strokes' histograms, and
+    an outline costs least where colours differ."""
+    rows = png.read(PHOTOGRAPHS / f'{name}.png').pixels
+    height, width = len(rows), len(rows[0])
+    pixels = [pixel[:3] for row in rows for pixel in row]
+    marked = [stroked(strokes, height, width) for strokes in STROKES[name]]
+    bins = [red // 24 * 121 + green // 24 * 11 + blue // 24 for red, green, blue in pixels]
+    likely = [histogram([bins[here] for here in strokes]) for strokes in marked]
+    costs = [int(100 * math.log(one / other)) for one, other in zip(*likely)]
+    steps = [(0, 1, 1.), (1, 0, 1.)] + ([(1, 1, math.sqrt(.5)), (1, -1, math.sqrt(.5))] if neighbours == 8 else [])
+    source, sink = height * width, height * width + 1
+    found = []
+    for here, colour in enumerate(pixels):
+        cost = 1000000 if here in marked[0] else -1000000 if here in marked[1] else costs[bins[here]]
+        if cost:
+            found.append((source, here, cost) if cost > 0 else (here, sink, -cost))
+        i, j = divmod(here, width)
+        for down, right, share in steps:
+            if i + down < height and 0 <= j + right < width:
+                there = here + down * width + right
+                unlike = sum((one - other) ** 2 for one, other in zip(colour, pixels[there]))
+                weight = 1 + int(1000 * share * math.exp(-unlike / 1200))
+                found += [(here, there, weight), (there, here, weight)]
+    return height * width + 2, source, sink, found
+
+
+def stroked(strokes, height, width):
+    """The pixels of some strokes, as a set of nodes."""
+    around = range(-2, 3)
+    points = set()
+    for x, y, to_x, to_y in strokes:
+        steps = max(abs(to_x - x), abs(to_y - y), 1)
+        points |= {(y + (to_y - y) * k // steps + a, x + (to_x - x) * k // steps + b)
+                   for k in range(steps + 1) for a in around for b in around}
+    return {y * width + x for y, x in points if 0 <= y < height and 0 <= x < width}
+
+
+def histogram(bins):
+    """How likely each bin of colours is among those of some strokes; none is impossible."""
+    counts = [.02] * 11 ** 3
+    for place in bins:
+        counts[place] += 1
+    whole = sum(counts)
+    return [count / whole for count in counts]
+
+
+def streets(rand, height, width, capacity):
+    """Two-way streets on a planar grid, some missing, some diagonal, each sixteenth of them wide: triples, by a
+    function that gives the capacity of a street by whether it is wide."""
+    found = []
+    for i in range(height):
+        for j in range(width):
+            here = i * width + j
+            near = []
+            if j + 1 < width and (i % 16 == 0 or rand.random() >= .15):
+                near.append((here + 1, i % 16 == 0))
+            if i + 1 < height and (j % 16 == 0 or rand.random() >= .15):
+                near.append((here + width, j % 16 == 0))
+            if i + 1 < height and j + 1 < width and rand.random() < .08:
+                near.append((here + width + 1, False))
+            for there, wide in near:
+                most = capacity(wide)
+                found += [(here, there, most),
+                          (there, here, most if rand.random() >= .1 else 1 + int(most * rand.random()))]
+    return found
+
+
+def roads(rand, arcs, height, capacity, ample):
+    """A map of streets, from its west side to its east side; the height is that of a square map where none is given."""
+    height = height or max(2, round((arcs / 3.6) ** .5))
+    width = max(2, round(arcs / 3.6 / height))
+    source, sink = height * width, height * width + 1
+    found = [(source, i * width, ample) for i in range(height)]
+    found += streets(rand, height, width, capacity)
+    found += [(i * width + width - 1, sink, ample) for i in range(height)]
+    return height * width + 2, source, sink, found
+
+
+def town(rand, arcs, height=0):
+    """Streets of 1 to 2,000, wide ones of up to 20,000."""
+    return roads(rand, arcs, height,
+                 lambda wide: int(2000 + 18000 * rand.random()) if wide else 1 + int(2000 * rand.random()), 1000000)
+
+
+def unit_roads(rand, arcs):
+    """Routes that share no street (Menger 1927): every street has capacity 1."""
+    return roads(rand, arcs, 0, lambda wide: 1, 4)
+
+
+def magnitudes(rand, arcs):
+    """Streets with capacities over twelve orders of magnitude, each order as likely."""
+    return roads(rand, arcs, 0, lambda wide: int(10 ** (12 * rand.random())), 10 ** 12)

@@ -20,10 +20,15 @@ import os
 import shutil
 import subprocess
 from collections import namedtuple
+from concurrent.futures import ThreadPoolExecutor
 
 Cut = namedtuple("Cut", "value source_side arcs")
 """A minimum cut: its capacity, the set of names on its source side, and the arcs that leave that set as (from,
 to, capacity)."""
+
+
+MOST_NODES, MOST_ARCS = 1_000_000, 4_000_000
+"""The limits of `flow`."""
 
 
 class FlowFailed(Exception):
@@ -95,22 +100,40 @@ class Flow:
 
     def value(self, problem):
         """The greatest value of a flow from the sources to the sinks."""
-        return int(self._run(problem, "solve", "--value").split()[1])
+        return int(self._run(problem.text(), "solve", "--value").split()[1])
 
     def solve(self, problem):
         """The greatest value, and a flow for each arc in the order in which the arcs were added.
 
         There may be many flows of the greatest value, and which of them comes is open.
         """
-        first, *rest = self._run(problem, "solve").splitlines()
+        first, *rest = self._run(problem.text(), "solve").splitlines()
         return int(first.split()[1]), [int(line.split()[3]) for line in rest]
 
     def cut(self, problem, sink=False):
         """The minimum cut nearest the sources, or with `sink` the one nearest the sinks. Each problem has one of
         either."""
-        words = ["cut", "--arcs"] + (["--sink"] if sink else [])
+        return self._cut(problem, problem.text(), *(["--sink"] if sink else []))
+
+    def cut_of_file(self, path):
+        """The capacity and the nodes' numbers of the minimum cut nearest the sources, of a problem in a file."""
+        words = self._run(None, "cut", path).split()
+        return int(words[1]), list(map(int, words[3::2]))
+
+    def cuts_from(self, problem, names):
+        """For each of these nodes, taken as the one source of a problem that has sinks alone, the minimum cut nearest
+        it. The problem is written once, and as many questions run at once as there are processors."""
+        head, rest = problem.text().split("\n", 1)
+
+        def cut(name):
+            return self._cut(problem, f"{head}\nn {problem.node(name)} s\n{rest}")
+
+        with ThreadPoolExecutor(os.cpu_count()) as pool:
+            yield from pool.map(cut, names)
+
+    def _cut(self, problem, text, *words):
         value, source_side, arcs = 0, set(), []
-        for line in self._run(problem, *words).splitlines():
+        for line in self._run(text, "cut", "--arcs", *words).splitlines():
             kind, *fields = line.split()
             if kind == "s":
                 value = int(fields[0])
@@ -128,10 +151,10 @@ class Flow:
         part.
         """
         words = ["connect"] + (["--undirected"] if undirected else []) + (["--pair"] if pair else [])
-        return int(self._run(problem, *words).split()[1])
+        return int(self._run(problem.text(), *words).split()[1])
 
-    def _run(self, problem, *words):
-        done = subprocess.run([self.program, *words], input=problem.text(), capture_output=True, text=True, check=False)
+    def _run(self, text, *words):
+        done = subprocess.run([self.program, *words], input=text, capture_output=True, text=True, check=False)
         if done.returncode != 0:
             raise FlowFailed(done.stderr.strip() or f"flow ended with status {done.returncode}")
         return done.stdout

@@ -1,5 +1,6 @@
 """Drawings in SVG: shapes, lines and text put one over the other. The same calls give the same bytes."""
 
+import unicodedata
 from xml.sax.saxutils import escape, quoteattr
 
 # Okabe and Ito's colours, which those who confuse red with green can tell apart.
@@ -11,7 +12,8 @@ FONT = "DejaVu Sans, Verdana, Helvetica, Arial, sans-serif"
 
 
 class Drawing:
-    """A drawing of so many units in width and height, white at first. The origin is the upper left corner."""
+    """A drawing of so many units in width and height, on a white card of its own, so that it reads on dark pages too.
+    The origin is the upper left corner."""
 
     def __init__(self, width, height, title):
         self.lines = [
@@ -19,7 +21,7 @@ class Drawing:
             f' font-family="{FONT}">',
             f"<title>{escape(title)}</title>",
         ]
-        self.rect(0, 0, width, height, fill=WHITE)
+        self.rect(0.5, 0.5, width - 1, height - 1, rx=10, fill=WHITE, stroke=GREY)
 
     def rect(self, x, y, width, height, **style):
         self._shape("rect", x=x, y=y, width=width, height=height, **style)
@@ -33,6 +35,11 @@ class Drawing:
 
     def polygon(self, points, **style):
         self._shape("polygon", points=" ".join(f"{_number(x)},{_number(y)}" for x, y in points), **style)
+
+    def clip(self, name, x, y, width, height):
+        """A frame: a shape with `clip_path="url(#NAME)"` isn't drawn outside it."""
+        frame = _attributes(dict(x=x, y=y, width=width, height=height))
+        self.lines.append(f'<clipPath id="{name}"><rect{frame}/></clipPath>')
 
     def text(self, x, y, words, size=13, colour=BLACK, **style):
         """Text with its baseline at y. `text_anchor` is start (as here), middle or end."""
@@ -50,6 +57,22 @@ class Drawing:
 
     def _shape(self, name, **attributes):
         self.lines.append(f"<{name}{_attributes(attributes)}/>")
+
+
+def text_width(words, size=13, bold=False):
+    """About as many units as a text takes, rather too many than too few."""
+    narrow = sum(letter in "fijlrt.,:;'|!()[] I" for letter in words)
+    wide = sum(unicodedata.east_asian_width(letter) in "WF" or letter in "mwMW@%" for letter in words)
+    return size * (0.66 * len(words) - 0.24 * narrow + 0.34 * wide) * (1.1 if bold else 1)
+
+
+def shortened(words, width, size=13, bold=False):
+    """A text that takes no more than so many units, its end given up where it is too long."""
+    if text_width(words, size, bold) <= width:
+        return words
+    while words and text_width(words + "…", size, bold) > width:
+        words = words[:-1]
+    return words.rstrip() + "…"
 
 
 def _attributes(values):

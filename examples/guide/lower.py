@@ -8,10 +8,14 @@ other. What is printed is the value and the flow of each row. Where no flow keep
 into which more must come than can leave it, or the other way round.
 """
 
+import os
 import subprocess
 import sys
 
-from rows import read_rows, whole
+sys.path.insert(0, os.path.join(os.path.dirname(os.path.abspath(__file__)), "..", "common"))
+
+import script
+import tables
 
 
 def run(command, nodes, sources, sinks, arcs):
@@ -21,11 +25,11 @@ def run(command, nodes, sources, sinks, arcs):
     problem += [f"a {source} {target} {capacity}" for source, target, capacity in arcs]
     text = "\n".join(problem) + "\n"
     try:
-        done = subprocess.run(["flow", command], input=text, stdout=subprocess.PIPE, text=True)
+        done = subprocess.run(["flow", command], input=text, capture_output=True, text=True)
     except FileNotFoundError:
-        sys.exit("the program flow isn't on the PATH")
+        raise script.Refused("the program flow isn't on the PATH") from None
     if done.returncode != 0:
-        sys.exit(done.returncode)
+        raise script.Refused(done.stderr.strip() or f"flow ended with status {done.returncode}")
     lines = [line.split() for line in done.stdout.splitlines()]
     return int(lines[0][1]), [[int(field) for field in line[1:]] for line in lines[1:]]
 
@@ -59,39 +63,43 @@ def greatest_flow(rows, count, sources, sinks, flow):
     return [amount + more[i][2] - more[len(rows) + i][2] for i, amount in enumerate(flow)]
 
 
-def main():
-    if len(sys.argv) != 4:
-        sys.exit("usage: lower.py TABLE SOURCE[,SOURCE ..] SINK[,SINK ..]")
-    table = read_rows(sys.argv[1], "from", "to", "low", "high")
-    names = list(dict.fromkeys(row[end] for row in table for end in ("from", "to")))
+def read(path, sources, sinks):
+    """The names in a table, its rows as (from, to, low, high) by number, and the numbers of the sources and sinks."""
+    table = tables.read_table(path, "from", "to", "low", "high")
+    names = list(dict.fromkeys(row.name(end) for row in table for end in ("from", "to")))
     number = {name: place for place, name in enumerate(names, 1)}
-    for name in ",".join(sys.argv[2:4]).split(","):
-        if name not in number:
-            sys.exit(f"{sys.argv[1]} has no row from or to {name!r}")
-    sources, sinks = ([number[name] for name in word.split(",")] for word in sys.argv[2:4])
-    rows = [(number[row["from"]], number[row["to"]], whole(sys.argv[1], row, "low"), whole(sys.argv[1], row, "high"))
-            for row in table]
+    rows = [(number[row["from"]], number[row["to"]], row.whole("low"), row.whole("high")) for row in table]
     for row, (_, _, low, high) in zip(table, rows):
         if low > high:
-            sys.exit(f"{sys.argv[1]}: low is greater than high from {row['from']} to {row['to']}")
+            row.refuse("low", f"{low} is greater than high, which is {high}")
+    both = [[number[name] for name in tables.listed(words, number, path)] for words in (sources, sinks)]
+    for node in both[0]:
+        if node in both[1]:
+            raise script.Refused(f"'{names[node - 1]}' is a source and a sink")
+    return names, rows, *both
 
+
+def main():
+    if len(sys.argv) != 4:
+        raise script.Refused("usage: lower.py TABLE SOURCE[,SOURCE ..] SINK[,SINK ..]")
+    names, rows, sources, sinks = read(*sys.argv[1:])
     flow, side = least_flow(rows, len(names), sources, sinks)
     if flow is None:
         into = sum(low for tail, head, low, _ in rows if head in side and tail not in side)
         out = sum(high for tail, head, _, high in rows if tail in side and head not in side)
         must, can = "come into", "leave"
         if side.intersection(sources):
-            side, must, can = set(number.values()) - side, can, must
+            side, must, can = set(range(1, len(names) + 1)) - side, can, must
         print(f"no flow keeps the limits: at least {into} must {must} these nodes, and at most {out} can {can} them:")
-        print(", ".join(name for name in names if number[name] in side))
+        print(", ".join(name for number, name in enumerate(names, 1) if number in side))
         return 1
     flow = greatest_flow(rows, len(names), sources, sinks, flow)
     value = sum(((tail in sources) - (head in sources)) * amount for (tail, head, _, _), amount in zip(rows, flow))
     print(f"value {value}")
-    for row, amount in zip(table, flow):
-        print(f"{row['from']} -> {row['to']}: {amount} of {row['low']} to {row['high']}")
+    for (tail, head, low, high), amount in zip(rows, flow):
+        print(f"{names[tail - 1]} -> {names[head - 1]}: {amount} of {low} to {high}")
     return 0
 
 
 if __name__ == "__main__":
-    sys.exit(main())
+    script.run(main)

@@ -1,25 +1,41 @@
 #!/usr/bin/env python3
-"""Puts the names of a problem that table.py wrote into what flow prints: names.py PROBLEM < OUTPUT"""
+"""Puts the names of a problem that table.py wrote into what flow prints: names.py PROBLEM < OUTPUT
 
+A name with a comma is printed in double quotes.
+"""
+
+import os
 import sys
+
+sys.path.insert(0, os.path.join(os.path.dirname(os.path.abspath(__file__)), "..", "common"))
+
+import script
 
 ENDS = {"n": 1, "f": 2, "a": 2, "over": 2, "unbalanced": 1}
 
 
+def quoted(name):
+    """The name as it is, or in double quotes where it has a comma or a quote."""
+    return '"' + name.replace('"', '""') + '"' if "," in name or '"' in name else name
+
+
 def main():
     if len(sys.argv) != 2:
-        sys.exit("usage: names.py PROBLEM < OUTPUT")
+        raise script.Refused("usage: names.py PROBLEM < OUTPUT")
     names = {}
     with open(sys.argv[1], encoding="utf-8") as file:
         for line in file:
             if line.startswith("c node "):
                 number, name = line[len("c node "):].rstrip("\n").split(" ", 1)
-                names[number] = name
+                names[number] = quoted(name)
     for line in sys.stdin:
         kind, *fields = line.split()
         ends = ENDS.get(kind, 0)
+        for field in fields[:ends]:
+            if field not in names:
+                raise script.Refused(f"{sys.argv[1]} has no line 'c node {field} NAME'; table.py writes these")
         print(kind, ", ".join([names[field] for field in fields[:ends]] + fields[ends:]))
 
 
 if __name__ == "__main__":
-    main()
+    script.run(main)

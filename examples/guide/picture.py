@@ -10,19 +10,49 @@ neighbours are joined both ways, the more strongly the more alike they are. The 
 rows of # for the object and . for the background.
 """
 
+import os
 import sys
+
+sys.path.insert(0, os.path.join(os.path.dirname(os.path.abspath(__file__)), "..", "common"))
+
+import script
+
+USAGE = "usage: picture.py problem PICTURE OBJECT BACKGROUND > PROBLEM, or picture.py mask PICTURE < CUT"
 
 
 def read_picture(name):
     """The width and height of a picture, and the grey of each pixel, row by row."""
-    with open(name) as file:
-        fields = [field for line in file for field in line.split("#")[0].split()]
-    assert fields[0] == "P2"
-    return int(fields[1]), int(fields[2]), [int(field) for field in fields[4:]]
+    with open(name, encoding="latin-1") as file:
+        kind, *fields = [field for line in file for field in line.split("#")[0].split()] or [""]
+    if kind != "P2" or not all(field.isascii() and field.isdigit() for field in fields):
+        raise script.Refused(f"{name} isn't a PGM file of the plain kind, which begins with P2 and has numbers alone")
+    width, height, _, *grey = map(int, fields + ["0"] * (3 - len(fields)))
+    if len(grey) != width * height or not grey:
+        raise script.Refused(f"{name} has {len(grey)} pixels, and says that it has {width} by {height}")
+    return width, height, grey
+
+
+def read_places(words, width, height):
+    """The pixels of a list of places, each as its node."""
+    nodes = []
+    for place in words.split():
+        fields = place.split(",")
+        if len(fields) != 2 or not all(field.isascii() and field.isdigit() for field in fields):
+            raise script.Refused(f"'{place}' isn't COLUMN,ROW")
+        column, row = map(int, fields)
+        if column >= width or row >= height:
+            raise script.Refused(f"column {column}, row {row}: the picture has the columns 0 to {width - 1} and the "
+                                 f"rows 0 to {height - 1}")
+        nodes.append(1 + column + width * row)
+    return list(dict.fromkeys(nodes))
 
 
 def write_problem(width, height, grey, objects, background):
     """Prints the problem: pixel (column, row) is node 1 + column + width * row."""
+    for node in objects:
+        if node in background:
+            row, column = divmod(node - 1, width)
+            raise script.Refused(f"column {column}, row {row}: marked as object and as background")
     arcs = []
     for place, here in enumerate(grey):
         for other, is_inside in ((place + 1, (place + 1) % width), (place + width, place + width < width * height)):
@@ -30,9 +60,9 @@ def write_problem(width, height, grey, objects, background):
                 strength = 1 + 1000 // (1 + (here - grey[other]) ** 2)
                 arcs += [(place + 1, other + 1, strength), (other + 1, place + 1, strength)]
     print(f"p max {width * height} {len(arcs)}")
-    for places, kind in ((objects, "s"), (background, "t")):
-        for column, row in (map(int, place.split(",")) for place in places.split()):
-            print(f"n {1 + column + width * row} {kind}")
+    for nodes, kind in ((objects, "s"), (background, "t")):
+        for node in nodes:
+            print(f"n {node} {kind}")
     for arc in arcs:
         print("a %d %d %d" % arc)
 
@@ -44,9 +74,16 @@ def print_mask(width, height, lines):
         print(" ".join("#" if 1 + column + width * row in inside else "." for column in range(width)))
 
 
-if __name__ == "__main__":
-    width, height, grey = read_picture(sys.argv[2])
-    if sys.argv[1] == "problem":
-        write_problem(width, height, grey, sys.argv[3], sys.argv[4])
-    else:
+def main():
+    if len(sys.argv) == 5 and sys.argv[1] == "problem":
+        width, height, grey = read_picture(sys.argv[2])
+        write_problem(width, height, grey, *(read_places(words, width, height) for words in sys.argv[3:]))
+    elif len(sys.argv) == 3 and sys.argv[1] == "mask":
+        width, height, _ = read_picture(sys.argv[2])
         print_mask(width, height, sys.stdin)
+    else:
+        raise script.Refused(USAGE)
+
+
+if __name__ == "__main__":
+    script.run(main)

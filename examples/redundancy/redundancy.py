@@ -9,58 +9,132 @@ network. README.md tells the model. All that is drawn is determined by the links
 
 import os
 import sys
-from itertools import combinations
+from collections import Counter, namedtuple
 
 HERE = os.path.dirname(os.path.abspath(__file__))
 sys.path.insert(0, os.path.join(HERE, "..", "common"))
 
 import command
+import maps
+import script
 import svg
+import tables
 from dimacs import Problem
 
-STYLES = {1: (svg.BLACK, svg.WHITE), 2: (svg.RED, svg.WHITE), 3: (svg.YELLOW, svg.BLACK), 4: (svg.SKY, svg.BLACK)}
-"""The colours of a site and of its number, by how many links must fail; five and more are as MANY."""
-MANY = (svg.BLUE, svg.WHITE)
+COLOURS = ((svg.RED, svg.WHITE), (svg.ORANGE, svg.BLACK), (svg.YELLOW, svg.BLACK), (svg.SKY, svg.BLACK),
+           (svg.BLUE, svg.WHITE))
+"""The colours of a site and of its number, from the sites that are lost first to those that are lost last."""
+SHADE = "#FBE5D6"
+WIDTH, TOP, MARGIN, MOST_HEIGHT = 1000, 50, 60, 1100
+MOST_NAMES = 30
+"""How many names are told of a list."""
+
+Weak = namedtuple("Weak", "number sites")
+"""How many links must fail before a site loses the hub, and the fewest sites that are lost with it then."""
 
 
-def links_once(sites, links, source, sink):
-    """The network for `flow connect --undirected`: each link is one arc."""
-    problem = Problem()
-    for site in sites:
-        problem.node(site)
-    problem.source(source)
-    problem.sink(sink)
-    for one, other in links:
-        problem.arc(one, other, 1)
-    return problem
+class Network:
+    """The sites, the hub first, and the links between them, of which several may join the same two."""
+
+    def __init__(self, spots, links):
+        self.spots = spots
+        self.sites = list(spots)
+        self.hub = self.sites[0]
+        self.links = links
+        self.degree = Counter(site for link in links for site in link)
+
+    def once(self):
+        """The network for `flow connect --undirected`: each link is one arc. Terminals play no part there."""
+        problem = self._problem([self.sites[1]])
+        for one, other in self.links:
+            problem.arc(one, other, 1)
+        return problem
+
+    def both_ways(self, sources):
+        """The network for `flow cut` from these sites to the hub: each link is an arc each way, all count alike."""
+        problem = self._problem(sources)
+        for one, other in self.links:
+            problem.link(one, other, 1)
+        return problem
+
+    def _problem(self, sources):
+        problem = Problem()
+        for site in self.sites:
+            problem.node(site)
+        for site in sources:
+            problem.source(site)
+        problem.sink(self.hub)
+        return problem
 
 
-def links_both_ways(sites, links, source, sink):
-    """The network for `flow cut`: each link is an arc each way, and all count alike."""
-    problem = links_once(sites, links, source, sink)
-    for one, other in links:
-        problem.arc(other, one, 1)
-    return problem
+def read(example):
+    """The network of the tables, in which links lead from every site to the hub."""
+    found = tables.once(example.rows("sites.csv", "site", "x", "y"), "site")
+    if len(found) < 2:
+        raise script.Refused("sites.csv has to have a hub and a site more")
+    spots = {site: (row.decimal("x"), row.decimal("y")) for site, row in found.items()}
+    links = []
+    for row in example.rows("links.csv", "one", "other"):
+        one, other = (row.known(end, spots, "sites.csv") for end in ("one", "other"))
+        if one == other:
+            row.refuse("other", f"'{one}' is joined to itself")
+        links.append((one, other))
+    network = Network(spots, links)
+    lost = [site for site in network.sites if site not in reached(network)]
+    if lost:
+        more = f", nor from {command.count(len(lost) - 1, 'site')} more" if len(lost) > 1 else ""
+        found[lost[0]].refuse("site", f"no links lead from '{lost[0]}' to the hub '{network.hub}'{more}")
+    return network
 
 
-def weakest(flow, sites, links, failures):
-    """Each least set of links that cuts sites off from the hub, with those sites; the set nearest the sites."""
-    hub, sets = sites[0], {}
-    for site, number in failures.items():
-        if number == min(failures.values()):
-            cut = flow.cut(links_both_ways(sites, links, hub, site), sink=True)
-            broken = frozenset(frozenset(arc[:2]) for arc in cut.arcs)
-            sets[broken] = [name for name in sites if name not in cut.source_side]
-    return sets
+def reached(network):
+    """The sites from which links lead to the hub."""
+    beside = {site: [] for site in network.sites}
+    for one, other in network.links:
+        beside[one].append(other)
+        beside[other].append(one)
+    found, waiting = {network.hub}, [network.hub]
+    while waiting:
+        new = set(beside[waiting.pop()]) - found
+        found |= new
+        waiting += new
+    return found
 
 
-def helpful(flow, sites, links, least):
-    """The links that aren't there, and those among them after which more links must fail to split the network."""
-    there = {frozenset(link) for link in links}
-    absent = [pair for pair in combinations(sites, 2) if frozenset(pair) not in there]
-    better = [pair for pair in absent
-              if flow.connectivity(links_once(sites, links + [pair], *sites[:2]), undirected=True) > least]
-    return absent, better
+def weaknesses(example, network, least):
+    """How weakly each site is joined to the hub.
+
+    A site that has no more links than the network has to lose at the least is lost alone with all of them, so only the
+    others are asked for: the minimum cut from the site to the hub, nearest the site. All that differs from one
+    question to the next is the source, so the arcs are written once.
+    """
+    weak = {site: Weak(least, frozenset([site])) for site in network.sites[1:] if network.degree[site] == least}
+    asked = [site for site in network.sites[1:] if site not in weak]
+    cuts = example.flow.cuts_from(network.both_ways([]), asked)
+    for place, (site, cut) in enumerate(zip(asked, cuts), start=1):
+        example.progress.say(f"site {place} of {len(asked)}")
+        weak[site] = Weak(cut.value, frozenset(cut.source_side))
+    example.progress.say("")
+    return {site: weak[site] for site in network.sites[1:]}
+
+
+def helpful(flow, network, weak, least):
+    """The pairs of sites between which a new link lets more links fail: two sets, one for either end.
+
+    The sets of sites that `least` links cut off from the hub are unions of the weakest sets, those nearest each site.
+    A new link helps where it crosses all of them. So one end lies in the least of the weakest sets. Where all others
+    contain that one, the other end is a site that none has, or the hub. Else there are two least ones, and each set
+    has just one of them; then the ends lie in these, and no least cut may cut both off at once.
+    """
+    sets = {found.sites for found in weak.values() if found.number == least}
+    least_sets = [one for one in sets if not any(other < one for other in sets)]
+    if len(least_sets) == 1:
+        return least_sets[0], set(network.sites) - frozenset().union(*sets)
+    if len(least_sets) == 2 and all((least_sets[0] <= one) != (least_sets[1] <= one) for one in sets):
+        ends = [min(one) for one in least_sets]
+        if flow.value(network.both_ways(ends)) > least:
+            return least_sets
+    return set(), set()
 
 
 def shortest(pairs, spots):
@@ -70,78 +144,145 @@ def shortest(pairs, spots):
     return min(pairs, key=length, default=None)
 
 
-def draw(path, spots, links, failures, sets, new):
+def crossing(network, sites):
+    """The links with one end among these sites, in the order of the file, each with how many join the same ends."""
+    return Counter(link for link in map(tuple, network.links) if (link[0] in sites) != (link[1] in sites))
+
+
+class Palette:
+    """The colours of the numbers that there are, in at most as many steps as there are colours."""
+
+    def __init__(self, numbers):
+        self.numbers = sorted(set(numbers))
+        self.steps = min(len(self.numbers), len(COLOURS))
+
+    def step(self, number):
+        """Which step a number belongs to."""
+        return self.numbers.index(number) * self.steps // len(self.numbers)
+
+    def colours(self, step):
+        return COLOURS[step * (len(COLOURS) - 1) // max(self.steps - 1, 1)]
+
+    def words(self, step):
+        """The numbers of a step."""
+        numbers = [number for number in self.numbers if self.step(number) == step]
+        return str(numbers[0]) if len(numbers) == 1 else f"{numbers[0]}–{numbers[-1]}"
+
+
+def draw(path, network, weak, least, new):
     """The network: numbers in the sites, the weakest links and the new link."""
-    drawing = svg.Drawing(1000, 680, "The weakest links of a network")
-    drawing.text(28, 38, f"The loss of {min(failures.values())} links can split this network", 20, font_weight="bold")
-    broken = set().union(*sets)
-    for cut_off in sets.values():
-        for site in cut_off:
-            drawing.circle(*spots[site], 38, fill="#FBE5D6")
+    scale = maps.Scale(network.spots.values(), MARGIN, TOP + MARGIN, WIDTH - 2 * MARGIN, MOST_HEIGHT)
+    spots = {site: scale.spot(*spot) for site, spot in network.spots.items()}
+    bottom = TOP + 2 * MARGIN + scale.height
+    drawing = svg.Drawing(WIDTH, bottom + 110, "The weakest links of a network")
+    title = f"The loss of {command.count(least, 'link')} can split this network"
+    drawing.text(28, 38, title, 20, font_weight="bold")
+    radius = min(max(14 * (40 / len(spots)) ** 0.5, 3), 14)
+    sets = {found.sites for found in weak.values() if found.number == least}
+    lost = frozenset().union(*sets)
+    for site in filter(lost.__contains__, network.sites):
+        drawing.circle(*spots[site], radius * 2.7, fill=SHADE)
     if new is not None:
         drawing.line(spots[new[0]], spots[new[1]], svg.GREEN, 4, stroke_dasharray="3 10")
-    for one, other in links:
-        if frozenset((one, other)) in broken:
-            drawing.line(spots[one], spots[other], svg.RED, 9)
-            drawing.line(spots[one], spots[other], svg.WHITE, 2)
-        else:
-            drawing.line(spots[one], spots[other], svg.GREY, 3)
-    for site, (x, y) in spots.items():
-        draw_site(drawing, site, x, y, failures.get(site))
-    draw_legend(drawing, next(iter(spots)), sorted(set(failures.values())))
+    broken = {frozenset(link) for sites in sets for link in crossing(network, sites)}
+    for link in sorted(network.links, key=lambda link: frozenset(link) in broken):
+        draw_link(drawing, spots, link, radius, frozenset(link) in broken)
+    palette = Palette(found.number for found in weak.values())
+    for site in network.sites:
+        draw_site(drawing, *spots[site], radius, palette, weak[site].number if site in weak else None)
+    put_labels(drawing, network, spots, weak, least, radius, bottom)
+    draw_legend(drawing, network.hub, palette, bottom, new)
     drawing.save(path)
 
 
-def draw_site(drawing, site, x, y, number):
-    if number is None:
-        drawing.rect(x - 15, y - 15, 30, 30, fill=svg.BLACK)
+def draw_link(drawing, spots, link, radius, is_weak):
+    ends, width = [spots[site] for site in link], radius / 14
+    if is_weak:
+        drawing.line(*ends, svg.RED, max(9 * width, 4.0))
+        drawing.line(*ends, svg.WHITE, max(2 * width, 1.0))
     else:
-        fill, ink = STYLES.get(number, MANY)
-        drawing.circle(x, y, 14, fill=fill, stroke=svg.BLACK, stroke_width=1)
-        drawing.text(x, y + 5, str(number), 14, ink, text_anchor="middle", font_weight="bold")
-    drawing.label(x, y - 20, site, 13, text_anchor="middle", font_weight="bold" if number is None else "normal")
+        drawing.line(*ends, svg.GREY, max(3 * width, 1.0))
 
 
-def draw_legend(drawing, hub, numbers):
-    drawing.rect(20, 588, 960, 1, fill=svg.GREY)
-    drawing.line((40, 618), (100, 618), svg.RED, 9)
-    drawing.line((40, 618), (100, 618), svg.WHITE, 2)
-    drawing.text(116, 623, "weakest links: their loss cuts the shaded sites off", 14)
-    drawing.line((40, 650), (100, 650), svg.GREEN, 4, stroke_dasharray="3 10")
-    drawing.text(116, 655, "new link after which more must fail", 14)
-    drawing.rect(541, 607, 22, 22, fill=svg.BLACK)
-    drawing.text(580, 623, f"the hub, {hub}", 14)
-    for place, number in enumerate(numbers):
-        fill, ink = STYLES.get(number, MANY)
-        drawing.circle(552 + 32 * place, 650, 13, fill=fill, stroke=svg.BLACK, stroke_width=1)
-        drawing.text(552 + 32 * place, 655, str(number), 14, ink, text_anchor="middle", font_weight="bold")
-    drawing.text(552 + 32 * len(numbers) - 4, 655, "links must fail before a site loses the hub", 14)
+def draw_site(drawing, x, y, radius, palette, number):
+    if number is None:
+        drawing.rect(x - radius, y - radius, 2 * radius, 2 * radius, fill=svg.BLACK)
+        return
+    fill, ink = palette.colours(palette.step(number))
+    drawing.circle(x, y, radius, fill=fill, stroke=svg.BLACK, stroke_width=1 if radius > 6 else 0.5)
+    if radius >= 9:
+        drawing.text(x, y + radius * 0.36, str(number), round(radius), ink, text_anchor="middle", font_weight="bold")
+
+
+def put_labels(drawing, network, spots, weak, least, radius, bottom):
+    """The names, the hub's first, then those of the sites that are lost first."""
+    labels = maps.Labels(drawing, 5, TOP - 20, WIDTH - 5, bottom)
+    for x, y in spots.values():
+        labels.keep_free(x - radius, y - radius, x + radius, y + radius)
+    for site in sorted(network.sites, key=lambda site: weak[site].number if site in weak else 0):
+        x, y = spots[site]
+        labels.put(x, y, radius + 4, site, 13 if radius > 9 else 10, bold=site == network.hub)
+
+
+def draw_legend(drawing, hub, palette, bottom, new):
+    drawing.rect(20, bottom, WIDTH - 40, 1, fill=svg.GREY)
+    drawing.line((40, bottom + 30), (100, bottom + 30), svg.RED, 9)
+    drawing.line((40, bottom + 30), (100, bottom + 30), svg.WHITE, 2)
+    drawing.text(116, bottom + 35, "weakest links: their loss cuts the shaded sites off", 14)
+    if new is not None:
+        drawing.line((40, bottom + 62), (100, bottom + 62), svg.GREEN, 4, stroke_dasharray="3 10")
+        drawing.text(116, bottom + 67, "new link after which more must fail", 14)
+    drawing.rect(541, bottom + 19, 22, 22, fill=svg.BLACK)
+    drawing.text(580, bottom + 35, svg.shortened(f"the hub, {hub}", 390, 14), 14)
+    x = 552
+    for step in range(palette.steps):
+        fill, ink = palette.colours(step)
+        half = max(13, svg.text_width(palette.words(step), 14, True) / 2 + 5)
+        drawing.rect(x - 13, bottom + 49, 2 * half, 26, rx=13, fill=fill, stroke=svg.BLACK)
+        drawing.text(x - 13 + half, bottom + 67, palette.words(step), 14, ink, text_anchor="middle",
+                     font_weight="bold")
+        x += 2 * half + 6
+    drawing.text(552 - 13, bottom + 94, "links must fail before a site loses the hub", 14)
+
+
+def some(names):
+    """The names, or the first of many."""
+    more = len(names) - MOST_NAMES
+    return ", ".join(names[:MOST_NAMES]) + (f" and {more} more" if more > 0 else "")
+
+
+def tell(network, weak, least, absent, better, new):
+    """The weaknesses in words."""
+    print(f"{len(network.sites)} sites, {command.count(len(network.links), 'link')}; the loss of "
+          f"{command.count(least, 'link')} can split the network, of fewer never")
+    for number in sorted({found.number for found in weak.values()}):
+        names = [site for site in weak if weak[site].number == number]
+        print(f"{command.count(number, 'link')} must fail before these lose {network.hub}: {some(names)}")
+    for sites in dict.fromkeys(found.sites for found in weak.values() if found.number == least):
+        names = [f"{one} to {other}" + (f" ({number} links)" if number > 1 else "")
+                 for (one, other), number in crossing(network, sites).items()]
+        lost = some([site for site in network.sites if site in sites])
+        print(f"the loss of {' and '.join(names)} cuts off {lost}")
+    print(f"of {command.count(absent, 'new link')} {better} help{'s' if better == 1 else ''}, so that {least + 1} "
+          "must fail" + (f"; the shortest is {new[0]} to {new[1]}" if new else ""))
 
 
 def main():
     example = command.Example(__file__, "Finds the weakest links of a network.")
-    spots = {row["site"]: (int(row["x"]), int(row["y"])) for row in example.rows("sites.csv", "site", "x", "y")}
-    links = [(row["one"], row["other"]) for row in example.rows("links.csv", "one", "other")]
-    command.check_known((site for link in links for site in link), spots)
-    sites, flow = list(spots), example.flow
-    network = links_once(sites, links, *sites[:2])
-    network.save(example.output("network.max"))
-    least = flow.connectivity(network, undirected=True)
-    failures = {site: flow.connectivity(links_once(sites, links, sites[0], site), undirected=True, pair=True)
-                for site in sites[1:]}
-    sets = weakest(flow, sites, links, failures)
-    absent, better = helpful(flow, sites, links, least)
-    new = shortest(better, spots)
-    print(f"{len(sites)} sites, {len(links)} links; the loss of {least} links can split the network, of fewer never")
-    for number in sorted(set(failures.values())):
-        names = [site for site in failures if failures[site] == number]
-        print(f"{number} links must fail before these lose {sites[0]}: {', '.join(names)}")
-    for broken, cut_off in sets.items():
-        names = [f"{one} to {other}" for one, other in links if frozenset((one, other)) in broken]
-        print(f"the loss of {' and '.join(names)} cuts off {', '.join(cut_off)}")
-    print(f"of {len(absent)} new links {len(better)} help, so that {least + 1} must fail"
-          + (f"; the shortest is {new[0]} to {new[1]}" if new else ""))
-    draw(example.output("redundancy.svg"), spots, links, failures, sets, new)
+    network, flow = read(example), example.flow
+    network.once().save(example.output("network.max"))
+    least = flow.connectivity(network.once(), undirected=True)
+    weak = weaknesses(example, network, least)
+    there = {frozenset(link) for link in network.links}
+    ends, other_ends = ([site for site in network.sites if site in side]
+                        for side in helpful(flow, network, weak, least))
+    order = {site: place for place, site in enumerate(network.sites)}
+    better = [tuple(sorted((one, other), key=order.get)) for one in ends for other in other_ends
+              if frozenset((one, other)) not in there]
+    new = shortest(sorted(better, key=lambda pair: [order[site] for site in pair]), network.spots)
+    absent = len(order) * (len(order) - 1) // 2 - len(there)
+    tell(network, weak, least, absent, len(better), new)
+    draw(example.output("redundancy.svg"), network, weak, least, new)
     print(f"drawn: {example.output('redundancy.svg')}")
 
 

@@ -15,7 +15,10 @@ HERE = os.path.dirname(os.path.abspath(__file__))
 sys.path.insert(0, os.path.join(HERE, "..", "common"))
 
 import command
+import maps
+import script
 import svg
+import tables
 from dimacs import Problem
 
 MORE = 500
@@ -23,18 +26,47 @@ MORE = 500
 GROUND = {"land": "#F6F4EE", "water": "#DCEBF3"}
 STYLES = {"first": (svg.ORANGE, "9 6"), "last": (svg.BLUE, "2 7"), "both": (svg.RED, "none")}
 """For each kind of bottleneck road its colour and its dashes, so that it can be told without colours too."""
+ROLES = ("", "source", "sink")
+WIDTH, TOP, MARGIN, MOST_HEIGHT = 1000, 60, 50, 900
 
 
-def problem_of(places, roads, upgraded=None):
-    """The problem of the map: an arc each way for each road, the car parks as sources and the motorway as sinks."""
+class Town:
+    """The places by name and the roads between them, as rows of their tables."""
+
+    def __init__(self, example):
+        self.places = tables.once(example.rows("places.csv", "place", "x", "y", "name", "role"), "place")
+        for place in self.places.values():
+            if place["role"] not in ROLES:
+                place.refuse("role", f"'{place['role']}' is neither source nor sink, nor empty")
+        self.spots = {name: (row.decimal("x"), row.decimal("y")) for name, row in self.places.items()}
+        self.sources, self.sinks = (
+            {name: row["name"] or name for name, row in self.places.items() if row["role"] == role}
+            for role in ("source", "sink"))
+        if not (self.sources and self.sinks):
+            raise script.Refused("places.csv: the column role has to say source of a place, and sink of another")
+        self.roads = example.rows("roads.csv", "one", "other", "vehicles", "name")
+        for road in self.roads:
+            for end in ("one", "other"):
+                road.known(end, self.places, "places.csv")
+        self.vehicles = {road.number: road.whole("vehicles") for road in self.roads}
+        self.way = f"from {some(self.sources.values())} to {some(self.sinks.values())}"
+
+
+def some(names):
+    """Some names in words."""
+    first, *more = names
+    return first if not more else f"{first} and {more[0]}" if len(more) == 1 else f"{first} and {len(more)} more"
+
+
+def problem_of(town, upgraded=None):
+    """The problem of the map: an arc each way for each road, from the sources to the sinks."""
     problem = Problem()
-    for place in places:
-        if place["role"] == "source":
-            problem.source(place["place"])
-        elif place["role"] == "sink":
-            problem.sink(place["place"])
-    for road in roads:
-        problem.link(road["one"], road["other"], int(road["vehicles"]) + (MORE if road is upgraded else 0))
+    for name in town.sources:
+        problem.source(name)
+    for name in town.sinks:
+        problem.sink(name)
+    for road in town.roads:
+        problem.link(road["one"], road["other"], town.vehicles[road.number] + (MORE if road is upgraded else 0))
     return problem
 
 
@@ -48,28 +80,49 @@ def named(road):
     return road["name"] or f"{road['one']} to {road['other']}"
 
 
-def draw(path, areas, places, roads, first, last, value):
-    """The map. `first` and `last` are the roads of the bottleneck nearest the car parks and nearest the motorway."""
-    drawing = svg.Drawing(1000, 680, "The bottleneck of a town's roads")
-    drawing.text(28, 38, f"From the car parks to the motorway: {value} vehicles an hour", 20, font_weight="bold")
-    drawing.rect(20, 60, 960, 500, fill=GROUND["land"])
-    for area in areas:
-        drawing.polygon([corner.split() for corner in area["corners"].split(";")], fill=GROUND[area["ground"]])
-    spots = {place["place"]: (int(place["x"]), int(place["y"])) for place in places}
-    for road in roads:
+def read_areas(example):
+    """The areas under the map: of each the ground and the corners. They may be left away."""
+    if not os.path.exists(example.input("areas.csv")):
+        return []
+    areas = []
+    for row in example.rows("areas.csv", "ground", "corners"):
+        corners = [corner.split() for corner in row.name("corners").split(";")]
+        if not all(len(corner) == 2 and all(map(is_decimal, corner)) for corner in corners):
+            row.refuse("corners", "a corner is two numbers, x and y, and corners are parted by semicolons")
+        areas.append((row.known("ground", GROUND, "what can be drawn: " + ", ".join(GROUND)),
+                      [tuple(map(float, corner)) for corner in corners]))
+    return areas
+
+
+def is_decimal(text):
+    return text.removeprefix("-").replace(".", "", 1).isdecimal()
+
+
+def draw(path, areas, town, first, last, value):
+    """The map. `first` and `last` are the roads of the bottleneck nearest the sources and nearest the sinks."""
+    scale = maps.Scale(town.spots.values(), 20 + MARGIN, TOP + MARGIN, WIDTH - 40 - 2 * MARGIN, MOST_HEIGHT)
+    bottom = TOP + scale.height + 2 * MARGIN
+    spots = {name: scale.spot(*spot) for name, spot in town.spots.items()}
+    drawing = svg.Drawing(WIDTH, bottom + 125, "The bottleneck of a road map")
+    title = svg.shortened(f"{value} vehicles an hour {town.way}", WIDTH - 56, 16, True)
+    drawing.text(28, 38, title, 16, font_weight="bold")
+    drawing.rect(20, TOP, WIDTH - 40, bottom - TOP, fill=GROUND["land"])
+    drawing.clip("map", 20, TOP, WIDTH - 40, bottom - TOP)
+    for ground, corners in areas:
+        drawing.polygon([scale.spot(*corner) for corner in corners], fill=GROUND[ground], clip_path="url(#map)")
+    greatest = max([1, *town.vehicles.values()])
+    for road in town.roads:
         if road not in first and road not in last:
-            drawing.line(spots[road["one"]], spots[road["other"]], svg.GREY, int(road["vehicles"]) / 250)
-    for road in roads:
+            width = max(1.0, 6 * town.vehicles[road.number] / greatest)
+            drawing.line(spots[road["one"]], spots[road["other"]], svg.GREY, width)
+    for road in town.roads:
         if road in first or road in last:
             draw_bottleneck(drawing, spots[road["one"]], spots[road["other"]], kind_of(road, first, last))
-    for road in roads:
-        if road in first or road in last or road["name"]:
-            (x, y), (to_x, to_y) = spots[road["one"]], spots[road["other"]]
-            words = f"{named(road)}  {road['vehicles']}"
-            drawing.label((x + to_x) // 2, (y + to_y) // 2 - 16, words, 13, text_anchor="middle", font_weight="bold")
-    for place in places:
-        draw_place(drawing, place)
-    draw_legend(drawing)
+    small = min(max(4 * (50 / len(spots)) ** 0.5, 1.5), 4)
+    for name, place in town.places.items():
+        draw_place(drawing, *spots[name], place["role"], small)
+    put_labels(drawing, town, spots, first, last, bottom)
+    draw_legend(drawing, bottom + 28)
     drawing.save(path)
 
 
@@ -87,52 +140,67 @@ def draw_bottleneck(drawing, start, end, kind):
         drawing.line(start, end, colour, 7, stroke_dasharray=dashes)
 
 
-def draw_place(drawing, place):
-    x, y = int(place["x"]), int(place["y"])
-    if place["role"] == "source":
+def draw_place(drawing, x, y, role, small):
+    if role == "source":
         drawing.circle(x, y, 11, fill=svg.BLACK)
-        drawing.label(x - 20, y - 20, place["name"], 13)
-    elif place["role"] == "sink":
+    elif role == "sink":
         drawing.rect(x - 10, y - 10, 20, 20, fill=svg.BLACK)
-        drawing.label(x + 18, y - 20, place["name"], 13, text_anchor="end")
     else:
-        drawing.circle(x, y, 4, fill=svg.DARK)
+        drawing.circle(x, y, small, fill=svg.DARK)
 
 
-def draw_legend(drawing):
-    lines = (("first", "bottleneck nearest the car parks"), ("last", "bottleneck nearest the motorway"),
+def put_labels(drawing, town, spots, first, last, bottom):
+    """The names of the sources and sinks, of the bottlenecks' roads, and of other roads that have one."""
+    labels = maps.Labels(drawing, 22, TOP, WIDTH - 22, bottom)
+    ends = {**town.sources, **town.sinks}
+    for x, y in (spots[name] for name in ends):
+        labels.keep_free(x - 11, y - 11, x + 11, y + 11)
+    for name, words in ends.items():
+        labels.put(*spots[name], 14, words)
+    for road in sorted(town.roads, key=lambda road: road not in first and road not in last):
+        is_narrow = road in first or road in last
+        if is_narrow or road["name"]:
+            (x, y), (to_x, to_y) = spots[road["one"]], spots[road["other"]]
+            words = f"{named(road)}  {town.vehicles[road.number]}"
+            labels.put((x + to_x) / 2, (y + to_y) / 2, 10, words, bold=is_narrow)
+
+
+def draw_legend(drawing, y):
+    lines = (("first", "bottleneck nearest the sources"), ("last", "bottleneck nearest the sinks"),
              ("both", "in both: an upgrade of one such road helps"))
     for row, (kind, words) in enumerate(lines):
-        y = 588 + 28 * row
-        draw_bottleneck(drawing, (40, y), (100, y), kind)
-        drawing.text(118, y + 5, words, 14)
-    drawing.line((560, 588), (620, 588), svg.GREY, 6)
-    drawing.text(638, 593, "other road, the wider the more it takes", 14)
-    drawing.circle(590, 616, 9, fill=svg.BLACK)
-    drawing.text(638, 621, "car park: vehicles start here", 14)
-    drawing.rect(581, 635, 18, 18, fill=svg.BLACK)
-    drawing.text(638, 649, "motorway: vehicles leave here", 14)
+        draw_bottleneck(drawing, (40, y + 28 * row), (100, y + 28 * row), kind)
+        drawing.text(118, y + 28 * row + 5, words, 14)
+    drawing.line((560, y), (620, y), svg.GREY, 6)
+    drawing.text(638, y + 5, "other road, the wider the more it takes", 14)
+    drawing.circle(590, y + 28, 9, fill=svg.BLACK)
+    drawing.text(638, y + 33, "source: vehicles start here", 14)
+    drawing.rect(581, y + 47, 18, 18, fill=svg.BLACK)
+    drawing.text(638, y + 61, "sink: vehicles leave here", 14)
 
 
 def main():
     example = command.Example(__file__, "Finds the bottleneck of a road network.")
-    places = example.rows("places.csv", "place", "x", "y", "name", "role")
-    roads = example.rows("roads.csv", "one", "other", "vehicles", "name")
-    command.check_known((road[end] for road in roads for end in ("one", "other")), {place["place"] for place in places})
-    areas = example.rows("areas.csv", "ground", "corners") if os.path.exists(example.input("areas.csv")) else []
-    problem = problem_of(places, roads)
+    town, areas = Town(example), read_areas(example)
+    problem = problem_of(town)
     problem.save(example.output("roads.max"))
     near_sources, near_sinks = example.flow.cut(problem), example.flow.cut(problem, sink=True)
-    first, last = crossing(roads, near_sources), crossing(roads, near_sinks)
-    print(f"from the car parks to the motorway: {near_sources.value} vehicles an hour")
-    print("bottleneck nearest the car parks: " + ", ".join(f"{named(road)} {road['vehicles']}" for road in first))
-    print("bottleneck nearest the motorway: " + ", ".join(f"{named(road)} {road['vehicles']}" for road in last))
-    print("in both, so one upgrade helps: " + ", ".join(named(road) for road in first if road in last))
-    print(f"tried, each road with {MORE} more vehicles an hour:")
-    for road in roads:
-        if road in first or road in last:
-            print(f"  {named(road):<12} {example.flow.value(problem_of(places, roads, upgraded=road))}")
-    draw(example.output("roads.svg"), areas, places, roads, first, last, near_sources.value)
+    first, last = crossing(town.roads, near_sources), crossing(town.roads, near_sinks)
+    print(f"{town.way}: {near_sources.value} vehicles an hour")
+    for place, roads in (("sources", first), ("sinks", last)):
+        told = ", ".join(f"{named(road)} {town.vehicles[road.number]}" for road in roads)
+        print(f"bottleneck nearest the {place}: {told or 'none, since no roads lead there'}")
+    both = [named(road) for road in first if road in last]
+    print("in both, so one upgrade helps: " + (", ".join(both) or "none"))
+    tried = [road for road in town.roads if road in first or road in last]
+    if tried:
+        print(f"tried, each road with {MORE} more vehicles an hour:")
+    for place, road in enumerate(tried):
+        example.progress.say(f"road {place} of {len(tried)}")
+        value = example.flow.value(problem_of(town, upgraded=road))
+        example.progress.say("")
+        print(f"  {named(road):<12} {value}")
+    draw(example.output("roads.svg"), areas, town, first, last, near_sources.value)
     print(f"drawn: {example.output('roads.svg')}")
 
 

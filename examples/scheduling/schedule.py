@@ -13,15 +13,18 @@ the same with every version.
 
 import os
 import sys
+from collections import namedtuple
 
 HERE = os.path.dirname(os.path.abspath(__file__))
 sys.path.insert(0, os.path.join(HERE, "..", "common"))
 
 import command
+import script
 import svg
+import tables
 from dimacs import Problem
 
-CELL, LEFT, TOP = 50, 120, 118
+ROW, TOP = 50, 118
 SHORT = "#FBE5D6"
 
 
@@ -29,10 +32,10 @@ class Week:
     """The people and shifts: who can work when, how often at most, and how many places a shift has."""
 
     def __init__(self, people, shifts):
-        self.most = {row["person"]: int(row["most"]) for row in people}
-        self.can = {row["person"]: [shift.strip() for shift in row["can"].split(";") if shift.strip()] for row in people}
-        self.places = {row["shift"]: int(row["places"]) for row in shifts}
-        command.check_known((shift for can in self.can.values() for shift in can if shift), self.places)
+        self.places = {name: row.whole("places") for name, row in tables.once(shifts, "shift").items()}
+        people = tables.once(people, "person")
+        self.most = {name: row.whole("most") for name, row in people.items()}
+        self.can = {name: shifts_of(row, self.places) for name, row in people.items()}
         self.days = list(dict.fromkeys(day_of(shift) for shift in self.places))
 
     def pairs(self):
@@ -46,6 +49,15 @@ class Week:
         there = sum(other == shift for other, _ in taken)
         return (len(own) < self.most[person] and there < self.places[shift]
                 and day_of(shift) not in [day_of(other) for other in own])
+
+
+def shifts_of(row, places):
+    """The shifts that a row of people.csv lists between semicolons."""
+    shifts = [shift.strip() for shift in row["can"].split(";") if shift.strip()]
+    for shift in shifts:
+        if shift not in places:
+            row.refuse("can", f"'{shift}' isn't in shifts.csv")
+    return shifts
 
 
 def day_of(shift):
@@ -74,21 +86,50 @@ def problem_of(week, taken=()):
     return problem
 
 
-def first_best_roster(flow, week, best):
-    """The first of the rosters that fill the most places, as pairs of shift and person."""
-    taken = []
-    for pair in week.pairs():
-        if week.allows(taken, pair) and len(taken) + 1 + flow.value(problem_of(week, taken + [pair])) == best:
+def some_best_roster(flow, week, taken):
+    """A roster that fills the most places beside the pairs that are taken: these and the pairs that `flow` found."""
+    problem = problem_of(week, taken)
+    _, units = flow.solve(problem)
+    found = set(taken)
+    for (src, dst, _), amount in zip(problem.arcs, units):
+        kind, shift = problem.name(dst)[:2]
+        if kind == "shift" and amount:
+            found.add((shift, problem.name(src)[1]))
+    return found
+
+
+def first_best_roster(flow, week, best, progress):
+    """The first of the rosters that fill the most places, as pairs of shift and person.
+
+    A pair of the best roster that was found last is kept without a question. Which roster that is plays no part in
+    what is kept.
+    """
+    taken, pairs = [], week.pairs()
+    known = some_best_roster(flow, week, taken)
+    for place, pair in enumerate(pairs):
+        progress.say(f"pair {place} of {len(pairs)}")
+        if pair not in known and week.allows(taken, pair):
+            found = some_best_roster(flow, week, taken + [pair])
+            known = found if len(found) == best else known
+        if pair in known:
             taken.append(pair)
+    progress.say("")
     return taken
 
 
+Reasons = namedtuple("Reasons", "short gives helpers limits")
+"""Why places stay empty: the shifts concerned, what each person can give them at most, who would help by working in
+another of these shifts, and who by one shift more than the limit."""
+
+
 def explain(week, near_sources, near_sinks):
-    """Why places stay empty: the shifts concerned, what each person can give them at most, and who would help.
+    """Why places stay empty.
 
     The shifts of the least sink side are those that some best roster leaves short. What can come to them is the
     capacity of the arcs into that side, and but for the places of the other shifts each of those arcs belongs to a
-    person. A new arc fills one more place where it leads from the least source side to the least sink side.
+    person. A new arc fills one more place where it leads from the least source side to the least sink side, and so
+    does one unit more on an arc from the one to the other. A person's limit is such an arc where the person's week is
+    on the sink side, since the person, a source, is always on the source side.
     """
     short = [shift for shift in week.places if ("shift", shift) not in near_sinks.source_side]
     gives = {}
@@ -98,85 +139,120 @@ def explain(week, near_sources, near_sinks):
     spare = {name[1:] for name in near_sources.source_side if name[0] == "day"}
     helpers = [person for person, can in week.can.items()
                if any(shift not in can and (person, day_of(shift)) in spare for shift in short)]
-    return short, gives, helpers
+    limits = [person for person in week.most if ("week", person) not in near_sinks.source_side]
+    return Reasons(short, gives, helpers, limits)
+
+
+class Layout:
+    """Where the columns of the picture stand: names have the room that they need, up to a point."""
+
+    def __init__(self, week):
+        halves = [half_of(shift) for shift in week.places]
+        self.names = min(max(svg.text_width(name, 15) for name in [*week.most, "filled / places"]), 260)
+        self.cell = int(min(max([50, *(svg.text_width(half) + 12 for half in halves)]), 150))
+        for day in week.days:
+            alone = sum(day_of(shift) == day for shift in week.places) * self.cell
+            self.cell += max(0, int(min(svg.text_width(day, 15, True) + 12, 150)) - alone)
+        self.left = int(self.names) + 50
+        self.right = self.left + self.cell * len(halves)
+        self.width = max(self.right + 130, 800)
+        self.bottom = TOP + ROW * len(week.most)
+
+
+def half_of(shift):
+    """What a shift is called beside its day."""
+    return " ".join(shift.split()[1:])
 
 
 def draw(path, week, taken, short, value):
     """The roster: a row for each person, a column for each shift."""
-    shifts = list(week.places)
-    width = max(LEFT + CELL * len(shifts) + 130, 800)
-    bottom = TOP + CELL * len(week.most)
-    drawing = svg.Drawing(width, bottom + 190, "A roster and the places that stay empty")
-    needed = sum(week.places.values())
-    drawing.text(28, 38, f"{value} of {needed} places are filled; {needed - value} stay empty, whoever plans", 20,
-                 font_weight="bold")
+    shifts, layout = list(week.places), Layout(week)
+    needed, bottom = sum(week.places.values()), layout.bottom
+    drawing = svg.Drawing(layout.width, bottom + 190, "A roster and the places that stay empty")
+    empty = f"; {needed - value} stay empty, whoever plans" if value < needed else ""
+    drawing.text(28, 38, f"{value} of {command.count(needed, 'place')} can be filled{empty}", 20, font_weight="bold")
     for column, shift in enumerate(shifts):
-        x = LEFT + CELL * column
+        x, middle = layout.left + layout.cell * column, layout.left + layout.cell * column + layout.cell // 2
         if shift in short:
-            drawing.rect(x, TOP - 28, CELL, bottom - TOP + 70, fill=SHORT)
-        drawing.text(x + CELL // 2, TOP - 10, " ".join(shift.split()[1:]), 13, text_anchor="middle")
-        draw_filled(drawing, x, bottom, sum(other == shift for other, _ in taken), week.places[shift])
+            drawing.rect(x, TOP - 28, layout.cell, bottom - TOP + 70, fill=SHORT)
+        drawing.text(middle, TOP - 10, svg.shortened(half_of(shift), layout.cell - 4), 13, text_anchor="middle")
+        draw_filled(drawing, middle, bottom, sum(other == shift for other, _ in taken), week.places[shift])
     for day in week.days:
         columns = [column for column, shift in enumerate(shifts) if day_of(shift) == day]
-        middle = LEFT + CELL * (columns[0] + columns[-1] + 1) // 2
-        drawing.text(middle, TOP - 36, day, 15, text_anchor="middle", font_weight="bold")
-    drawing.text(LEFT + CELL * len(shifts) + 22, TOP - 10, "shifts / most", 13)
+        middle = layout.left + layout.cell * (columns[0] + columns[-1] + 1) // 2
+        drawing.text(middle, TOP - 36, svg.shortened(day, layout.cell * len(columns), 15, True), 15,
+                     text_anchor="middle", font_weight="bold")
+    drawing.text(layout.right + 22, TOP - 10, "shifts / most", 13)
     drawing.text(28, bottom + 28, "filled / places", 13)
     for row, person in enumerate(week.most):
-        draw_person(drawing, week, taken, person, TOP + CELL * row)
-    draw_legend(drawing, bottom + 76)
+        draw_person(drawing, week, taken, person, layout, TOP + ROW * row)
+    draw_legend(drawing, bottom + 76, short)
     drawing.save(path)
 
 
-def draw_filled(drawing, x, bottom, filled, places):
+def draw_filled(drawing, middle, bottom, filled, places):
     colour, weight = (svg.BLACK, "normal") if filled == places else (svg.RED, "bold")
-    drawing.text(x + CELL // 2, bottom + 28, f"{filled} / {places}", 14, colour, text_anchor="middle",
-                 font_weight=weight)
+    drawing.text(middle, bottom + 28, f"{filled} / {places}", 14, colour, text_anchor="middle", font_weight=weight)
 
 
-def draw_person(drawing, week, taken, person, y):
-    drawing.text(28, y + CELL // 2 + 5, person, 15)
+def draw_person(drawing, week, taken, person, layout, y):
+    drawing.text(28, y + ROW // 2 + 5, svg.shortened(person, layout.names, 15), 15)
     for column, shift in enumerate(week.places):
-        x = LEFT + CELL * column
+        x = layout.left + layout.cell * column
         if (shift, person) in taken:
-            drawing.rect(x + 4, y + 4, CELL - 8, CELL - 8, rx=8, fill=svg.BLUE)
+            drawing.rect(x + 4, y + 4, layout.cell - 8, ROW - 8, rx=8, fill=svg.BLUE)
         elif shift in week.can[person]:
-            drawing.rect(x + 5, y + 5, CELL - 10, CELL - 10, rx=8, fill=svg.WHITE, stroke=svg.BLUE, stroke_width=2)
+            drawing.rect(x + 5, y + 5, layout.cell - 10, ROW - 10, rx=8, fill=svg.WHITE, stroke=svg.BLUE,
+                         stroke_width=2)
         else:
-            drawing.circle(x + CELL // 2, y + CELL // 2, 3, fill=svg.GREY)
+            drawing.circle(x + layout.cell // 2, y + ROW // 2, 3, fill=svg.GREY)
     worked = sum(who == person for _, who in taken)
-    drawing.text(LEFT + CELL * len(week.places) + 46, y + CELL // 2 + 5, f"{worked} / {week.most[person]}", 14)
+    drawing.text(layout.right + 46, y + ROW // 2 + 5, f"{worked} / {week.most[person]}", 14)
 
 
-def draw_legend(drawing, y):
+def draw_legend(drawing, y, short):
     drawing.rect(40, y, 28, 28, rx=6, fill=svg.BLUE)
     drawing.text(82, y + 19, "works", 14)
     drawing.rect(41, y + 41, 26, 26, rx=6, fill=svg.WHITE, stroke=svg.BLUE, stroke_width=2)
     drawing.text(82, y + 59, "could, and doesn't", 14)
     drawing.circle(320, y + 14, 3, fill=svg.GREY)
     drawing.text(350, y + 19, "can't", 14)
-    drawing.rect(306, y + 40, 28, 28, fill=SHORT)
-    drawing.text(350, y + 59, "shifts among which places stay empty in every roster", 14)
+    if short:
+        drawing.rect(306, y + 40, 28, 28, fill=SHORT)
+        drawing.text(350, y + 59, "shifts among which places stay empty in every roster", 14)
+
+
+def tell(week, taken, reasons, value):
+    """The roster in words, and why places stay empty."""
+    needed = sum(week.places.values())
+    print(f"{len(week.most)} people, {command.count(len(week.places), 'shift')} with "
+          f"{command.count(needed, 'place')}; {value} can be filled")
+    for person in week.most:
+        print(f"  {person}: " + ", ".join(shift for shift, who in taken if who == person))
+    if not reasons.short:
+        return
+    places = command.count(sum(week.places[shift] for shift in reasons.short), "place")
+    print(f"these shifts have {places}: {', '.join(reasons.short)}")
+    gives = ", ".join(f"{person} {number}" for person, number in reasons.gives.items())
+    print(f"at most {sum(reasons.gives.values())} of them can be filled: {gives or 'nobody can work then'}")
+    helpers, limits = ", ".join(reasons.helpers) or "nobody", ", ".join(reasons.limits) or "nobody"
+    print(f"one more would be filled if one of these could work then: {helpers}")
+    print(f"one more would be filled if one of these worked one shift more: {limits}")
 
 
 def main():
     example = command.Example(__file__, "Gives the shifts of a week to people.")
-    week = Week(example.rows("people.csv", "person", "most", "can"), example.rows("shifts.csv", "shift", "places"))
+    shifts = example.rows("shifts.csv", "shift", "places")
+    week = Week(example.rows("people.csv", "person", "most", "can"), shifts)
+    if not week.most or not week.places:
+        raise script.Refused("people.csv and shifts.csv need a row each")
     problem = problem_of(week)
     problem.save(example.output("roster.max"))
     near_sources, near_sinks = example.flow.cut(problem), example.flow.cut(problem, sink=True)
-    value, needed = near_sinks.value, sum(week.places.values())
-    taken = first_best_roster(example.flow, week, value)
-    print(f"{len(week.most)} people, {len(week.places)} shifts with {needed} places; {value} can be filled")
-    for person in week.most:
-        print(f"  {person}: " + ", ".join(shift for shift, who in taken if who == person))
-    short, gives, helpers = explain(week, near_sources, near_sinks)
-    if short:
-        print(f"these shifts have {sum(week.places[shift] for shift in short)} places: {', '.join(short)}")
-        print(f"at most {sum(gives.values())} of them can be filled: "
-              + ", ".join(f"{person} {number}" for person, number in gives.items()))
-        print("one more would be filled if one of these could work then: " + (", ".join(helpers) or "nobody"))
-    draw(example.output("roster.svg"), week, taken, short, value)
+    taken = first_best_roster(example.flow, week, near_sinks.value, example.progress)
+    reasons = explain(week, near_sources, near_sinks)
+    tell(week, taken, reasons, near_sinks.value)
+    draw(example.output("roster.svg"), week, taken, reasons.short, near_sinks.value)
     print(f"drawn: {example.output('roster.svg')}")
 
 

@@ -1,0 +1,35 @@
+"""Pictures of any kind: PNG by `png`, others by Pillow where this Python has it."""
+
+import os
+
+import png
+from script import Refused
+
+KINDS = (".png", ".jpg", ".jpeg", ".webp", ".tif", ".tiff", ".bmp", ".gif", ".ppm", ".pgm")
+
+
+def find(folder, stem):
+    """The path of the picture of this name in a folder, whatever its kind; None where there is none."""
+    paths = [os.path.join(folder, stem + kind) for kind in KINDS]
+    return next(filter(os.path.exists, paths), None)
+
+
+def read(path):
+    """Reads a picture."""
+    return png.read(path) if path.endswith(".png") else _read_by_pillow(path)
+
+
+def _read_by_pillow(path):
+    try:
+        from PIL import Image, ImageOps
+    except ImportError:
+        raise Refused(f"{path}: without Pillow only PNG is read; save the picture as PNG, or install Pillow") from None
+    try:
+        with Image.open(path) as opened:
+            turned = ImageOps.exif_transpose(opened)
+            turned = turned.convert("RGBA" if "A" in turned.getbands() else "RGB")
+    except (OSError, SyntaxError, Image.DecompressionBombError) as failure:
+        raise Refused(f"{path}: {failure}") from None
+    picture, colours = png.Image(*turned.size, None), list(turned.getdata())
+    picture.pixels = [colours[at:at + picture.width] for at in range(0, len(colours), picture.width)]
+    return picture

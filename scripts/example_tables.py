@@ -1,0 +1,253 @@
+"""Checks of the examples that read tables, on small data with answers by hand."""
+
+import os
+import random
+import re
+import signal
+import subprocess
+import sys
+import time
+from itertools import combinations
+
+from example_checks import COMMANDS, EXAMPLES, ROOT, own_data, python, write
+
+
+def small_scheduling(checks, flow, scratch):
+    """Two people who fill all three places in one way."""
+    write(scratch, "people.csv", "person,most,can\nIda,2,Mon a;Tue a\nJon,1,Mon a\n")
+    write(scratch, "shifts.csv", "shift,places\nMon a,2\nTue a,1\n")
+    own_data(checks, flow, scratch, "scheduling",
+             ["2 people, 2 shifts with 3 places; 3 can be filled", "  Ida: Mon a, Tue a", "  Jon: Mon a"])
+
+
+def small_limits(checks, flow, scratch):
+    """Everybody is at a limit. Ida may work once and Jon not at all on the two days with one place each, so that one
+    place stays empty, and one shift more of either would fill it; names are long and have commas."""
+    write(scratch, "people.csv", "\ufeffperson;most;can\n\"Ida Quite-Longname, of the Night Shift\";1;\"Mon a;Tue a\"\n"
+                                 "Jon;0;Tue a\nKim;3;\n")
+    write(scratch, "shifts.csv", "shift\tplaces\n Mon  a\t1\nTue a\t1\n")
+    own_data(checks, flow, scratch, "scheduling", [
+        "3 people, 2 shifts with 2 places; 1 can be filled", "  Ida Quite-Longname, of the Night Shift: Mon a",
+        "  Jon: ", "  Kim: ", "these shifts have 2 places: Mon a, Tue a",
+        "at most 1 of them can be filled: Ida Quite-Longname, of the Night Shift 1, Jon 0",
+        "one more would be filled if one of these could work then: Kim",
+        "one more would be filled if one of these worked one shift more: Ida Quite-Longname, of the Night Shift, Jon"])
+
+
+def small_roads(checks, flow, scratch):
+    """Three places in a row: the narrower road is the one bottleneck, till it takes as much as the other."""
+    write(scratch, "places.csv", "place,x,y,name,role\nA,-0.5,1e3,,source\nB,0.25,1e3,,\nC,1,1000,Sea,sink\n")
+    write(scratch, "roads.csv", "one,other,vehicles,name\nA,B,300,High Street\nC,B,200,\n")
+    own_data(checks, flow, scratch, "roads", [
+        "from A to Sea: 200 vehicles an hour", "bottleneck nearest the sources: C to B 200",
+        "bottleneck nearest the sinks: C to B 200", "in both, so one upgrade helps: C to B",
+        "tried, each road with 500 more vehicles an hour:", "  C to B       300"])
+
+
+def small_redundancy(checks, flow, scratch):
+    """A ring of four: any two links split it, and one new link leaves two sites with two."""
+    write(scratch, "sites.csv", "site,x,y\nA,100,100\nB,200,100\nC,200,200\nD,100,200\n")
+    write(scratch, "links.csv", "one,other\nA,B\nB,C\nC,D\nD,A\n")
+    own_data(checks, flow, scratch, "redundancy", [
+        "4 sites, 4 links; the loss of 2 links can split the network, of fewer never",
+        "2 links must fail before these lose A: B, C, D", "the loss of A to B and B to C cuts off B",
+        "the loss of B to C and C to D cuts off C", "the loss of C to D and D to A cuts off D",
+        "of 2 new links 0 help, so that 3 must fail"])
+
+
+def small_chain(checks, flow, scratch):
+    """A chain of three, whose ends lie far apart, and a site that two links join: one link splits it, and a link
+    between its ends makes a ring."""
+    write(scratch, "sites.csv", "site,x,y\nB,0.001,7\nA,-1000000,7\nC,1000000,7\n")
+    write(scratch, "links.csv", "one,other\nA,B\nB,C\nC,B\n")
+    own_data(checks, flow, scratch, "redundancy", [
+        "3 sites, 3 links; the loss of 1 link can split the network, of fewer never",
+        "1 link must fail before these lose B: A", "2 links must fail before these lose B: C",
+        "the loss of A to B cuts off A", "of 1 new link 1 helps, so that 2 must fail; the shortest is A to C"])
+
+
+def split_by(sites, links):
+    """The fewest links whose loss splits a network, by trying each set of sites."""
+    sets = (set(one) for size in range(1, len(sites)) for one in combinations(sites, size))
+    return min(sum((one in side) != (other in side) for one, other in links) for side in sets)
+
+
+def new_links(checks, flow, scratch):
+    """The number of new links that help, on random networks, against a trial of each new link by `split_by`."""
+    chance = random.Random(1736)
+    for trial in range(16):
+        sites = "ABCDEFG"[:4 + trial % 4]
+        links = [(site, sites[int(place * chance.random())]) for place, site in enumerate(sites) if place]
+        links += [pair for pair in combinations(sites, 2) if chance.random() < 0.08 * (trial % 5)]
+        least = split_by(sites, links)
+        absent = [pair for pair in combinations(sites, 2) if pair not in links and pair[::-1] not in links]
+        better = sum(split_by(sites, links + [pair]) > least for pair in absent)
+        write(scratch, "sites.csv", "site,x,y\n" + "".join(f"{site},{place},0\n" for place, site in enumerate(sites)))
+        write(scratch, "links.csv", "one,other\n" + "".join(f"{one},{other}\n" for one, other in links))
+        _, words, _ = python("examples/redundancy/redundancy.py", "--flow", flow, "--data", scratch, "--out", scratch)
+        told = re.search(r"of (\d+) new links? (\d+) help", words) or re.match("()()", "")
+        told_least = re.search(r"the loss of (\d+) link", words) or re.match("()", "")
+        checks.equal(f"redundancy: new links of {links}", (told_least.group(1), *told.groups()),
+                     (str(least), str(len(absent)), str(better)))
+
+
+def complaints(checks, flow, scratch):
+    """Where the program is missing or refuses, or the data isn't as it has to be, an example says so in a line."""
+    def complaint(name, program=flow, **files):
+        for file, text in files.items():
+            write(scratch, f"{file}.csv", text)
+        status, words, said = python(os.path.join("examples", name, COMMANDS[name]), "--flow", program,
+                                     "--data", scratch if files else os.path.join(EXAMPLES, name), "--out", scratch)
+        checks.equal(f"{name}: a complaint", (status, words, said.count("\n")), (1, "", 1))
+        return said
+
+    def refused(name, what, words, **files):
+        """The data is refused in these words, behind the names of the script and of the data's folder."""
+        said = complaint(name, **files).split(": ", 1)[1].replace(scratch + os.sep, "")
+        checks.equal(f"{name}: {what}", said, words + "\n")
+
+    said = complaint("roads", program=os.path.join(scratch, "none"))
+    checks.equal("roads: without the program", said.startswith("roads.py: ") and "none" in said, True)
+    for what, words, files in ROADS_REFUSED:
+        refused("roads", what, words, **{"places": PLACES, **files})
+    for what, words, files in SCHEDULES_REFUSED:
+        refused("scheduling", what, words, **{"shifts": "shift,places\nMon a,2\n", **files})
+    for what, words, files in NETWORKS_REFUSED:
+        refused("redundancy", what, words, **{"sites": "site,x,y\nA,1,1\nB,2,2\n", **files})
+
+
+PLACES = "place,x,y,name,role\nA,1,1,,source\nB,2,2,,sink\n"
+ROADS = "one,other,vehicles,name\nA,B,"
+ROADS_REFUSED = (
+    ("a column is missing", "roads.csv: row 1: the column vehicles isn't among one, other",
+     {"roads": "one,other\nA,B\n"}),
+    ("a column is twice", "roads.csv: row 1: the column one is twice among one, other, one, vehicles, name",
+     {"roads": "one,other,one,vehicles,name\nA,B,C,1,\n"}),
+    ("a great number", f"roads.csv: row 2, column vehicles: '{2 ** 64}' isn't between 0 and {2 ** 64 - 1}",
+     {"roads": ROADS + f"{2 ** 64},\n"}),
+    ("a negative number", "roads.csv: row 2, column vehicles: '-4' isn't a whole number from 0; decimals want a "
+     "smaller unit, the same in all rows", {"roads": ROADS + "-4,\n"}),
+    ("an empty number", "roads.csv: row 3, column vehicles: nothing stands here", {"roads": ROADS + "1,\nB,A,,\n"}),
+    ("a short row", "roads.csv: row 4, column vehicles: the row ends before it: it has 2 of 4 columns",
+     {"roads": ROADS + "1,\n\nB,A\n"}),
+    ("a long row", "roads.csv: row 2 has 5 columns where row 1 has 4; a text with the mark that parts columns wants "
+     "quotes around it", {"roads": ROADS + "1,\"Bridge\",Old\n"}),
+    ("no such place", "roads.csv: row 3, column other: 'C' isn't in places.csv", {"roads": ROADS + "1,\nA,C,1,\n"}),
+    ("a place twice", "places.csv: row 4, column place: 'A' stands in row 2 already",
+     {"places": PLACES + "A,5,5,,\n", "roads": ROADS + "1,\n"}),
+    ("a place nowhere", "places.csv: row 4, column y: 'north' isn't a number",
+     {"places": PLACES + "C,5,north,,\n", "roads": ROADS + "1,\n"}),
+    ("no such role", "places.csv: row 4, column role: 'Sink' is neither source nor sink, nor empty",
+     {"places": PLACES + "C,5,5,,Sink\n", "roads": ROADS + "1,\n"}),
+    ("no table", "places.csv: row 1 has to name the columns place, x, y, name, role, and the file is empty",
+     {"places": "", "roads": ROADS + "1,\n"}),
+)
+SCHEDULES_REFUSED = (
+    ("no such shift", "people.csv: row 2, column can: 'Mon b' isn't in shifts.csv",
+     {"people": "person,most,can\nIda,2,Mon b\n"}),
+    ("a person twice", "people.csv: row 4, column person: 'Ida' stands in row 2 already",
+     {"people": "person,most,can\nIda,2,Mon a\nJon,1,\n Ida,1,Mon a\n"}),
+    ("a shift twice", "shifts.csv: row 3, column shift: 'Mon a' stands in row 2 already",
+     {"people": "person,most,can\nIda,2,Mon a\n", "shifts": "shift,places\nMon a,2\nMon  a,1\n"}),
+)
+NETWORKS_REFUSED = (
+    ("no such site", "links.csv: row 3, column other: 'C' isn't in sites.csv", {"links": "one,other\nA,B\nA,C\n"}),
+    ("a site twice", "sites.csv: row 3, column site: 'A' stands in row 2 already",
+     {"sites": "site,x,y\nA,1,1\nA,2,2\n", "links": "one,other\nA,A\n"}),
+    ("a site joined to itself", "links.csv: row 2, column other: 'A' is joined to itself",
+     {"links": "one,other\nA,A\n"}),
+    ("a network in two parts", "sites.csv: row 3, column site: no links lead from 'B' to the hub 'A', nor from 1 site "
+     "more", {"sites": "site,x,y\nA,1,1\nB,2,2\nC,3,3\nD,4,4\n", "links": "one,other\nA,D\nB,C\n"}),
+)
+
+
+def guide_scripts(checks, flow, scratch):
+    """The scripts of the guide on tables as spreadsheets save them, and what they refuse."""
+    path = {"PATH": os.path.join(scratch, "programs") + os.pathsep + os.environ["PATH"]}
+    os.makedirs(os.path.join(scratch, "programs"))
+    os.symlink(flow, os.path.join(scratch, "programs", "flow"))
+
+    def guide(script, *words):
+        status, found, complaint = python(f"examples/guide/{script}", *words, env=path)
+        return status, found, complaint.replace(scratch + os.sep, "")
+
+    table = os.path.join(scratch, "table.csv")
+    wide = 'from;to;capacity\r\n"Smith, Ann";"Über ""Bridge""";0\r\n"Über ""Bridge""";"Smith, Ann";inf\r\n'
+    names = 'c node 1 Smith, Ann\nc node 2 Über "Bridge"\np max 2 2\nn 1 s\nn 2 t\na 1 2 0\na 2 1 1\n'
+    for text in (wide.encode("utf-8-sig"), wide.encode("utf-16")):
+        with open(table, "wb") as file:
+            file.write(text)
+        found = guide("table.py", table, '"Smith, Ann"', '"Über ""Bridge"""')
+        checks.equal(f"table.py: {text[:4]}", found, (0, names, ""))
+    write(scratch, "names.max", names)
+    done = subprocess.run([sys.executable, "-B", "examples/guide/names.py", os.path.join(scratch, "names.max")],
+                          input="s 0\nn 1\nf 1 2 0\n", capture_output=True, text=True, check=False, cwd=ROOT)
+    checks.equal("names.py: quotes", done.stdout, 's 0\nn "Smith, Ann"\nf "Smith, Ann", "Über ""Bridge""", 0\n')
+    write(scratch, "latin.csv", "from,to,capacity\nA,B,1\n")
+    with open(os.path.join(scratch, "latin.csv"), "ab") as file:
+        file.write("Köln,B,2\n".encode("latin-1"))
+    write(scratch, "quote.csv", 'from,to,capacity\nA,B,1\n"A,B,2\n')
+    write(scratch, "latin_1.csv", "from,to,capacity\nA,B,1\n")
+    write(scratch, "limit.csv", "from,to,low,high\nA,B,1,2\n")
+    write(scratch, "low.csv", "from,to,low,high\nA,B,3,2\n")
+    write(scratch, "many.csv", f"from,to,capacity\nA,B,{2 ** 64 - 1}\nA,B,inf\n")
+    for words, expected in (
+            ("latin A B", "latin.csv: row 3 isn't UTF-8; save the table as 'CSV UTF-8'"),
+            ("quote A B", "quote.csv: row 3 isn't a row of a table: unexpected end of data"),
+            ("table Ann B", "'Ann' isn't in table.csv"),
+            ("latin_1 A A,A", "'A,A' names a node twice, or none"),
+            ("many A B", f"many.csv: the capacities make {2 ** 64 - 1} together, which leaves none for inf, since the "
+                         f"greatest is {2 ** 64 - 1}"),
+            ("low A B", "low.csv: row 2, column low: 3 is greater than high, which is 2"),
+            ("limit A A", "'A' is a source and a sink"),
+            ("none A B", "[Errno 2] No such file or directory: 'none.csv'")):
+        name, *ends = words.split()
+        script = "lower.py" if name in ("low", "limit") else "table.py"
+        found = guide(script, os.path.join(scratch, f"{name}.csv"), *ends)
+        checks.equal(f"{script} {words}", found, (1, "", f"{script}: {expected}\n"))
+    spot = os.path.join(EXAMPLES, "guide", "spot.pgm")
+    for objects, background, expected in (
+            ("8,0", "0,0", "column 8, row 0: the picture has the columns 0 to 7 and the rows 0 to 5"),
+            ("0,6", "0,0", "column 0, row 6: the picture has the columns 0 to 7 and the rows 0 to 5"),
+            ("3,2 0,0", "0,0", "column 0, row 0: marked as object and as background"),
+            ("3;2", "0,0", "'3;2' isn't COLUMN,ROW")):
+        found = guide("picture.py", "problem", spot, objects, background)
+        checks.equal(f"picture.py: {objects}", found, (1, "", f"picture.py: {expected}\n"))
+
+
+def endings(checks, scratch):
+    """A script whose output nobody reads, and one that is interrupted, end without a traceback."""
+    write(scratch, "long.csv", "from,to,capacity\n" + "".join(f"N{row},N{row + 1},{row}\n" for row in range(30_000)))
+    words = [sys.executable, "-B", "examples/guide/table.py", os.path.join(scratch, "long.csv"), "N0", "N9"]
+    reader, writer = os.pipe()
+    os.close(reader)
+    done = subprocess.run(words, stdout=writer, stderr=subprocess.PIPE, text=True, check=False, cwd=ROOT)
+    os.close(writer)
+    checks.equal("table.py: a closed pipe", (done.returncode, done.stderr), (1, ""))
+    waiting = [sys.executable, "-B", "examples/guide/names.py", os.path.join(scratch, "long.csv")]
+    with subprocess.Popen(waiting, stdin=subprocess.PIPE, stdout=subprocess.PIPE, stderr=subprocess.PIPE, text=True,
+                          cwd=ROOT) as names:
+        names.stdin.write("s 1\n")
+        names.stdin.flush()
+        time.sleep(0.7)
+        names.send_signal(signal.SIGINT)
+        _, complaint = names.communicate()
+    checks.equal("names.py: an interrupt", (names.returncode, complaint), (-signal.SIGINT, ""))
+
+
+def common_module(checks, flow):
+    """The problem that the module's own text shows: 3 come to the mill, 2 leave it."""
+    import dimacs
+    problem = dimacs.Problem()
+    problem.source("quarry")
+    problem.sink("port")
+    problem.arc("quarry", "mill", 3)
+    problem.arc("mill", "port", 2)
+    program = dimacs.Flow(flow)
+    checks.equal("dimacs: text", problem.text(), "p max 3 2\nn 1 s\nn 2 t\na 1 3 3\na 3 2 2\n")
+    checks.equal("dimacs: value", program.value(problem), 2)
+    checks.equal("dimacs: solve", program.solve(problem), (2, [2, 2]))
+    checks.equal("dimacs: cut", program.cut(problem), (2, {"quarry", "mill"}, [("mill", "port", 2)]))
+    checks.equal("dimacs: cut nearest the sinks", program.cut(problem, sink=True).source_side, {"quarry", "mill"})
+    checks.equal("dimacs: connectivity", program.connectivity(problem, pair=True), 1)
+    checks.equal("dimacs: infinite", problem.infinite(), 6)

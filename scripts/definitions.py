@@ -1,11 +1,17 @@
 #!/usr/bin/env python3
-"""Counts the definitions that the contract of `run` and those of the streams rest on.
+"""Compares docs/DEFINITIONS.md with the definitions that the contract of `run` and those of the streams rest on.
 
-It starts from the names that these contracts cite and follows the definitions in crates/*/specs from one to the next.
-Comments, blank lines and imports don't count. docs/DEFINITIONS.md has to tell each file that is reached with its number
-of lines, and their sum. A file that is reached has to hold nothing else, so that its reader never wonders what a
-definition is there for. The last line is 'definitions: N passed, M failed'. With --print the rows of the page's table
-are printed.
+It starts from the names that these contracts cite and follows the definitions in crates/*/specs from one to the next,
+however a name is brought in: by itself, under another name, or with its module before it. An import that it can't
+follow fails. The page has to tell
+
+- each file that is reached with its number of lines, and their sum; comments, blank lines and imports don't count;
+- what these definitions rest on in turn: the names of the standard library, the constants with their values, the types
+  of the code with their numbers of lines, and what each stream says of its bytes;
+- each definition that it quotes as it stands in the specs, whole.
+
+A file that is reached has to hold nothing else, so that its reader never wonders what a definition is there for. The
+last line is 'definitions: N passed, M failed'. With --print the tables of the page are printed.
 
     python3 scripts/definitions.py [--print]
 """
@@ -23,48 +29,81 @@ STARTS = [
     ("crates/flow_tools/src/streams.rt", "pub trait Output", "\n}"),
 ]
 
-# A name: a run of characters between blanks and brackets.
-WORD = re.compile(r"[^\s(){}\[\];:,.]+")
-USE = re.compile(r"^(?:ghost )?(?:pub )?use Rattle\.(\w+)\.specs\.([\w.]+)\.\{([^}]*)\};?$")
+# A name, with what stands before and behind its dots: a run of characters between blanks and brackets.
+WORD = re.compile(r"[^\s(){}\[\];:,]+")
+USE = re.compile(r"^(?:pub )?use ([^\s{};]+?)(?:\.\{([^}]*)\})?(?: as ([^\s;]+))?;?[ \t]*$", re.M)
 HEAD = re.compile(r"^(?:abbrev |unfoldable )?(?:pub )?(?:record |data )?([^\s({:]+)")
+OPENS = re.compile(r"^(?:open|module|mutual|infix\w*|ruleset|axiom)\b", re.M)
 
 
-def module_of(crate, dotted):
-    """The file of a module of specs/, or none where it isn't one of this repository's."""
-    path = ROOT / "crates" / crate / "specs" / (dotted.replace(".", "/") + ".antt")
-    return path if path.is_file() else None
+class Outside(str):
+    """A name that isn't defined in specs/: of the standard library, a constant, or a type of the code."""
 
 
-def imports(text):
-    """What each imported name stands for: a file of specs/ and the name there."""
-    names = {}
-    for line in text.splitlines():
-        match = USE.match(line.strip())
-        path = module_of(match[1], match[2]) if match else None
-        if path is None:
+def fail(what):
+    raise SystemExit(f"definitions: {what}")
+
+
+def target(path, name):
+    """What a name of a module stands for: a file of specs/ and the name there, or a name from outside."""
+    parts = path.split(".")
+    if parts[0] == "Prim":
+        return Outside(f"{path}.{name}")
+    if parts[0] == "Rattle" and len(parts) > 2 and not (ROOT / "crates" / parts[1]).is_dir():
+        return Outside(f"{path}.{name}")
+    if parts[0] == "Rattle" and parts[2:4] == ["specs", "declared"]:
+        return Outside(f"{path}.{name}")
+    file = ROOT.joinpath("crates", *parts[1:2], *parts[2:]).with_suffix(".antt")
+    if parts[0] != "Rattle" or parts[2:3] != ["specs"] or not file.is_file():
+        fail(f"the name {name} of {path} can't be followed")
+    return file, name
+
+
+def imports(text, where):
+    """What each imported name stands for, and the modules that are imported whole."""
+    names, modules, seen = {}, {}, 0
+    for match in USE.finditer(text):
+        path, items, other = match.groups()
+        seen += 1
+        if items is None:
+            modules[other or path.split(".")[-1]] = path
             continue
-        for item in match[3].split(","):
-            there, _, here = item.strip().partition(" as ")
-            names[here or there] = (path, there)
-    return names
+        for item in filter(None, (item.strip() for item in items.split(","))):
+            there, _, here = item.partition(" as ")
+            names[here.strip() or there.strip()] = (path, there.strip())
+    if seen != len(re.findall(r"^(?:pub )?use\b", text, re.M)) or OPENS.search(text):
+        fail(f"{where} has an import or a section that can't be followed")
+    return names, modules
 
 
-def blocks(path):
+def blocks(text):
     """The definitions of a file: the name of each, and its lines without comments and blank lines."""
-    found = {}
-    name = None
-    for line in path.read_text().splitlines():
+    found, name = {}, None
+    for line in USE.sub("", text).splitlines():
         bare = line.split("--")[0].rstrip()
-        if bare == "}":
-            found[name].append(bare)
+        if not bare or bare.startswith(("pub mod ", "mod ", "unfolding ")):
             continue
-        if not bare or USE.match(bare) or bare.startswith(("use ", "pub mod ", "mod ", "unfolding ")):
-            continue
-        if not line.startswith(" "):
-            head = HEAD.match(bare)[1]
-            name = head
-            found.setdefault(name, [])
-        found[name].append(bare)
+        if not line.startswith((" ", "}")):
+            name = HEAD.match(bare)[1]
+        found.setdefault(name, []).append(bare)
+    return found
+
+
+def cited(text, names, modules):
+    """What the words of a text stand for: pairs of a module's path and a name."""
+    found = set()
+    words = {word for word in WORD.findall(text)} | ({"[]"} if "[]" in text else set())
+    for word in words:
+        parts = word.split(".")
+        if parts[0] in modules and len(parts) > 1:
+            found.add((modules[parts[0]], parts[1]))
+        elif parts[0] == "Rattle":
+            fail(f"{word} can't be followed")
+        found |= {names[part] for part in parts if part in names}
+    for name, there in names.items():
+        pieces = [piece for piece in name.split("◌") if piece]
+        if "◌" in name and all(piece in words for piece in pieces):
+            found.add(there)
     return found
 
 
@@ -76,73 +115,168 @@ class Specs:
 
     def of(self, path):
         if path not in self.files:
-            self.files[path] = (blocks(path), imports(path.read_text()))
+            text = path.read_text()
+            self.files[path] = (blocks(text), *imports(text, path.relative_to(ROOT)))
         return self.files[path]
 
-    def resolve(self, path, name):
-        """Where a name of a file is defined."""
-        defined, imported = self.of(path)
-        if name in defined:
-            return path, name
-        return imported.get(name)
-
     def reached(self, starts):
-        """All that these definitions cite, and they themselves."""
-        todo, seen = list(starts), set()
+        """All that these names cite, and they themselves: those defined in specs/, and those from outside."""
+        todo, seen, outside = list(starts), set(), set()
         while todo:
-            path, name = todo.pop()
-            if (path, name) in seen:
+            there = todo.pop()
+            if isinstance(there, Outside):
+                outside.add(there)
                 continue
-            defined, _ = self.of(path)
+            if there in seen:
+                continue
+            seen.add(there)
+            path, name = there
+            defined, names, modules = self.of(path)
             if name not in defined:
-                raise SystemExit(f"definitions: {path.relative_to(ROOT)} has no {name}")
-            seen.add((path, name))
-            for word in set(WORD.findall("\n".join(defined[name]))):
-                there = self.resolve(path, word)
-                if there and there != (path, name):
-                    todo.append(there)
-        return seen
+                fail(f"{path.relative_to(ROOT)} has no {name}")
+            text = "\n".join(defined[name])
+            todo += [target(*pair) for pair in cited(text, names, modules)]
+            todo += [(path, part) for word in WORD.findall(text) for part in word.split(".") if part in defined]
+        return seen, outside
 
 
 def starts():
-    """The definitions that the contracts of `run` and of the streams cite."""
-    found = set()
+    """What the contracts of `run` and of the streams cite."""
+    found = []
     for file, begin, end in STARTS:
         text = (ROOT / file).read_text()
-        names = imports(text)
         at = text.index(begin)
         contract = text[at : text.index(end, at)]
-        contract = "\n".join(line for line in contract.splitlines() if not line.strip().startswith("///"))
-        found |= {names[word] for word in WORD.findall(contract) if word in names}
+        contract = "\n".join(line for line in contract.splitlines() if not line.strip().startswith("//"))
+        ghost = "\n".join(re.findall(r"^ghost (use [^;]*);", text, re.M))
+        found += [target(*pair) for pair in cited(contract, *imports(ghost, file))]
     return found
 
 
-def page_counts():
-    """The files and their numbers of lines that the page tells."""
-    return {match[1]: int(match[2]) for match in re.finditer(r"^\| `(crates/\S+\.antt)` \| (\d+) \|", PAGE.read_text(), re.M)}
+def source_of(path):
+    """The file of the code in which a declared module stands, and the crate."""
+    parts = path.split(".")
+    base = ROOT / "crates" / parts[1] / "src"
+    modules = parts[4:]
+    for count in range(len(modules), -1, -1):
+        file = base.joinpath(*modules[:count]).with_suffix(".rt") if count else base / "lib.rt"
+        if file.is_file():
+            return file
+    return fail(f"{path} isn't a module of the code")
+
+
+def rows(counts, outside):
+    """The rows of the page's tables."""
+    table = [f"| `{name}` | {lines} |" for name, lines in counts.items()]
+    library, constants, types = {}, {}, {}
+    for name in sorted(outside):
+        path, _, last = name.rpartition(".")
+        parts = path.split(".")
+        if parts[2:4] != ["specs", "declared"] or not (ROOT / "crates" / parts[1]).is_dir():
+            library.setdefault(path, []).append(last)
+        elif parts[-1] == "TheConstants":
+            value = re.search(rf"^pub const {last}: (.*);$", source_of(path).read_text(), re.M)
+            constants[last] = (value or fail(f"{last} isn't a constant"))[1]
+        else:
+            kind = parts[-2] if parts[-1] == "TheVariants" else last
+            file = source_of(path)
+            text = re.search(rf"^pub (?:struct|enum) {kind} .*?^}}$", file.read_text(), re.M | re.S)
+            lines = (text or fail(f"{kind} isn't a type of {file}"))[0].splitlines()
+            lines = [line for line in lines if line.strip() and not line.strip().startswith(("//", "#["))]
+            types[f"| `{kind}` of `{file.relative_to(ROOT)}` | {len(lines)} |"] = len(lines)
+    table += [f"- `{path}`: {' '.join(f'`{name}`' for name in names)}" for path, names in sorted(library.items())]
+    table += [f"| `{name}` | `{value}` |" for name, value in sorted(constants.items())]
+    table += sorted(types)
+    return table, library, constants, types
+
+
+def streams():
+    """What each stream of the crates says of its bytes and its bound, and of which type."""
+    found = []
+    for file in sorted(ROOT.glob("crates/*/src/**/*.rt")):
+        of = None
+        for line in file.read_text().splitlines():
+            of = line.rstrip(" {") if line.startswith("impl") else of
+            if re.match(r" +ghost (state|bound) =", line):
+                found.append(f"{of}: {line.strip().rstrip(';')}")
+    return found
+
+
+def squeezed(text):
+    return " ".join(text.split())
+
+
+def clauses(lines):
+    """The clauses of a definition as the page quotes them: without its types, but for those of a record's fields."""
+    if re.match(r"^(pub )?record ", lines[0]):
+        head, _, fields = squeezed(" ".join(lines)).partition(" where ")
+        name = HEAD.match(head)[1]
+        binders = re.findall(r"\(([^:()]+) :", head[head.index(name) + len(name) :])
+        fields = re.sub(r"\bpub ", "", fields)
+        return [squeezed(f"record {' '.join([name, *binders])} where {fields}")]
+    parts = []
+    for line in lines:
+        if line.startswith((" ", "}")):
+            parts[-1] += " " + line
+        else:
+            parts.append(line)
+    return [squeezed(part) for part in parts[1:]]
+
+
+def quotes():
+    """The definitions that the page quotes: the name of each and its clauses."""
+    parts, before = [], ""
+    for line in PAGE.read_text().splitlines():
+        bare = line.split("--")[0].rstrip()
+        if re.match(r" {4}\S", line):
+            parts.append(bare)
+        elif re.match(r" {5}", line) and before.startswith("    "):
+            parts[-1] += " " + bare
+        before = line
+    found = {}
+    for part in parts:
+        part = squeezed(part)
+        found.setdefault(part.split()[part.startswith("record ")], []).append(part)
+    return found
 
 
 def main():
     specs = Specs()
-    reached = specs.reached(starts())
+    reached, outside = specs.reached(starts())
     counts, others = {}, {}
     for path in sorted({path for path, _ in reached}):
-        defined, _ = specs.of(path)
+        defined = specs.of(path)[0]
         name = str(path.relative_to(ROOT))
         counts[name] = sum(len(defined[item]) for other, item in reached if other == path)
         others[name] = [item for item in defined if (path, item) not in reached]
+    table, library, constants, types = rows(counts, outside)
     if "--print" in sys.argv:
-        for name, lines in counts.items():
-            print(f"| `{name}` | {lines} |")
-    told = page_counts()
-    sentence = f"{sum(counts.values())} lines in {len(counts)} files"
-    tests = {f"the page says '{sentence}'": sentence in PAGE.read_text()}
-    for name in sorted(set(counts) | set(told)):
-        tests[f"{name}: {counts.get(name)} lines are reached, and the page tells {told.get(name)}"] = (
-            counts.get(name) == told.get(name)
-        )
+        print("\n".join(table + streams()))
+    page = PAGE.read_text()
+    sentences = [
+        f"{sum(counts.values())} lines in {len(counts)} files",
+        f"{sum(map(len, library.values()))} names of the standard library",
+        f"{len(constants)} constants",
+        f"{len(types)} types of {sum(types.values())} lines",
+    ]
+    tests = {f"the page says '{sentence}'": sentence in page for sentence in sentences}
+    told = re.findall(r"^\| `.* \|$|^- `(?:Rattle|Prim)\..*$", page[page.index("## How much it is") :], re.M)
+    for row in sorted({*table, *told}):
+        tests[f"'{row}' is a row of the page, and true"] = row in table and row in told
+    said = re.findall(r"^- `(impl.*)`$", page, re.M)
+    for line in sorted({*streams(), *said}):
+        tests[f"'{line}' stands on the page, and in the code"] = line in streams() and line in said
     for name, rest in others.items():
         tests[f"{name} holds what the contracts reach and nothing else, but also has {', '.join(rest)}"] = not rest
+    every = {}
+    for path in sorted(ROOT.glob("crates/*/specs/**/*.antt")):
+        for name, lines in blocks(path.read_text()).items():
+            every.setdefault(name, []).append((path, clauses(lines)))
+    for name, quoted in quotes().items():
+        found = [text for path, text in every.get(name, []) if (path, name) in reached] or [
+            text for _, text in every.get(name, [])
+        ]
+        tests[f"the page quotes {name} as it stands in the specs"] = found == [quoted]
     for test, holds in tests.items():
         if not holds:
             print(f"not so: {test}")

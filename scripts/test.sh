@@ -4,7 +4,9 @@ set -u
 cd "$(dirname "$0")/.."
 
 # A proof by hand could claim any count of steps, so there is one place for such proofs: the counter itself.
-stray=$(find . -name Proof.antt -not -path './.git/*' -not -path '*/out/*' -not -path './crates/flow_net/proofs/tables/steps/*')
+# What the build makes, crates/NAME/out, isn't searched.
+stray=$(find . -regex '\./\(\.git\|crates/[^/]*/out\)' -prune -o -name Proof.antt -print \
+  | grep -v '^\./crates/flow_net/proofs/tables/steps/')
 if [ -n "$stray" ]; then
   printf 'a proof by hand outside the step counter:\n%s\n' "$stray" >&2
   exit 1
@@ -39,6 +41,9 @@ add() {
 [ -x crates/flow/out/flow ] || (cd crates/flow && rt run -- solve --value < stdin > /dev/null) || exit 1
 [ -x crates/growths/out/growths ] || (cd crates/growths && rt run < stdin > /dev/null) || exit 1
 add hostile python3 scripts/hostile.py crates/flow/out/flow crates/growths/out/growths
+
+# What the built program answers, against a second reading of the definitions.
+add independent python3 scripts/independent.py crates/flow/out/flow
 
 # The page of definitions tells what the contracts of `run` and of the streams reach.
 add definitions python3 scripts/definitions.py

@@ -1,5 +1,7 @@
 //! Streams over std's readers and writers.
-ghost use Rattle.std.specs.Prelude.{◌≡◌, ◌^◌, ◌-◌, false};
+ghost use Rattle.std.specs.Prelude.{◌≡◌, ◌≤◌, ◌<◌, ◌^◌, ◌-◌, false, length, IfOk};
+ghost use Rattle.std.specs.Io.KnownBytes.{ReadConsumes, WriteAppends};
+ghost use Rattle.flow_tools.specs.Streams.{Flags};
 
 use crate::streams::{Failed, Input, Output};
 use std::io::{Read, Write};
@@ -50,7 +52,12 @@ impl<T: Read> Input for Counted<T> {
 
     ghost bound = { λ s. s.pulls };
 
-    fn pull(&mut self, buf: &mut [u8; 4096]) -> Result<usize, Failed> {
+    fn pull(&mut self, buf: &mut [u8; 4096]) -> Result<usize, Failed>
+        ensures fits { IfOk result (λ n. n ≤ 4096) }
+        ensures bytes { ReadConsumes (T.remaining self.old.inner) (T.remaining self.new.inner) result buf.new }
+        ensures falls { IfOk result (λ n. 0 < n → self.new.pulls < self.old.pulls) }
+        ensures flag { Flags self.old.failed self.new.failed result }
+    {
         if self.pulls == 0 {
             self.failed = true;
             return Err(Failed);
@@ -67,7 +74,10 @@ impl<T: Read> Input for Counted<T> {
         }
     }
 
-    fn failed(&self) -> bool {
+    fn failed(&self) -> bool
+        ensures flag { result ≡ self.now.failed }
+        ensures tells { (⟦<Counted<T> as Input>⟧.state self.now).bytes ≡ T.remaining self.now.inner }
+    {
         self.failed
     }
 }
@@ -75,7 +85,12 @@ impl<T: Read> Input for Counted<T> {
 impl<T: Write> Output for Counted<T> {
     ghost state = { λ s. record { bytes = T.contents s.inner; failed = s.failed } };
 
-    fn put(&mut self, bytes: &[u8]) -> Result<usize, Failed> {
+    fn put(&mut self, bytes: &[u8]) -> Result<usize, Failed>
+        ensures fits { IfOk result (λ n. n ≤ length bytes.now) }
+        ensures some { IfOk result (λ n. 0 < length bytes.now → 0 < n) }
+        ensures bytes { WriteAppends (T.contents self.old.inner) (T.contents self.new.inner) result bytes.now }
+        ensures flag { Flags self.old.failed self.new.failed result }
+    {
         match self.inner.write(bytes) {
             Ok(count) if count > 0 || bytes.is_empty() => Ok(count),
             _ => {
@@ -85,7 +100,10 @@ impl<T: Write> Output for Counted<T> {
         }
     }
 
-    fn failed(&self) -> bool {
+    fn failed(&self) -> bool
+        ensures flag { result ≡ self.now.failed }
+        ensures tells { (⟦<Counted<T> as Output>⟧.state self.now).bytes ≡ T.contents self.now.inner }
+    {
         self.failed
     }
 }

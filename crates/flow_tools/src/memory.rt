@@ -100,7 +100,10 @@ impl Input for Script<'_> {
         Ok(count)
     }
 
-    fn failed(&self) -> bool {
+    fn failed(&self) -> bool
+        ensures flag { result ≡ self.now.failed }
+        ensures tells { (⟦<Script<'static> as Input>⟧.state self.now).bytes ≡ Some self.now.rest.now }
+    {
         self.failed
     }
 }
@@ -172,7 +175,10 @@ impl<const N: usize> Output for Collector<N> {
         Ok(count)
     }
 
-    fn failed(&self) -> bool {
+    fn failed(&self) -> bool
+        ensures flag { result ≡ self.now.failed }
+        ensures tells { (⟦<Collector<N> as Output>⟧.state self.now).bytes ≡ Some self.now.bytes.items }
+    {
         self.failed
     }
 }

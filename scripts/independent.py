@@ -1,0 +1,250 @@
+#!/usr/bin/env python3
+"""A second reading of docs/DEFINITIONS.md, in plain Python, held against the built program.
+
+    python3 scripts/independent.py FLOW [PROBLEMS [SEED]]
+
+On small networks it goes over all sets of nodes, as the definitions do; on larger ones a printed flow and a cut of its
+value show each other greatest and least. So many generated PROBLEMS are tried (1,000), half of them mutated, and two
+solutions of each. The last line is 'independent: N passed, M failed'.
+"""
+import random
+import subprocess
+import sys
+import tempfile
+from collections import Counter
+from concurrent.futures import ThreadPoolExecutor
+from pathlib import Path
+
+SMALL, CAP, VALUE = 9, 2**64 - 1, 4000000 * (2**64 - 1)
+NUMBERS = [0, 2, 9, 200, 10**6, 10**6 + 1, 4 * 10**6 + 1, CAP, CAP + 1, VALUE, VALUE + 1, 10**30]
+LINES = [b"c note", b" \t\r", b" c", b"p max 2 0", b"p min 2 0", b"n 1 s", b"n 1 1", b"s 1", b"f 1 2 1", b"a 1 1 5",
+         b"c" + b"y" * 300, b" " * 200, b" " * 201, b"a 1 2 " + b"0" * 190 + b"1", b"a 1 2"]
+JOBS = [["solve"], ["solve", "--value"], ["cut"], ["cut", "--arcs"], ["cut", "--arcs", "--sink"], ["connect"],
+        ["connect", "--undirected"], ["connect", "--pair"], ["connect", "--pair", "--undirected"]]
+
+
+def fail_if(fails, number, what):
+    if fails:
+        raise ValueError("line %d: %s\n" % (number, what))
+
+
+def records(text):
+    """The lines that count: the number of each, and its fields; then the number of the line after the last."""
+    lines = text.split(b"\n")
+    lines = lines if lines[-1] else lines[:-1]
+    for number, line in enumerate(lines, 1):
+        fail_if(line[:1] != b"c" and len(line) > 200, number, "line too long")
+        fields = [field for field in line.replace(b"\t", b" ").replace(b"\r", b" ").split(b" ") if field]
+        if fields and line[:1] != b"c":
+            yield number, fields
+    yield len(lines) + 1, [b""]
+
+
+def number_of(field, least, most, number, what):
+    fail_if(any(byte not in b"0123456789" for byte in field), number, "bad number")
+    fail_if(not least <= int(field) <= most, number, what)
+    return int(field)
+
+
+def ends(fields, nodes, number, what):
+    """SRC, DST and a number of 64 bits."""
+    fail_if(len(fields) != 4, number, "wrong number of fields")
+    src, dst = [number_of(field, 1, nodes, number, "node out of range") for field in fields[1:3]]
+    return src, dst, number_of(fields[3], 0, CAP, number, what)
+
+
+def read_problem(text):
+    """NODES, the arcs, the sources and the sinks."""
+    size, arcs, sources, sinks = None, [], set(), set()
+    for number, fields in records(text):
+        fail_if(fields[0] not in (b"p", b"n", b"a", b""), number, "unknown line")
+        if fields[0] == b"p":
+            fail_if(size, number, "second problem line")
+            fail_if(len(fields) != 4, number, "wrong number of fields")
+            fail_if(fields[1] != b"max", number, "problem is not max")
+            size = (number_of(fields[2], 2, 10**6, number, "number of nodes out of range"),
+                    number_of(fields[3], 0, 4 * 10**6, number, "number of arcs out of range"))
+            continue
+        fail_if(not size, number, "problem line missing")
+        if fields[0] == b"n":
+            fail_if(arcs, number, "node line after an arc line")
+            fail_if(len(fields) != 3, number, "wrong number of fields")
+            node = number_of(fields[1], 1, size[0], number, "node out of range")
+            fail_if(fields[2] not in (b"s", b"t"), number, "terminal must be s or t")
+            fail_if(node in sources | sinks, number, "node is already a terminal")
+            (sources if fields[2] == b"s" else sinks).add(node)
+            continue
+        fail_if(not sources or not sinks, number, "terminals missing")
+        if fields[0] == b"a":
+            fail_if(len(arcs) >= size[1], number, "too many arcs")
+            arcs.append(ends(fields, size[0], number, "capacity out of range"))
+    fail_if(len(arcs) < size[1], number, "too few arcs")
+    return size[0], arcs, sources, sinks
+
+
+def read_solution(text, nodes):
+    """VALUE and the flow lines."""
+    value, lines = None, []
+    for number, fields in records(text):
+        if fields[0] == b"s":
+            fail_if(value is not None, number, "second solution line")
+            fail_if(len(fields) != 2, number, "wrong number of fields")
+            value = number_of(fields[1], 0, VALUE, number, "value out of range")
+        else:
+            fail_if(fields[0] not in (b"f", b""), number, "unknown line")
+            fail_if(value is None, number, "solution line missing")
+            lines += [ends(fields, nodes, number, "flow out of range")] if fields[0] else []
+    return value, lines
+
+
+def leaving(arcs, X):
+    return [arc for arc in arcs if arc[0] in X and arc[1] not in X]
+
+
+def least(nodes, arcs, is_kind):
+    """The least capacity of the sets of a kind, and those that have it."""
+    sets = [{v for v in range(1, nodes + 1) if code >> v & 1} for code in range(0, 2 << nodes, 2)]
+    caps = [(sum(cap for *_, cap in leaving(arcs, X)), X) for X in sets if is_kind(X)]
+    cap = min(cap for cap, _ in caps)
+    return cap, [X for other, X in caps if other == cap]
+
+
+def reached(arcs, flows, starts):
+    """What the residual network reaches from these nodes."""
+    near, seen, todo = {}, set(starts), list(starts)
+    for (u, v, cap), flow in zip(arcs, flows):
+        near.setdefault(u, set()).update([v] * (flow < cap))
+        near.setdefault(v, set()).update([u] * (flow > 0))
+    for u in todo:
+        todo += near.get(u, seen) - seen
+        seen |= near.get(u, seen)
+    return seen
+
+
+def cuts(problem, flows):
+    """The source sides of the minimum cuts nearest the sources and nearest the sinks."""
+    nodes, arcs, sources, sinks = problem
+    if nodes > SMALL:
+        back = reached([(v, u, cap) for u, v, cap in arcs], flows, sinks)
+        return reached(arcs, flows, sources), set(range(1, nodes + 1)) - back
+    minimum = least(nodes, arcs, lambda X: sources <= X and not sinks & X)[1]
+    return set.intersection(*minimum), set.union(*minimum)
+
+
+def connectivity(problem, undirected, pair):
+    """The least number of arcs that leave a set, or have exactly one end in it."""
+    nodes, arcs, sources, sinks = problem
+    arcs = [(u, v, 1) for u, v, _ in arcs] + [(v, u, 1) for u, v, _ in arcs if undirected]
+    if nodes > SMALL:
+        return int(run(["solve", "--value"], text_of(nodes, arcs, sources, sinks))[1][0][2:])
+    return least(nodes, arcs, lambda X: sources <= X and not sinks & X if pair else 0 < len(X) < nodes)[0]
+
+
+def verdict(problem, value, lines, greatest, feasible_only):
+    """The first verdict that applies, and the status."""
+    _, arcs, sources, sinks = problem
+    flow, cap, into, out = Counter(), Counter(), Counter(), Counter()
+    for src, dst, amount in lines:
+        flow[src, dst] += amount
+        out[src] += amount
+        into[dst] += amount
+    for src, dst, amount in arcs:
+        cap[src, dst] += amount
+    found = sum(out[v] - into[v] for v in sources)
+    no = [f"over {u} {v} {flow[u, v]} {cap[u, v]}" for u, v in sorted(flow) if flow[u, v] > cap[u, v]]
+    no += [f"unbalanced {v} {into[v]} {out[v]}" for v in sorted({*into, *out} - sources - sinks) if into[v] != out[v]]
+    no += [f"value {value} {found}"] * (value != found)
+    no += [f"not-maximal {value}"] * (value < greatest and not feasible_only)
+    return (no + [f"feasible {value}" if feasible_only else f"optimal {value}"])[0], int(bool(no))
+
+
+def text_of(nodes, arcs, sources, sinks):
+    lines = [f"p max {nodes} {len(arcs)}"] + [f"n {v} s" for v in sources] + [f"n {v} t" for v in sinks]
+    return "".join(line + "\n" for line in lines + [f"a {u} {v} {cap}" for u, v, cap in arcs]).encode()
+
+
+def generated(rng):
+    """A problem's text: with parallel arcs, opposite arcs and self-loops, mutated in half of the cases."""
+    nodes = rng.randrange(2, SMALL - 1) if rng.randrange(10) else rng.randrange(SMALL, 60)
+    order = rng.sample(range(1, nodes + 1), nodes)
+    first, most, pick = rng.randrange(1, nodes), rng.choice([1, 3, 100, CAP]), lambda: rng.randrange(1, nodes + 1)
+    arcs = [(pick(), pick(), rng.randrange(most + 1)) for _ in range(rng.randrange(3 * nodes))]
+    text = text_of(nodes, arcs, order[: min(first, 4)], order[first:][: rng.randrange(1, 5)])
+    return mutated(rng, text) if rng.randrange(2) else text
+
+
+def mutated(rng, text):
+    """A text with some lines changed, and sometimes cut off."""
+    lines = text.split(b"\n")
+    for _ in range(rng.choice([1, 1, 2, 4])):
+        at, kind = min(rng.choices(range(len(lines)), k=2)), rng.randrange(6)
+        fields = lines[at].split(b" ")
+        if kind == 0:
+            lines.insert(at, rng.choice(LINES + lines))
+        elif kind == 1:
+            lines.append(lines.pop(at))
+        elif kind == 2:
+            lines[at] = rng.choice([b"\t", b"  ", b" \r", b"\x0b"]).join(fields) + rng.choice([b"", b"\r", b" 1"])
+        else:
+            number = b"%d" % rng.choice(NUMBERS + [rng.randrange(10)] * 20)
+            fields[min(rng.randrange(6), len(fields) - 1)] = rng.choice([number] * 20 + [b"-1", b"1x", b"s", b"00" + number])
+            lines[at] = b" ".join(fields)
+    text = b"\n".join(lines)
+    return text[: rng.randrange(len(text) + 1)] if rng.randrange(8) == 0 else text
+
+
+def run(words, stdin):
+    done = subprocess.run([sys.argv[1], *words], input=stdin, capture_output=True, timeout=60)
+    return done.returncode, done.stdout.decode().split("\n"), done.stderr.decode()
+
+
+def answer(problem, words, flows):
+    """What a job prints, where `solve` prints these flows."""
+    if words[0] == "connect":
+        return [f"k {connectivity(problem, '--undirected' in words, '--pair' in words)}"]
+    arcs, sides = problem[1], cuts(problem, flows)
+    lines = [f"s {sum(cap for *_, cap in leaving(arcs, sides[0]))}"]
+    if words[0] == "solve":
+        return lines + [f"f {u} {v} {flow}" for (u, v, _), flow in zip(arcs, flows) if "--value" not in words]
+    lines += [f"n {v}" for v in sorted(sides["--sink" in words])]
+    return lines + [f"a {u} {v} {cap}" for u, v, cap in leaving(arcs, sides["--sink" in words]) if "--arcs" in words]
+
+
+def try_one(seed):
+    """One problem by all jobs, and two solutions of it: how many answers there were, and those that are wrong."""
+    text = generated(rng := random.Random(seed))
+    solved = run(["solve"], text)
+    try:
+        problem = read_problem(text)
+    except ValueError as fault:
+        given = run(rng.choice(JOBS), text)
+        return 2, [(text, given)] * (given != solved) + [(text, solved)] * (solved != (3, [""], f"flow: {fault}"))
+    value, written = read_solution("\n".join(solved[1]).encode(), problem[0])
+    flows = [flow for _, _, flow in written]
+    fits = all(flow <= cap * (u != v) for flow, (u, v, cap) in zip(flows, problem[1]))
+    wrong = [(text, solved)] * (not fits or verdict(problem, value, written, value, False)[1])
+    jobs = JOBS if problem[0] <= SMALL else [words for words in JOBS if words[0] != "connect" or "--pair" in words]
+    for words in jobs:
+        wrong += [(text, words)] * (run(words, text) != (0, [*answer(problem, words, flows), ""], ""))
+    Path(FOLDER, str(seed)).write_bytes(text)
+    for feasible_only in (False, True):
+        lines = "\n".join(solved[1][:1] + rng.sample(solved[1][1:], len(flows) + 1)).encode()
+        solution = mutated(rng, lines) if rng.randrange(4) else b"s 0\nf 1 1 0"
+        try:
+            line, status = verdict(problem, *read_solution(solution, problem[0]), value, feasible_only)
+            wanted = status, [line, ""], ""
+        except ValueError as fault:
+            wanted = 3, [""], f"flow: solution {fault}"
+        given = run(["check", *["--feasible"] * feasible_only, f"{FOLDER}/{seed}"], solution)
+        wrong += [(text, solution, given)] * (given != wanted)
+    return len(jobs) + 3, wrong
+
+
+if __name__ == "__main__":
+    problems, seed = (int(word) for word in (sys.argv[2:] + ["1000", "1956"][len(sys.argv) - 2 :]))
+    with tempfile.TemporaryDirectory() as FOLDER, ThreadPoolExecutor() as pool:
+        done = list(pool.map(try_one, range(seed, seed + problems)))
+    failed = [wrong for _, each in done for wrong in each]
+    print(*(f"failed: {wrong}\n" for wrong in failed), sep="", end="")
+    print(f"independent: {sum(count for count, _ in done) - len(failed)} passed, {len(failed)} failed")
+    sys.exit(1 if failed else 0)

@@ -12,3 +12,5 @@ pub mod MaxFlows
 pub mod Connections
 pub mod Upgrades
 pub mod GrowthLemmas
+pub mod Arrangements
+pub mod ArrangementLaws

@@ -13,3 +13,4 @@ pub mod Residual
 pub mod Paths
 pub mod Laws
 pub mod Orders
+pub mod Arrangements

@@ -1,5 +1,6 @@
 //! The laws of maximum flows and minimum cuts. Each is the contract of a function that computes nothing.
 ghost use Rattle.flow_net.specs.Orders.{ConnectivityByGrowth, SameEitherWay};
+ghost use Rattle.flow_net.specs.Arrangements.{SameArranged};
 ghost use Rattle.flow_net.specs.Laws.{WeakDuality, ClosedCut, MaxFlowMinCut, LeastSourceSide, LeastSinkSide, AugmentingPath, PairByFlow, ConnectivityByPairs, UndirectedByBothWays, SingleUpgrade};
 
 /// No feasible flow's value passes a cut's capacity (Ford and Fulkerson 1956).
@@ -63,4 +64,12 @@ pub fn undirected_by_both_ways()
 /// the sinks.
 pub fn single_upgrade()
     ensures { SingleUpgrade }
+{}
+
+/// A network whose nodes are renamed by a one-to-one naming and whose arcs stand in another order keeps the limits, its
+/// terminals and its greatest value. A flow carried over is feasible where it was, with the same value, and each flow
+/// is one that is carried over. Minimum cuts, the least source side and the least sink side are the same under the new
+/// names.
+pub fn same_arranged()
+    ensures { SameArranged }
 {}

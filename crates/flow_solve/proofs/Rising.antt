@@ -52,13 +52,7 @@ rising_end net level xs path d w i l =
 pub one_of-place : (ws : List ℕ) (k v : ℕ) → k < length ws → get_or ws k 0 ≡ v → IsTrue (one_of ws v)
 one_of-place ws k v l e = subst (λ z. IsTrue (one_of ws z)) e (one_of-at ws k l)
 
--- its half-arcs are of the network, of different arcs, and so much remains on each
-pub augmenting_halves : (net : Net) (s t xs path : List ℕ) (d : ℕ) → IsAugmenting net s t xs path d
-    → All (λ h. h < 2 * length net.arcs) path
-augmenting_halves net s t xs path d a =
-    All-from_recursion (λ h. h < 2 * length net.arcs) path
-    (all_whole (λ h. h < 2 * length net.arcs) path (λ i l. halves_at net a.source a.sink path i a.rising.leads l))
-
+-- its half-arcs are of different arcs, and so much remains on each
 pub augmenting_apart : (net : Net) (s t xs path : List ℕ) (d : ℕ) → IsAugmenting net s t xs path d → IsApart path
 augmenting_apart net s t xs path d a = climbs_apart net a.level a.source a.sink path a.rising.leads a.rising.rises
 

@@ -14,11 +14,6 @@ pub record IsTask (task : Task) : Type 0 where
   pub packed : IsPacked task.packed.net.now task.packed.first.now task.packed.halves.now
   pub terminals : AreTerminals task.packed.net.now task.s.now task.t.now
 
--- one of its sources
-pub record IsSource (task : Task) (v : ℕ) : Type 0 where
-  pub one : IsTrue (one_of task.s.now v)
-  pub node : IsNode task.packed.net.now v
-
 -- a flow from its sources to its sinks, of so great a value
 abbrev pub HasFlow : Task → List ℕ → ℕ → Type 0
 HasFlow task xs k = IsFlow task.packed.net.now task.s.now task.t.now xs k

@@ -9,32 +9,33 @@
 //!    by another node a level nearer to the root, or else raised to a farther level, with its children as orphans in
 //!    turn, or set free. So no search begins anew. That serves where the first paths are short and most of a tree
 //!    outlives a push: images, assignments, closures.
-//! 2. **Waves that lift** (`waves`, `settling`), where the trees had to end before a frontier of theirs ran out. All that can leave the sources
-//!    does, and each node sends what it has received, its *excess*, on to nodes that a search has found a level nearer
-//!    to the sinks, the farthest level first (after Karzanov 1974). A node that is stuck is *lifted* to one more than
-//!    the nearest level that it leads to, which is the relabelling of Goldberg and Tarjan (1988); the level that is left
-//!    empty by that bounds the wave, and searches are made anew from time to time (Cherkassky and Goldberg 1997). In the
-//!    end what no sink takes goes home by waves to the sources, and the table is settled: it stays if a feasible flow
-//!    stands there, and is cleared otherwise. So thousands of paths that share most of their half-arcs cost one search
-//!    and one sweep. That serves where ways are long: roads, frames, layers.
+//! 2. **Waves that lift** (`waves`, `settling`), where the trees had to end before a frontier of theirs ran out. All
+//!    that can leave the sources does, and each node sends what it has received, its *excess*, on to nodes that a
+//!    search has found a level nearer to the sinks, the farthest level first (after Karzanov 1974). A node that is
+//!    stuck is *lifted* to one more than the nearest level that it leads to, which is the relabelling of Goldberg and
+//!    Tarjan (1988); a level that is left empty by that bounds the wave, and searches are made anew from time to time
+//!    (Cherkassky and Goldberg 1997). In the end what no sink takes goes home by waves to the sources, and the table is
+//!    settled: it stays if a feasible flow stands there, and is cleared otherwise. So thousands of paths that share
+//!    most of their half-arcs cost one search and one sweep. That serves where ways are long: roads, frames, layers.
 //! 3. **Phases** (`phases`, `walking`). A search backwards from the sinks ranks the nodes, walks from the sources along
-//!    falling ranks block all shortest paths, and the distance from the sources to the sinks grows by each phase (Dinitz
-//!    1970). They go on from whatever feasible flow they find, and their last search, which sees no source, shows that
-//!    the flow is greatest. Mostly that is their only one.
+//!    falling ranks block all shortest paths, and the distance from the sources to the sinks grows by each phase
+//!    (Dinitz 1970). They go on from whatever feasible flow they find, and their last search, which sees no source,
+//!    shows that the flow is greatest. Mostly that is their only one.
 //!
-//! Nodes with excess are lifted, and yet this is no push-relabel method: that is a stage, which hands on a feasible flow
-//! or none, and the phases carry the proof and the bound whatever it does. Nothing is claimed of the trees: a path of
-//! theirs is written down and looked at, half-arc by half-arc, before anything is pushed along it. Of waves no more is
-//! claimed than what their end tests. A stage may leave wherever it is.
+//! Nodes with excess are lifted, and yet this is no push-relabel method: to lift is the business of a stage, which
+//! hands on a feasible flow or none, and the phases carry the proof and the bound whatever it does. Nothing is claimed
+//! of the trees: a path of theirs is written down and looked at, half-arc by half-arc, before anything is pushed along
+//! it. Of waves no more is claimed than what their end tests. A stage may leave wherever it is.
 //!
 //! What the trees take is counted off an allowance of 16 steps for each arc, and what the waves take off the rest of
 //! `n²·m`, at most 1024 steps for each arc in each direction; a half-arc that is passed by without a look counts as a
-//! step too. The phases take at most `3·n²·m` from any feasible flow, so that all stay within `4·n²·m` for each network.
+//! step too. The phases take at most `3·n²·m` from any feasible flow, so that all stay within `4·n²·m` for each
+//! network.
 //!
 //! Where there are more than 32 arcs for each node the phases begin at once: a repair of a tree passes all half-arcs of
-//! a node, and so does a node that is lifted. The trees grow no farther than until the nearest source and sink are found
-//! to be more than some 16 half-arcs apart, since then much flow goes far, and paths one by one bring little. There the
-//! waves begin.
+//! a node, and so does a node that is lifted. The trees grow no farther than until the nearest source and sink are
+//! found to be more than some 16 half-arcs apart, since then much flow goes far, and paths one by one bring little.
+//! There the waves begin.
 ghost use Rattle.std.specs.Prelude.{◌+◌, ◌*◌, ◌≤◌, length};
 ghost use Rattle.flow_solve.specs.Bounds.{levels_bound};
 
@@ -64,8 +65,8 @@ fn allowance(net: &Network) -> u64
     (n * n).min(TREES_SHARE) * u64::from(net.len())
 }
 
-/// How many times the number of arcs the waves may take at most: 1024 in each direction, and the looks that settle their
-/// table.
+/// How many times the number of arcs the waves may take at most: 1024 in each direction, and the looks that settle
+/// their table.
 const WAVES_SHARE: u64 = 2 * 1024 + 1;
 
 /// How much the waves may take of what the trees leave of `n²·m`, in 64 bits: nothing where the trees aren't grown.

@@ -263,7 +263,7 @@ impl Random {
     }
 }
 
-/// A node of a network of at most 6 nodes.
+/// A node of a network of so many nodes.
 fn random_node(random: &mut Random, nodes: u32) -> u32
     requires { 1 ≤ nodes }
 {

@@ -1,14 +1,18 @@
 //! The method by levels (Dinitz 1970), in four stages that work on one flow: search trees first, then waves where arcs
 //! lie in layers, then phases that lift stuck nodes, then phases that don't.
 //!
-//! 1. **Two trees** (`trees`, `chains`, `orphans`, `frontiers`). Search trees grow from the sources and from the sinks,
-//!    a level of the smaller *frontier* at a time (Boykov and Kolmogorov 2004), and are kept breadth-first (incremental
-//!    breadth-first search: Goldberg, Hed, Kaplan, Tarjan and Werneck 2011). Each node in a tree has a *label*, which
-//!    tells its level, and a *parent*, the half-arc that leads a level nearer to its root. Where the trees touch, an
-//!    augmenting path is pushed through. A node whose half-arc to its parent was filled is an *orphan*: it is *adopted*
-//!    by another node a level nearer to the root, or else raised to a farther level, with its children as orphans in
-//!    turn, or set free. So no search begins anew. That serves where the first paths are short and most of a tree
-//!    outlives a push: images, assignments, closures.
+//! 1. **Two trees** (`trees`, `chains`, `orphans`, `frontiers`). Search trees grow from the sources and from the
+//!    sinks, a level at a time (Boykov and Kolmogorov 2004), and are kept breadth-first (incremental breadth-first
+//!    search: Goldberg, Hed, Kaplan, Tarjan and Werneck 2011). The tree grows that seems to cost less: fewer nodes
+//!    in its *frontier* and fewer orphans so far, times its level. Each node in a tree has a *label*, which tells
+//!    its level, a *parent*, the half-arc that leads a level nearer to its root, and a *place* among its half-arcs,
+//!    before which none leads to a parent while its level is the same. Where the trees touch, an augmenting path is
+//!    pushed through. A node whose half-arc to its parent was filled is an *orphan*: it is *adopted* by another
+//!    node a level nearer to the root, which is looked for from its place on, or else raised to a farther level,
+//!    with its children as orphans in turn, or set free. So no search begins anew. The trees end by themselves
+//!    where they bring little for what they take: they may take 8 steps for each arc at first and 1,024 more for
+//!    each augmentation. That serves where the first paths are short and most of a tree outlives a push: images,
+//!    assignments, closures.
 //! 2. **Waves** (`waves`, `settling`). Where the trees have found that ways are long, a thousand units can leave the
 //!    sources and reach the sinks, and three quarters of the arcs lead to a lower rank in a search backwards from the
 //!    sinks, flow is sent in waves (Karzanov 1974, Tarjan 1984): a sweep from the highest rank to the lowest sends on
@@ -32,7 +36,7 @@
 //! anything is pushed along it. Nor is anything claimed of lifted distances. But a walk that lifts knows its path: each
 //! half-arc of it was found to lead to a lower distance, or to a lower rank at the same distance, and where on it the
 //! least remains is kept beside it, so that an augmentation only pushes. A stage may leave wherever it is. Of waves no
-//! more is claimed than what their end tests. What the trees take is counted off an allowance of 16 steps for each arc,
+//! more is claimed than what their end tests. What the trees take is counted off an allowance of 64 steps for each arc,
 //! and what waves and lifting phases take off the rest of `n²·m`; a half-arc that is passed by without a look counts as
 //! a step too. The other phases take at most `3·n²·m` from any feasible flow, so that all stay within `4·n²·m` for each
 //! network. They seldom begin: the last search, which shows that the flow is greatest, is mostly that of a phase that
@@ -40,7 +44,7 @@
 //!
 //! The trees aren't grown where they were measured to bring nothing: where there are more than 32 arcs for each node,
 //! since a repair passes all half-arcs of a node; and no farther than until the nearest source and sink are found to be
-//! more than some 16 half-arcs apart, since then much flow goes far, and paths one by one bring little. There waves, or
+//! more than some 48 half-arcs apart, since then much flow goes far, and paths one by one bring little. There waves, or
 //! the phases, begin at once.
 //!
 //! Seconds of user time of `flow solve --value`, reading and all, on problems of `bench/generate.py` with 1,000,000

@@ -7,6 +7,7 @@ ghost use Rattle.flow_solve.specs.Bounds.{work_cells};
 ghost use Rattle.flow_solve.specs.Raising.{IsFlow};
 
 mod lifting;
+mod trees;
 mod wave_tests;
 
 use super::*;

@@ -3,7 +3,7 @@
 //! What these cells hold is a hint: nothing is claimed of it, and a path is looked at before flow is pushed along it. A
 //! cell that doesn't exist reads as 0, and a write to it is dropped. Nodes count from 1, and so do levels. The four
 //! cells of a node stand side by side, and behind those of all nodes stands for each level from 2 on its first orphan.
-ghost use Rattle.std.specs.Prelude.{◌≡◌, ◌+◌, ◌-◌, ◌*◌, ◌≤◌, length, slice_index};
+ghost use Rattle.std.specs.Prelude.{◌≡◌, ◌-◌, ◌*◌, ◌≤◌, slice_index};
 
 use crate::searching::Direction;
 

@@ -28,12 +28,11 @@
 //!
 //! | Cells | What they hold |
 //! |---|---|
-//! | `1` | spare, since nodes and levels count from 1 |
-//! | `n` | each node's label: twice its level in its tree, and 1 more in that of the sinks; 0 for a free node |
-//! | `n` | the half-arc to its parent; for an orphan the next of its level, for a root its place among the terminals |
-//! | `n` | the node before it in its frontier |
-//! | `n` | the node after it in its frontier |
-//! | `n - 1` | for each level its first orphan; while flow is pushed, the half-arcs of the path |
+//! | `4·n` | for each node side by side: its label, the half-arc to its parent, its place, the next node on its list |
+//! | `n` | for each level from 2 on its first orphan; at their end, while flow is pushed, the half-arcs of the path |
+//!
+//! A *label* is twice the node's level in its tree, and 1 more in that of the sinks; a free node has 0 or 1. For an
+//! orphan the next one of its level stands in its parent's cell, for a root its place among the terminals.
 //!
 //! The waves, which [`Levels`] sends where the trees don't finish, have them for:
 //!

@@ -1,6 +1,6 @@
 //! Orphans: nodes of two search trees whose half-arc to their parent was filled (Boykov and Kolmogorov 2004), and their
 //! adoption at the least level that has room for them (Goldberg and others 2011).
-ghost use Rattle.std.specs.Prelude.{◌≡◌, ◌+◌, ◌<◌, ◌≤◌, ◌*◌, IsTrue, IsFalse, length};
+ghost use Rattle.std.specs.Prelude.{◌≡◌, ◌+◌, ◌≤◌, ◌*◌, IsTrue, IsFalse, length};
 ghost use Rattle.flow_net.specs.Nets.{IsNode};
 ghost use Rattle.flow_net.specs.Flows.{Fits};
 ghost use Rattle.flow_solve.specs.Packs.{IsPacked};

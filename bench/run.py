@@ -109,7 +109,7 @@ class Bench:
             print(f'{self.clock.told()} made {what[0]} of {what[1]}', file=sys.stderr)
             return done.returncode
 
-        with concurrent.futures.ThreadPoolExecutor(max(1, (os.cpu_count() or 2) - 1)) as workers:
+        with concurrent.futures.ThreadPoolExecutor(os.cpu_count()) as workers:
             if any(workers.map(making, missing)):
                 sys.exit('a problem could not be made')
 

@@ -147,8 +147,8 @@ def project_selection(rand, side, depth):
 def point_cloud(rand, arcs):
     """Golovinskiy and Funkhouser 2009: objects in a scan of points, each joined to its nearest ones; the terminals take
     how far a point is from an object's place."""
-    count = max(9, arcs // 8)
-    cells = max(1, math.isqrt(count // 3))
+    count = max(9, arcs // 6)
+    cells = max(1, math.isqrt(count // 2))
     objects = [(rand.random(), rand.random()) for _ in range(max(1, cells // 12) ** 2)]
     points = []
     for _ in range(count):
@@ -178,17 +178,18 @@ def point_cloud(rand, arcs):
 
 def nearest(points, cells):
     """Pairs of points of which one is among the four nearest of the other, each once, with how far they lie apart."""
-    starts = {}
-    for here, point in enumerate(points):
-        starts.setdefault(point[:2], []).append(here)
-    pairs = {}
+    wide = cells + 2
+    homes = [[] for _ in range(wide * wide)]
     for here, (row, column, x, y) in enumerate(points):
-        around = [((x - points[there][2]) ** 2 + (y - points[there][3]) ** 2, there)
-                  for i in (row - 1, row, row + 1) for j in (column - 1, column, column + 1)
-                  for there in starts.get((i, j), ())]
-        around.sort()
-        for far, there in around[1:5]:
-            pairs[min(here, there), max(here, there)] = far
+        homes[(row + 1) * wide + column + 1].append((x, y, here))
+    pairs = {}
+    for at in range(wide + 1, wide * (wide - 1) - 1):
+        near = [point for row in (at - wide, at, at + wide) for home in homes[row - 1:row + 2] for point in home] \
+            if homes[at] else []
+        for x, y, here in homes[at]:
+            around = sorted([((x - a) ** 2 + (y - b) ** 2, there) for a, b, there in near])
+            for far, there in around[1:5]:
+                pairs[(here, there) if here < there else (there, here)] = far
     return [(here, there, far ** .5) for (here, there), far in pairs.items()]
 
 

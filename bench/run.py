@@ -109,7 +109,7 @@ class Bench:
             print(f'{self.clock.told()} made {what[0]} of {what[1]}', file=sys.stderr)
             return done.returncode
 
-        with concurrent.futures.ThreadPoolExecutor(max(1, (os.cpu_count() or 2) - 1)) as workers:
+        with concurrent.futures.ThreadPoolExecutor(os.cpu_count()) as workers:
             if any(workers.map(making, missing)):
                 sys.exit('a problem could not be made')
 
@@ -133,10 +133,15 @@ class Bench:
         return self.given.limit if self.given.night else min(self.given.limit, 10 * fastest + 1)
 
     def measure(self, problem, own, others):
-        """Runs the solvers in turn, as often as asked, a solver that has taken long enough no more."""
+        """Runs the solvers in turn, as often as asked; no more one that has taken long enough, or that took twice the
+        fastest other's time at first."""
         spent = {}
+        again = [own, *others]
         for turn in range(self.given.repeat):
-            for solver in [own, *others]:
+            if turn == 1 and not self.given.night:
+                least = (problem.fastest_other() or (math.inf,))[0]
+                again = [own, *(solver for solver in others if problem.times.get(solver.name, 0) <= 2 * least)]
+            for solver in again:
                 if solver.name in problem.stopped or spent.get(solver.name, 0) >= (60 if self.given.night else ENOUGH):
                     continue
                 limit = self.limit(problem) if turn == 0 and solver is not own else self.given.limit

@@ -128,14 +128,22 @@ def within_limits():
     del generate.FAMILIES['beyond']
 
 
-def photographs():
-    """A picture of a few pixels, where there are none: strokes, colours and outlines as arcs."""
-    if not generate.PHOTOGRAPHS:
-        print('bench: python3-skimage is not installed, so no photograph was tried')
-        return
-    for family in generate.PHOTOGRAPHS:
-        holds(f'the picture of {family} is there', (grids.PHOTOGRAPHS / f'{family.split("-")[1]}.png').exists())
-    holds('strokes are as thick as they should be', len(grids.stroked([(5, 5, 7, 5)], 20, 20)) == 35)
+def photographs(folder):
+    """A picture whose left half is red and whose right half is blue, with a stroke on each: its least cut is the links
+    between the halves, which cost 1 each, 6 straight ones and 10 diagonals."""
+    picture = grids.png.Image(8, 6, (255, 0, 0))
+    picture.paste(grids.png.Image(4, 6, (0, 0, 255)), 4, 0)
+    grids.png.write(folder / 'halves.png', picture)
+    kept, grids.PHOTOGRAPHS = grids.PHOTOGRAPHS, folder
+    grids.STROKES['halves'] = [(1, 1, 1, 1)], [(6, 4, 6, 4)]
+    for neighbours, links, cut in ((4, 2 * (6 * 7 + 5 * 8), 6), (8, 2 * (6 * 7 + 5 * 8 + 2 * 5 * 7), 16)):
+        nodes, source, sink, arcs = grids.photograph('halves', neighbours)
+        holds(f'a picture of 48 pixels and {neighbours} neighbours has as many arcs', nodes == 50
+              and len(arcs) == 48 + links)
+        holds(f'a picture of {neighbours} neighbours is cut between its halves',
+              greatest_value(arcs, source, sink) == cut)
+    grids.PHOTOGRAPHS = kept
+    del grids.STROKES['halves']
 
 
 def several_terminals(folder):
@@ -254,7 +262,7 @@ def main():
         folder = Path(name)
         families(flow, folder)
         within_limits()
-        photographs()
+        photographs(folder)
         several_terminals(folder)
         ratios()
         runner(flow, folder)

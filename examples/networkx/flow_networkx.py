@@ -27,6 +27,7 @@ import os
 import shutil
 import subprocess
 from fractions import Fraction
+from itertools import islice
 from numbers import Integral, Rational, Real
 
 import networkx as nx
@@ -60,21 +61,34 @@ def flow(G, s, t, capacity="capacity", residual=None, value_only=False, cutoff=N
         raise nx.NetworkXError("source and sink are the same node")
     R = build_residual_network(G, capacity) if residual is None else residual
     detect_unboundedness(R, s, t)
-    arcs = {(u, v): as_fraction(attr["capacity"]) for u, v, attr in R.edges(data=True) if attr["capacity"] > 0}
-    scale = math.lcm(*(amount.denominator for amount in arcs.values()))
+    edges = [(u, v, attr) for u, row in R.adjacency() for v, attr in row.items()]
+    kind = kind_of(attr["capacity"] for _, _, attr in edges)
+    arcs = [(u, v, attr) for u, v, attr in edges if attr["capacity"] > 0]
+    amounts = [attr["capacity"] for _, _, attr in arcs]
+    scale = 1
+    if kind is not int:
+        amounts = list(map(as_fraction, amounts))
+        scale = math.lcm(*(amount.denominator for amount in amounts))
+        amounts = [int(amount * scale) for amount in amounts]
     numbers = {node: number for number, node in enumerate(R, start=1)}
     problem = Problem(len(numbers), numbers[s], numbers[t])
-    for (u, v), amount in arcs.items():
-        problem.add(numbers[u], numbers[v], int(amount * scale))
+    problem.add_all([numbers[u] for u, _, _ in arcs], [numbers[v] for _, v, _ in arcs], amounts)
     if cutoff is not None and cutoff < math.inf:
         problem.limit(math.ceil(max(as_fraction(cutoff), 0) * scale))
     value, flows = problem.solve(program)
-    kind = kind_of(attr["capacity"] for _, _, attr in R.edges(data=True))
-    for u, v in {frozenset(ends): ends for ends in R.edges}.values():
-        units = flows.get((numbers[u], numbers[v]), 0) - flows.get((numbers[v], numbers[u]), 0)
-        ends = (u, v) if units >= 0 else (v, u)
-        amount = edge_flow(abs(units), arcs.get(ends, 0), scale, kind)
-        R.edges[ends]["flow"], R.edges[ends[::-1]]["flow"] = amount, 0 - amount
+    for _, _, attr in edges:
+        attr["flow"] = 0
+    for (u, v, attr), units in zip(arcs, flows):
+        if units:
+            attr["flow"] += units
+            R[v][u]["flow"] -= units
+    if kind is not int:
+        for (u, v, attr), amount in zip(arcs, amounts):
+            if attr["flow"] > 0:
+                attr["flow"] = edge_flow(attr["flow"], amount, attr["capacity"], scale, kind)
+                R[v][u]["flow"] = 0 - attr["flow"]
+        for _, _, attr in edges:
+            attr["flow"] = attr["flow"] or in_kind(Fraction(0), kind)
     R.graph["flow_value"] = in_kind(Fraction(value, scale), kind)
     R.graph["algorithm"] = "flow"
     return R
@@ -92,10 +106,10 @@ def as_fraction(amount):
 
 def kind_of(amounts):
     """The kind of the answers: int where all capacities are whole, float where one is a float, else Fraction."""
-    amounts = list(amounts)
-    if all(isinstance(amount, Integral) for amount in amounts):
+    kinds = set(map(type, amounts))
+    if all(issubclass(kind, Integral) for kind in kinds):
         return int
-    if any(isinstance(amount, Real) and not isinstance(amount, Rational) for amount in amounts):
+    if any(issubclass(kind, Real) and not issubclass(kind, Rational) for kind in kinds):
         return float
     return Fraction
 
@@ -105,11 +119,10 @@ def in_kind(amount, kind):
     return amount if kind is Fraction else kind(amount)
 
 
-def edge_flow(units, capacity, scale, kind):
+def edge_flow(units, full, capacity, scale, kind):
     """The flow of an edge of so many units of 1/scale: equal to the capacity only where the edge is really full."""
     amount = in_kind(Fraction(units, scale), kind)
-    full = units == capacity * scale
-    return math.nextafter(amount, 0) if kind is float and not full and amount >= capacity else amount
+    return math.nextafter(amount, 0) if kind is float and units != full and amount >= capacity else amount
 
 
 class Problem:
@@ -120,16 +133,28 @@ class Problem:
         self.source = source
         self.sink = sink
         self.lines = []
+        self.parts = []
+
+    def add_all(self, srcs, dsts, amounts):
+        """Adds arcs; one of more than the greatest capacity becomes parallel arcs."""
+        if len(amounts) > MOST_ARCS or max(amounts, default=0) > GREATEST_CAPACITY:
+            for arc in zip(srcs, dsts, amounts):
+                self.add(*arc)
+        else:
+            self.lines = ["a %d %d %d" % arc for arc in zip(srcs, dsts, amounts)]
+            self.parts = None
 
     def add(self, src, dst, amount):
-        """Adds an arc; one of more than the greatest capacity becomes parallel arcs."""
-        if len(self.lines) + amount // GREATEST_CAPACITY >= MOST_ARCS:
+        """Adds an arc."""
+        parts = -(-amount // GREATEST_CAPACITY)
+        if len(self.lines) + parts > MOST_ARCS:
             raise nx.NetworkXError(f"flow takes {MOST_ARCS} arcs of whole capacities up to {GREATEST_CAPACITY}; "
                                    "these edges are too many, or their capacities too great or too different")
-        while amount > 0:
-            part = min(amount, GREATEST_CAPACITY)
-            self.lines.append(f"a {src} {dst} {part}")
-            amount -= part
+        self.lines += [f"a {src} {dst} {GREATEST_CAPACITY}"] * (parts - 1)
+        if parts:
+            self.lines.append(f"a {src} {dst} {amount - (parts - 1) * GREATEST_CAPACITY}")
+        if self.parts is not None:
+            self.parts.append(parts)
 
     def limit(self, amount):
         """Lets no more than so much flow leave the source: a node more becomes the source, with an arc to the
@@ -139,7 +164,7 @@ class Problem:
         self.source = self.nodes
 
     def solve(self, program):
-        """The greatest value of a flow, and the flow between each two nodes that have an arc."""
+        """The greatest value of a flow, and the flow of each arc in the order in which they were added."""
         if self.nodes > MOST_NODES:
             raise nx.NetworkXError(f"flow takes at most {MOST_NODES} nodes")
         head = [f"p max {self.nodes} {len(self.lines)}", f"n {self.source} s", f"n {self.sink} t"]
@@ -147,13 +172,12 @@ class Problem:
                               capture_output=True, text=True, check=False)
         if done.returncode != 0:
             raise nx.NetworkXError(done.stderr.strip() or f"flow ended with status {done.returncode}")
-        first, *rest = done.stdout.splitlines()
-        flows = {}
-        for line in rest:
-            _, src, dst, amount = line.split()
-            ends = int(src), int(dst)
-            flows[ends] = flows.get(ends, 0) + int(amount)
-        return int(first.split()[1]), flows
+        # A line 's VALUE', and lines 'f SRC DST FLOW' in the order of the arcs.
+        words = done.stdout.split()
+        flows = map(int, words[5::4])
+        if self.parts is not None:
+            flows = [sum(islice(flows, parts)) for parts in self.parts]
+        return int(words[1]), flows
 
 
 def find_program():

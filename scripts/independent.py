@@ -187,7 +187,7 @@ def mutated(rng, text):
             lines[at] = rng.choice([b"\t", b"  ", b" \r", b"\x0b"]).join(fields) + rng.choice([b"", b"\r", b" 1"])
         else:
             number = b"%d" % rng.choice(NUMBERS + [rng.randrange(10)] * 20)
-            fields[min(rng.randrange(6), len(fields) - 1)] = rng.choice([number] * 20 + [b"-1", b"1x", b"s", b"00" + number])
+            fields[min(rng.randrange(6), len(fields) - 1)] = rng.choice([number] * 20 + [b"-1", b"1x", b"s", b"007"])
             lines[at] = b" ".join(fields)
     text = b"\n".join(lines)
     return text[: rng.randrange(len(text) + 1)] if rng.randrange(8) == 0 else text

@@ -112,6 +112,9 @@ fn arrange(
 /// leave and that is neither empty nor all. It takes at most `budget` looks and pushes, and answers nothing where these
 /// don't suffice.
 ///
+/// That it answers at all is tested, and not promised: a body that always answers nothing meets this contract. Whoever
+/// calls it needs another way to the number, as `connectivity` of `flow_tools` has, and so is right either way.
+///
 /// It takes no memory: it works in the first [`work_len`](crate::work_len) cells of `work`.
 pub fn connectivity_by_growth(
     net: &Network,

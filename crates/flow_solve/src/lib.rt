@@ -10,7 +10,9 @@
 //! flow can be taken back. A solver gets at flows by the looks and pushes of [`flow_net::FlowTable`] alone, and each
 //! of these is a counted step; the ends of arcs it may read freely.
 //!
-//! No call takes memory or refuses: all work is done in the first [`work_len`] cells of a slice that the caller lends.
+//! No call takes memory: all work is done in the first [`work_len`] cells of a slice that the caller lends. And none
+//! refuses but [`connectivity_by_growth`], which answers nothing where the steps that it may take don't suffice; its
+//! contract doesn't say that they ever do.
 //! A cell holds a half-arc, a place, a distance or a rank. With `n` nodes and `m` arcs there are, in this order:
 //!
 //! | Cells | What they hold |

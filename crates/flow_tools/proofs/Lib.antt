@@ -15,4 +15,5 @@ pub mod ConnectAnswers
 pub mod PrintedNumbers
 pub mod PrintedLines
 pub mod OptimalTexts
+pub mod TextRunLemmas
 mod CircleLemmas

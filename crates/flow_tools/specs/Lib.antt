@@ -6,6 +6,7 @@ pub mod Sides
 pub mod Answers
 pub mod Exits
 pub mod AnswerExits
+pub mod TextRuns
 pub mod SolutionFlows
 pub mod Verdicts
 pub mod FeasibleSolutions

@@ -9,7 +9,8 @@
 //! What a run may put is the page `specs/Answers.antt`; how it ends, its message and its status are the page
 //! `specs/Exits.antt`. Both speak of the bytes that the streams delivered and took, and of the definitions of
 //! `flow_net` and `flow_text`, never of this code. Standard streams and files are [`Counted`]; [`memory`] has streams
-//! for tests.
+//! for tests. Over texts that lie in memory [`run_on_texts`] promises the same with nothing left open but memory, on
+//! the page `specs/TextRuns.antt`: this is the call for a program of your own.
 #![tactic(auto)]
 
 mod answers;
@@ -30,6 +31,7 @@ mod running;
 mod sending;
 mod sharing;
 mod streams;
+mod texts;
 
 pub use checking::check;
 pub use connecting::connectivity;
@@ -39,6 +41,7 @@ pub use laws::solved_is_optimal;
 pub use running::run;
 pub use sending::put_all;
 pub use streams::{Failed, Input, Output};
+pub use texts::run_on_texts;
 
 #[cfg(test)]
 mod check_tests;
@@ -58,3 +61,5 @@ mod test_nets;
 mod test_runs;
 #[cfg(test)]
 mod tests;
+#[cfg(test)]
+mod text_tests;

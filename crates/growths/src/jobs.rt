@@ -5,7 +5,7 @@ use crate::calls::{
 };
 use crate::nets::{FOUR_NODES, OPTIMAL, TOO_FEW_ARCS};
 use flow_tools::memory::{Collector, Script};
-use flow_tools::{Job, run};
+use flow_tools::{Job, run, run_on_texts};
 use std::alloc::Global;
 
 /// Makes the call with this name, and answers what is to be told of it.
@@ -58,7 +58,23 @@ fn run_named(alloc: Global, name: &[u8]) -> &'static [u8] {
             b"optimal 5\n",
         ),
         b"run_faulty" => run_job(alloc, Job::Solve { value_only: false }, TOO_FEW_ARCS, b""),
+        b"run_on_texts" => run_texts(alloc),
         _ => b"no such call",
+    }
+}
+
+/// Checks a solution over texts, into vectors. Where memory was refused the output has a beginning of the answer at most.
+fn run_texts(alloc: Global) -> &'static [u8] {
+    let mut out: Vec<u8> = Vec::new(alloc);
+    let mut err: Vec<u8> = Vec::new(alloc);
+    let job = Job::Check {
+        feasible_only: false,
+    };
+    let answer = b"optimal 5\n".as_slice();
+    match run_on_texts(alloc, job, FOUR_NODES, OPTIMAL, &mut out, &mut err) {
+        Ok(0) if out.as_slice() == answer && err.is_empty() => b"answered",
+        Err(_) if answer.starts_with(out.as_slice()) => REFUSED,
+        _ => BROKEN,
     }
 }
 

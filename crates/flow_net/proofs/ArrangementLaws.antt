@@ -27,7 +27,8 @@ use Rattle.flow_net.proofs.MaxFlows.{greatest_is_least, least_is_greatest}
 ends_agree : (p q : Arc → Bool) (net : Net) → IsNet net → ((b : Arc) → IsArcWithin net.nodes b → p b ≡ q b)
     → AllByRecursion (λ b. p b ≡ q b) net.arcs
 ends_agree p q net r h =
-    recursion_from_All (λ b. p b ≡ q b) net.arcs (All-weaker (IsArcWithin net.nodes) (λ b. p b ≡ q b) h net.arcs r.arcs_within)
+    recursion_from_All (λ b. p b ≡ q b) net.arcs
+    (All-weaker (IsArcWithin net.nodes) (λ b. p b ≡ q b) h net.arcs r.arcs_within)
 
 module _ (net other : Net) (names places : List ℕ) (a : IsArranged net other names places) (r : IsNet net) where
   arc_there : (j : ℕ) → j < length places → arc_at other j ≡ renamed names (arc_at net (get_or places j 0))
@@ -50,7 +51,8 @@ module _ (net other : Net) (names places : List ℕ) (a : IsArranged net other n
       let k : i < length net.arcs = omega (arith, length-range_with_len 0 (length net.arcs)) in
       subst P (sym (get_or-range_with_len 0 (length net.arcs) i 0 k ∙ omega arith)) (h i k)))
 
-  at_all : (P : ℕ → Type 0) → ((j : ℕ) → j < length places → P (get_or places j 0)) → (i : ℕ) → i < length net.arcs → P i
+  at_all : (P : ℕ → Type 0) → ((j : ℕ) → j < length places → P (get_or places j 0)) → (i : ℕ) → i < length net.arcs
+      → P i
   at_all P h i l =
       let all = range_with_len 0 (length net.arcs) in
       let back =
@@ -105,7 +107,8 @@ module _ (net other : Net) (names places : List ℕ) (a : IsArranged net other n
       ∙ flow_over_agree (λ b. p (renamed names b)) q net.arcs xs (ends_agree (λ b. p (renamed names b)) q net r h)
 
   out_agrees : (p q : ℕ → Bool) (xs : List ℕ) → length xs ≡ length net.arcs
-      → ((v : ℕ) → IsNode net v → p (named names v) ≡ q v) → out_of p other.arcs (carried places xs) ≡ out_of q net.arcs xs
+      → ((v : ℕ) → IsNode net v → p (named names v) ≡ q v)
+      → out_of p other.arcs (carried places xs) ≡ out_of q net.arcs xs
   out_agrees p q xs l h = sums_agree (λ b. p b.src) (λ b. q b.src) xs l (λ b w. h b.src (w.src_least, w.src_most))
 
   into_agrees : (p q : ℕ → Bool) (xs : List ℕ) → length xs ≡ length net.arcs

@@ -195,10 +195,11 @@ told_after_swap n l i j p q h ys e =
       old.1,
       λ k c.
           let d : k < length l = omega arith in
+          let Is : ℕ → Type 0 = λ m. get_or ys m 0 ≡ get_or xs (get_or (swap l i j) m 0) 0 in
           elim (cases_eq k i) [
-            | inl f ↦ subst (λ (m : ℕ). get_or ys m 0 ≡ get_or xs (get_or (swap l i j) m 0) 0) (sym f) (at i j q back.1 moved.0)
+            | inl f ↦ subst Is (sym f) (at i j q back.1 moved.0)
             | inr f ↦ elim (cases_eq k j) [
-              | inl g ↦ subst (λ (m : ℕ). get_or ys m 0 ≡ get_or xs (get_or (swap l i j) m 0) 0) (sym g) (at j i p back.0 moved.1)
+              | inl g ↦ subst Is (sym g) (at j i p back.0 moved.1)
               | inr g ↦ at k k d (back.2 k f g) (moved.2 k f g)
             ]
           ],

@@ -37,8 +37,8 @@ impl Input for Text<'_> {
 }
 
 /// Runs a job over a problem's text and a solution's text, and answers the status: 0 or 1 where `out` got the answer,
-/// 3 where `err` got the line about the first fault of a text. Both are appended to what the vectors have. `solution` is
-/// read by `Job::Check` alone.
+/// 3 where `err` got the line about the first fault of a text. Both are appended to what the vectors have. `solution`
+/// is read by `Job::Check` alone.
 ///
 /// This is [`run`] with nothing left open but memory: for each problem's text it is the answer or the fault.
 ///

@@ -63,7 +63,8 @@ fn run_named(alloc: Global, name: &[u8]) -> &'static [u8] {
     }
 }
 
-/// Checks a solution over texts, into vectors. Where memory was refused the output has a beginning of the answer at most.
+/// Checks a solution over texts, into vectors. Where memory was refused the output has a beginning of the answer at
+/// most.
 fn run_texts(alloc: Global) -> &'static [u8] {
     let mut out: Vec<u8> = Vec::new(alloc);
     let mut err: Vec<u8> = Vec::new(alloc);

@@ -183,6 +183,12 @@ def guide_scripts(checks, flow, scratch):
     done = subprocess.run([sys.executable, "-B", "examples/guide/names.py", os.path.join(scratch, "names.max")],
                           input="s 0\nn 1\nf 1 2 0\n", capture_output=True, text=True, check=False, cwd=ROOT)
     checks.equal("names.py: quotes", done.stdout, 's 0\nn "Smith, Ann"\nf "Smith, Ann", "Über ""Bridge""", 0\n')
+    refused_tables(checks, scratch, guide)
+    refused_places(checks, guide)
+
+
+def refused_tables(checks, scratch, guide):
+    """Tables that the scripts of the guide refuse."""
     write(scratch, "latin.csv", "from,to,capacity\nA,B,1\n")
     with open(os.path.join(scratch, "latin.csv"), "ab") as file:
         file.write("Köln,B,2\n".encode("latin-1"))
@@ -205,6 +211,10 @@ def guide_scripts(checks, flow, scratch):
         script = "lower.py" if name in ("low", "limit") else "table.py"
         found = guide(script, os.path.join(scratch, f"{name}.csv"), *ends)
         checks.equal(f"{script} {words}", found, (1, "", f"{script}: {expected}\n"))
+
+
+def refused_places(checks, guide):
+    """Places that aren't in the picture, or are marked as both."""
     spot = os.path.join(EXAMPLES, "guide", "spot.pgm")
     for objects, background, expected in (
             ("8,0", "0,0", "column 8, row 0: the picture has the columns 0 to 7 and the rows 0 to 5"),

@@ -64,34 +64,48 @@ def flow(G, s, t, capacity="capacity", residual=None, value_only=False, cutoff=N
     edges = [(u, v, attr) for u, row in R.adjacency() for v, attr in row.items()]
     kind = kind_of(attr["capacity"] for _, _, attr in edges)
     arcs = [(u, v, attr) for u, v, attr in edges if attr["capacity"] > 0]
-    amounts = [attr["capacity"] for _, _, attr in arcs]
-    scale = 1
-    if kind is not int:
-        amounts = list(map(as_fraction, amounts))
-        scale = math.lcm(*(amount.denominator for amount in amounts))
-        amounts = [int(amount * scale) for amount in amounts]
+    amounts, scale = whole_amounts([attr["capacity"] for _, _, attr in arcs], kind)
     numbers = {node: number for number, node in enumerate(R, start=1)}
     problem = Problem(len(numbers), numbers[s], numbers[t])
     problem.add_all([numbers[u] for u, _, _ in arcs], [numbers[v] for _, v, _ in arcs], amounts)
     if cutoff is not None and cutoff < math.inf:
         problem.limit(math.ceil(max(as_fraction(cutoff), 0) * scale))
     value, flows = problem.solve(program)
+    set_flows(R, edges, arcs, flows)
+    if kind is not int:
+        set_in_kind(R, edges, arcs, amounts, scale, kind)
+    R.graph["flow_value"] = in_kind(Fraction(value, scale), kind)
+    R.graph["algorithm"] = "flow"
+    return R
+
+
+def whole_amounts(capacities, kind):
+    """The capacities as whole numbers of a unit, and how many of these make 1."""
+    if kind is int:
+        return capacities, 1
+    amounts = list(map(as_fraction, capacities))
+    scale = math.lcm(*(amount.denominator for amount in amounts))
+    return [int(amount * scale) for amount in amounts], scale
+
+
+def set_flows(R, edges, arcs, flows):
+    """Sets the flow of each edge: what its arc carries less what the opposite one does."""
     for _, _, attr in edges:
         attr["flow"] = 0
     for (u, v, attr), units in zip(arcs, flows):
         if units:
             attr["flow"] += units
             R[v][u]["flow"] -= units
-    if kind is not int:
-        for (u, v, attr), amount in zip(arcs, amounts):
-            if attr["flow"] > 0:
-                attr["flow"] = edge_flow(attr["flow"], amount, attr["capacity"], scale, kind)
-                R[v][u]["flow"] = 0 - attr["flow"]
-        for _, _, attr in edges:
-            attr["flow"] = attr["flow"] or in_kind(Fraction(0), kind)
-    R.graph["flow_value"] = in_kind(Fraction(value, scale), kind)
-    R.graph["algorithm"] = "flow"
-    return R
+
+
+def set_in_kind(R, edges, arcs, amounts, scale, kind):
+    """Sets the flows, which are whole numbers of 1/scale, to answers of a kind."""
+    for (u, v, attr), amount in zip(arcs, amounts):
+        if attr["flow"] > 0:
+            attr["flow"] = edge_flow(attr["flow"], amount, attr["capacity"], scale, kind)
+            R[v][u]["flow"] = 0 - attr["flow"]
+    for _, _, attr in edges:
+        attr["flow"] = attr["flow"] or in_kind(Fraction(0), kind)
 
 
 def as_fraction(amount):

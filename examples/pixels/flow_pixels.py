@@ -36,8 +36,8 @@ class Grid:
         self.count = 0
 
     def add_edges(self, weights, axis, reverse=None):
-        """Joins each pixel with the next along an axis by an edge of a weight, and back by one of `reverse`, else of the
-        same. Weights are one number, or an array of the grid's shape less one along the axis."""
+        """Joins each pixel with the next along an axis by an edge of a weight, and back by one of `reverse`, else of
+        the same. Weights are one number, or an array of the grid's shape less one along the axis."""
         here = np.delete(self.nodes, -1, axis)
         there = np.delete(self.nodes, 0, axis)
         self._add(here, there, weights)

@@ -73,7 +73,7 @@ fn lose(roles: &[u32], balances: &mut [u32], node: u32, amount: u64) -> bool
     ensures booked { result ≡ true → (v : ℕ) → 1 ≤ v → slice_index roles.now (v - 1) ≡ INNER
         → pair_at balances.new (v - 1) + (if node == v then amount else 0) ≡ pair_at balances.old (v - 1) }
 {
-    if roles[node as usize - 1] != INNER {
+    if amount == 0 || roles[node as usize - 1] != INNER {
         return true;
     }
     match get_pair(balances, node - 1).checked_sub(amount) {
@@ -93,7 +93,7 @@ fn gain(roles: &[u32], balances: &mut [u32], node: u32, amount: u64) -> bool
     ensures booked { result ≡ true → (v : ℕ) → 1 ≤ v → slice_index roles.now (v - 1) ≡ INNER
         → pair_at balances.new (v - 1) ≡ pair_at balances.old (v - 1) + (if node == v then amount else 0) }
 {
-    if roles[node as usize - 1] != INNER {
+    if amount == 0 || roles[node as usize - 1] != INNER {
         return true;
     }
     match get_pair(balances, node - 1).checked_add(amount) {
@@ -110,7 +110,7 @@ fn at_source(roles: &[u32], node: u32, amount: u64) -> u128
     requires node { (1 ≤ node) × (node ≤ length roles.now) }
     ensures { result ≡ (if slice_index roles.now (node - 1) == SOURCE then amount else 0) }
 {
-    if roles[node as usize - 1] == SOURCE {
+    if amount > 0 && roles[node as usize - 1] == SOURCE {
         u128::from(amount)
     } else {
         0

@@ -58,7 +58,7 @@
 #![tactic(auto)]
 
 mod chains;
-mod frontiers;
+mod forest;
 mod growth;
 mod levels;
 mod method;

@@ -6,6 +6,7 @@ ghost use Rattle.std.specs.List.{All};
 ghost use Rattle.flow_solve.specs.Bounds.{work_cells};
 ghost use Rattle.flow_solve.specs.Raising.{IsFlow};
 
+mod trees;
 mod wave_tests;
 
 use super::*;

@@ -3,7 +3,7 @@
 //!
 //! The chains are written down first and then looked at as one path, so that nothing has to be known of the trees. Once
 //! a path is written down, the labels of its nodes tell their exact distances, and so rise along it.
-ghost use Rattle.std.specs.Prelude.{◌≡◌, ℕ, ◌*◌, ◌<◌, ◌≤◌, IsTrue, length};
+ghost use Rattle.std.specs.Prelude.{◌≡◌, ℕ, ◌*◌, ◌^◌, ◌<◌, ◌≤◌, IsTrue, length};
 ghost use Rattle.flow_net.specs.Nets.{IsNode};
 ghost use Rattle.flow_net.specs.NodeSets.{one_of};
 ghost use Rattle.flow_net.specs.Flows.{Fits};
@@ -96,7 +96,7 @@ pub(crate) fn chain_len(packed: Packed<'_>, cells: &[u32], node: u32) -> u32
     requires packed { IsPacked packed.net.now packed.first.now packed.halves.now }
     requires size { 4 * packed.net.now.nodes ≤ length cells.now }
     requires node { IsNode packed.net.now node }
-    ensures { result ≤ packed.net.now.nodes }
+    ensures { result ≤ packed.entry.net.now.nodes }
 {
     let nodes = packed.net.nodes();
     let mut node = node;

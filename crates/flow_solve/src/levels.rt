@@ -1,17 +1,18 @@
 //! The method by levels (Dinitz 1970), in three stages that work on one flow: search trees, then waves of excess where
 //! the trees don't finish, then phases.
 //!
-//! 1. **Two trees** (`trees`, `chains`, `orphans`, `frontiers`). Search trees grow from the sources and from the sinks,
-//!    a level of the smaller *frontier* at a time (Boykov and Kolmogorov 2004), and are kept breadth-first (incremental
-//!    breadth-first search: Goldberg, Hed, Kaplan, Tarjan and Werneck 2011). Each node in a tree has a *label*, which
-//!    tells its level, and a *parent*, the half-arc that leads a level nearer to its root. Where the trees touch, an
-//!    augmenting path is pushed through. A node whose half-arc to its parent was filled is an *orphan*: it is *adopted*
-//!    by another node a level nearer to the root, or else raised to a farther level, with its children as orphans in
-//!    turn, or set free. So no search begins anew. That serves where the first paths are short and most of a tree
-//!    outlives a push: images, assignments, closures.
-//! 2. **Waves that lift** (`waves`, `settling`), where the trees had to end before a frontier of theirs ran out. All that can leave the sources
-//!    does, and each node sends what it has received, its *excess*, on to nodes that a search has found a level nearer
-//!    to the sinks, the farthest level first (after Karzanov 1974). A node that is stuck is *lifted* to one more than
+//! 1. **Two trees** (`trees`, `chains`, `orphans`, `forest`). Search trees grow from the sources and from the sinks
+//!    (Boykov and Kolmogorov 2004), from one *active* node after another. Each node in a tree has a *parent*, the
+//!    half-arc that leads towards its root, a *label*, which tells how far that was when it was last looked at, and a
+//!    *stamp*, the time when its parents were last known to lead to a root. Where the trees touch, an augmenting path
+//!    is pushed through. A node whose half-arc to its parent was filled is an *orphan*: it is *adopted* by the nearest
+//!    node of its tree whose parents lead to a root, or else comes free, with its children as orphans in turn. So no
+//!    search begins anew. The trees end by themselves where they bring little for what they take: they may take 8
+//!    steps for each arc at first and 1,024 more for each augmentation. That serves where the first paths are short
+//!    and most of a tree outlives a push: images, assignments, closures.
+//! 2. **Waves that lift** (`waves`, `settling`), where the trees had to end before their active nodes ran out. All that
+//!    can leave the sources does, and each node sends what it has received, its *excess*, on to nodes that a search has
+//!    found a level nearer to the sinks, the farthest level first (after Karzanov 1974). A node that is stuck is *lifted* to one more than
 //!    the nearest level that it leads to, which is the relabelling of Goldberg and Tarjan (1988); the level that is left
 //!    empty by that bounds the wave, and searches are made anew from time to time (Cherkassky and Goldberg 1997). In the
 //!    end what no sink takes goes home by waves to the sources, and the table is settled: it stays if a feasible flow
@@ -27,13 +28,14 @@
 //! theirs is written down and looked at, half-arc by half-arc, before anything is pushed along it. Of waves no more is
 //! claimed than what their end tests. A stage may leave wherever it is.
 //!
-//! What the trees take is counted off an allowance of 16 steps for each arc, and what the waves take off the rest of
-//! `n²·m`, at most 1024 steps for each arc in each direction; a half-arc that is passed by without a look counts as a
-//! step too. The phases take at most `3·n²·m` from any feasible flow, so that all stay within `4·n²·m` for each network.
+//! What the trees take is counted off an allowance of 64 steps for each arc, and what the waves take off the rest of
+//! `n²·m`, at most 1024 steps for each arc in each direction; a half-arc that is passed by without a look, or a node
+//! that is walked over, counts as a step too. The phases take at most `3·n²·m` from any feasible flow, so that all stay
+//! within `4·n²·m` for each network.
 //!
 //! Where there are more than 32 arcs for each node the phases begin at once: a repair of a tree passes all half-arcs of
 //! a node, and so does a node that is lifted. The trees grow no farther than until the nearest source and sink are found
-//! to be more than some 16 half-arcs apart, since then much flow goes far, and paths one by one bring little. There the
+//! to be more than some 48 half-arcs apart, since then much flow goes far, and paths one by one bring little. There the
 //! waves begin.
 ghost use Rattle.std.specs.Prelude.{◌+◌, ◌*◌, ◌≤◌, length};
 ghost use Rattle.flow_solve.specs.Bounds.{levels_bound};

@@ -28,12 +28,13 @@
 //!
 //! | Cells | What they hold |
 //! |---|---|
-//! | `1` | spare, since nodes and levels count from 1 |
-//! | `n` | each node's label: twice its level in its tree, and 1 more in that of the sinks; 0 for a free node |
-//! | `n` | the half-arc to its parent; for an orphan the next of its level, for a root its place among the terminals |
-//! | `n` | the node before it in its frontier |
-//! | `n` | the node after it in its frontier |
-//! | `n - 1` | for each level its first orphan; while flow is pushed, the half-arcs of the path |
+//! | `4·n` | for each node side by side: its label, the half-arc to its parent, its stamp, the next active node |
+//! | `n` | while flow is pushed, the half-arcs of the path |
+//!
+//! A *label* is twice one more than the node's distance from its root when that was last looked at, and 1 more in the
+//! tree of the sinks; a free node has 0. A *stamp* is the time when the node's parents were last known to lead to a
+//! root, counted in augmentations. A root has its place among the terminals for its parent, and an orphan the next
+//! orphan for its stamp.
 //!
 //! The waves, which [`Levels`] sends where the trees don't finish, have them for:
 //!

@@ -222,11 +222,10 @@ fn release(packed: Packed<'_>, flow: &mut FlowTable, trees: &mut Trees, cells: &
     cells[label_of(node)] = 0;
     let begin = packed.first[node as usize - 1];
     let end = packed.first[node as usize];
-    if !spend(trees, end - begin) {
-        return;
-    }
-    for spot in begin..end {
-        part(packed, flow, trees, cells, own, packed.halves[spot as usize]);
+    if spend(trees, end - begin) {
+        for spot in begin..end {
+            part(packed, flow, trees, cells, own, packed.halves[spot as usize]);
+        }
     }
 }
 

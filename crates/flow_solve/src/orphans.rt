@@ -8,8 +8,8 @@ ghost use Rattle.flow_solve.specs.Steps.{OnlyLooks, PaysLooks};
 
 use crate::chains::{Bottleneck, supply};
 use crate::forest::{
-    END, LEAST_CHILD, NO_PARENT, Trees, abandon_first, abandon_last, activate, after, direction_of, get,
-    is_tired, label_of, next_orphan, parent_of, spend, stamp_of,
+    END, LEAST_CHILD, NO_PARENT, Trees, abandon_first, abandon_last, activate, after, direction_of,
+    get, is_tired, label_of, next_orphan, parent_of, spend, stamp_of,
 };
 use crate::packing::Packed;
 use crate::searching::{FAR, head};
@@ -209,7 +209,13 @@ fn part(
 }
 
 /// Sets an orphan free that found no parent.
-fn release(packed: Packed<'_>, flow: &mut FlowTable, trees: &mut Trees, cells: &mut [u32], node: u32)
+fn release(
+    packed: Packed<'_>,
+    flow: &mut FlowTable,
+    trees: &mut Trees,
+    cells: &mut [u32],
+    node: u32,
+)
     requires fits { Fits packed.net.now flow.old.flows }
     requires packed { IsPacked packed.net.now packed.first.now packed.halves.now }
     requires size { 4 * packed.net.now.nodes ≤ length cells.old }
@@ -224,7 +230,14 @@ fn release(packed: Packed<'_>, flow: &mut FlowTable, trees: &mut Trees, cells: &
     let end = packed.first[node as usize];
     if spend(trees, end - begin) {
         for spot in begin..end {
-            part(packed, flow, trees, cells, own, packed.halves[spot as usize]);
+            part(
+                packed,
+                flow,
+                trees,
+                cells,
+                own,
+                packed.halves[spot as usize],
+            );
         }
     }
 }

@@ -1,7 +1,8 @@
 //! Paths through two search trees: from a source along a chain of parents, over the half-arc where the trees touch, and
 //! along another chain to a sink.
 //!
-//! The chains are written down first and then looked at as one path, so that nothing has to be known of the trees.
+//! The chains are written down first and then looked at as one path, so that nothing has to be known of the trees. Once
+//! a path is written down, the labels of its nodes tell their exact distances, and so rise along it.
 ghost use Rattle.std.specs.Prelude.{◌≡◌, ℕ, ◌*◌, ◌^◌, ◌<◌, ◌≤◌, IsTrue, length};
 ghost use Rattle.flow_net.specs.Nets.{IsNode};
 ghost use Rattle.flow_net.specs.NodeSets.{one_of};
@@ -11,7 +12,7 @@ ghost use Rattle.flow_solve.specs.Stages.{IsTask, Augments};
 ghost use Rattle.flow_solve.specs.Steps.{OnlyLooks};
 ghost use Rattle.flow_solve.specs.Trees.{key_of};
 
-use crate::frontiers::{get, label_of, parent_of};
+use crate::forest::{LEAST_CHILD, get, label_of, parent_of, stamp_of};
 use crate::packing::Packed;
 use crate::searching::{Direction, FAR, cross, head};
 use crate::stages::Task;
@@ -29,13 +30,22 @@ pub(crate) fn supply(direction: Direction, half: u32) -> u32
     }
 }
 
-/// Writes the chain of parents of a node in the tree of the sources, the root's half-arc first.
-fn lead_in(packed: Packed<'_>, cells: &[u32], path: &mut [u32], node: u32)
+/// Writes the chain of parents of a node in the tree of the sources, the root's half-arc first. Its nodes get their
+/// labels, the first of which is given, and the time.
+fn lead_in(
+    packed: Packed<'_>,
+    cells: &mut [u32],
+    path: &mut [u32],
+    node: u32,
+    label: u32,
+    time: u32,
+)
     requires packed { IsPacked packed.net.now packed.first.now packed.halves.now }
-    requires size { 4 * packed.net.now.nodes ≤ length cells.now }
+    requires size { 4 * packed.net.now.nodes ≤ length cells.old }
     requires node { IsNode packed.net.now node }
 {
     let mut node = node;
+    let mut label = label;
     for i in 0..path.len() {
         let half = cells[parent_of(node)];
         if half as usize >= packed.halves.len() {
@@ -43,47 +53,96 @@ fn lead_in(packed: Packed<'_>, cells: &[u32], path: &mut [u32], node: u32)
         }
         let at = path.len() - 1 - i;
         path[at] = supply(Direction::Forwards, half);
+        cells[label_of(node)] = label;
+        cells[stamp_of(node)] = time;
+        label = label.saturating_sub(2);
         node = head(packed.net, half);
     }
+    cells[stamp_of(node)] = time;
 }
 
-/// Writes the chain of parents of a node in the tree of the sinks, the node's own half-arc first.
-fn lead_out(packed: Packed<'_>, cells: &[u32], path: &mut [u32], node: u32)
+/// Writes the chain of parents of a node in the tree of the sinks, the node's own half-arc first. Its nodes get their
+/// labels, the first of which is given, and the time.
+fn lead_out(
+    packed: Packed<'_>,
+    cells: &mut [u32],
+    path: &mut [u32],
+    node: u32,
+    label: u32,
+    time: u32,
+)
     requires packed { IsPacked packed.net.now packed.first.now packed.halves.now }
-    requires size { 4 * packed.net.now.nodes ≤ length cells.now }
+    requires size { 4 * packed.net.now.nodes ≤ length cells.old }
     requires node { IsNode packed.net.now node }
 {
     let mut node = node;
+    let mut label = label;
     for i in 0..path.len() {
         let half = cells[parent_of(node)];
         if half as usize >= packed.halves.len() {
             return;
         }
         path[i] = half;
+        cells[label_of(node)] = label;
+        cells[stamp_of(node)] = time;
+        label = label.saturating_sub(2);
         node = head(packed.net, half);
     }
+    cells[stamp_of(node)] = time;
 }
 
-/// How many half-arcs the chain of parents of a node has, by its label.
-pub(crate) fn chain_len(cells: &[u32], node: u32) -> usize
-    requires node { 1 ≤ node }
-    ensures { result < 2 ^ 32 }
-{
-    (get(cells, label_of(node)) / 2).saturating_sub(1) as usize
-}
-
-/// Writes the path over a half-arc from the tree of the sources to that of the sinks, the half-arc having this place on
-/// the path.
-pub(crate) fn gather(packed: Packed<'_>, cells: &[u32], path: &mut [u32], touch: usize, half: u32)
+/// How many half-arcs the chain of parents of a node has.
+pub(crate) fn chain_len(packed: Packed<'_>, cells: &[u32], node: u32) -> u32
     requires packed { IsPacked packed.net.now packed.first.now packed.halves.now }
     requires size { 4 * packed.net.now.nodes ≤ length cells.now }
-    requires half { half < 2 * length packed.net.now.arcs }
-    requires touch { touch < length path.old }
+    requires node { IsNode packed.net.now node }
+    ensures { result ≤ packed.entry.net.now.nodes }
 {
-    let (front, rest) = path.split_at_mut(touch);
-    lead_in(packed, cells, front, tail(packed.net, half));
-    rest[0] = half;
-    lead_out(packed, cells, &mut rest[1..], head(packed.net, half));
+    let nodes = packed.net.nodes();
+    let mut node = node;
+    for len in 0..nodes {
+        let half = cells[parent_of(node)];
+        if cells[label_of(node)] < LEAST_CHILD || half as usize >= packed.halves.len() {
+            return len;
+        }
+        node = head(packed.net, half);
+    }
+    nodes
+}
+
+/// Where the tree of the sources touches that of the sinks.
+#[derive(Clone, Copy)]
+pub(crate) struct Touch {
+    /// The half-arc from the one to the other.
+    pub half: u32,
+    /// How many half-arcs lead from a source to it.
+    pub before: u32,
+    /// How many lead on from it to a sink.
+    pub behind: u32,
+}
+
+/// Writes the path from a source to a sink over the half-arc where the trees touch. Its nodes get their exact distances
+/// for labels, and the time.
+pub(crate) fn gather(
+    packed: Packed<'_>,
+    cells: &mut [u32],
+    path: &mut [u32],
+    touch: Touch,
+    time: u32,
+)
+    requires packed { IsPacked packed.net.now packed.first.now packed.halves.now }
+    requires size { 4 * packed.net.now.nodes ≤ length cells.old }
+    requires half { touch.half < 2 * length packed.net.now.arcs }
+    requires before { touch.before < length path.old }
+{
+    let from = tail(packed.net, touch.half);
+    let to = head(packed.net, touch.half);
+    let near = touch.before.saturating_mul(2).saturating_add(2);
+    let far = touch.behind.saturating_mul(2).saturating_add(3);
+    let (front, rest) = path.split_at_mut(touch.before as usize);
+    lead_in(packed, cells, front, from, near, time);
+    rest[0] = touch.half;
+    lead_out(packed, cells, &mut rest[1..], to, far, time);
 }
 
 /// A number that rises along a path through the trees, made of a node's label.

@@ -1,19 +1,16 @@
 //! The method by levels (Dinitz 1970), in three stages that work on one flow: search trees, then waves of excess where
 //! the trees don't finish, then phases.
 //!
-//! 1. **Two trees** (`trees`, `chains`, `orphans`, `frontiers`). Search trees grow from the sources and from the
-//!    sinks, a level at a time (Boykov and Kolmogorov 2004), and are kept breadth-first (incremental breadth-first
-//!    search: Goldberg, Hed, Kaplan, Tarjan and Werneck 2011). The tree grows that seems to cost less: fewer nodes
-//!    in its *frontier* and fewer orphans so far, times its level. Each node in a tree has a *label*, which tells
-//!    its level, a *parent*, the half-arc that leads a level nearer to its root, and a *place* among its half-arcs,
-//!    before which none leads to a parent while its level is the same. Where the trees touch, an augmenting path is
-//!    pushed through. A node whose half-arc to its parent was filled is an *orphan*: it is *adopted* by another
-//!    node a level nearer to the root, which is looked for from its place on, or else raised to a farther level,
-//!    with its children as orphans in turn, or set free. So no search begins anew. The trees end by themselves
-//!    where they bring little for what they take: they may take 8 steps for each arc at first and 1,024 more for
-//!    each augmentation. That serves where the first paths are short and most of a tree outlives a push: images,
-//!    assignments, closures.
-//! 2. **Waves that lift** (`waves`, `settling`), where the trees had to end before a frontier of theirs ran out. All
+//! 1. **Two trees** (`trees`, `chains`, `orphans`, `forest`). Search trees grow from the sources and from the sinks
+//!    (Boykov and Kolmogorov 2004), from one *active* node after another. Each node in a tree has a *parent*, the
+//!    half-arc that leads towards its root, a *label*, which tells how far that was when it was last looked at, and a
+//!    *stamp*, the time when its parents were last known to lead to a root. Where the trees touch, an augmenting path
+//!    is pushed through. A node whose half-arc to its parent was filled is an *orphan*: it is *adopted* by the nearest
+//!    node of its tree whose parents lead to a root, or else comes free, with its children as orphans in turn. So no
+//!    search begins anew. The trees end by themselves where they bring little for what they take: they may take 8
+//!    steps for each arc at first and 1,024 more for each augmentation. That serves where the first paths are short
+//!    and most of a tree outlives a push: images, assignments, closures.
+//! 2. **Waves that lift** (`waves`, `settling`), where the trees had to end before their active nodes ran out. All
 //!    that can leave the sources does, and each node sends what it has received, its *excess*, on to nodes that a
 //!    search has found a level nearer to the sinks, the farthest level first (after Karzanov 1974). A node that is
 //!    stuck is *lifted* to one more than the nearest level that it leads to, which is the relabelling of Goldberg and
@@ -32,9 +29,9 @@
 //! it. Of waves no more is claimed than what their end tests. A stage may leave wherever it is.
 //!
 //! What the trees take is counted off an allowance of 64 steps for each arc, and what the waves take off the rest of
-//! `n²·m`, at most 1024 steps for each arc in each direction; a half-arc that is passed by without a look counts as a
-//! step too. The phases take at most `3·n²·m` from any feasible flow, so that all stay within `4·n²·m` for each
-//! network.
+//! `n²·m`, at most 1024 steps for each arc in each direction; a half-arc that is passed by without a look, or a node
+//! that is walked over, counts as a step too. The phases take at most `3·n²·m` from any feasible flow, so that all stay
+//! within `4·n²·m` for each network.
 //!
 //! Where there are more than 32 arcs for each node the phases begin at once: a repair of a tree passes all half-arcs of
 //! a node, and so does a node that is lifted. The trees grow no farther than until the nearest source and sink are

@@ -30,11 +30,13 @@
 //!
 //! | Cells | What they hold |
 //! |---|---|
-//! | `4·n` | for each node side by side: its label, the half-arc to its parent, its place, the next node on its list |
-//! | `n` | for each level from 2 on its first orphan; at their end, while flow is pushed, the half-arcs of the path |
+//! | `4·n` | for each node side by side: its label, the half-arc to its parent, its stamp, the next active node |
+//! | `n` | while flow is pushed, the half-arcs of the path |
 //!
-//! A *label* is twice the node's level in its tree, and 1 more in that of the sinks; a free node has 0 or 1. For an
-//! orphan the next one of its level stands in its parent's cell, for a root its place among the terminals.
+//! A *label* is twice one more than the node's distance from its root when that was last looked at, and 1 more in the
+//! tree of the sinks; a free node has 0. A *stamp* is the time when the node's parents were last known to lead to a
+//! root, counted in augmentations. A root has its place among the terminals for its parent, and an orphan the next
+//! orphan for its stamp.
 //!
 //! The waves, which [`Levels`] sends where the trees don't finish, have them for:
 //!
@@ -59,7 +61,7 @@
 #![tactic(auto)]
 
 mod chains;
-mod frontiers;
+mod forest;
 mod growth;
 mod levels;
 mod method;

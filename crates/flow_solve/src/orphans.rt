@@ -1,77 +1,24 @@
-//! Orphans: nodes of two search trees whose half-arc to their parent was filled (Boykov and Kolmogorov 2004), and their
-//! adoption at the least level that has room for them (Goldberg and others 2011).
-ghost use Rattle.std.specs.Prelude.{◌≡◌, ◌+◌, ◌≤◌, ◌*◌, IsTrue, IsFalse, length};
+//! Orphans: nodes of two search trees whose half-arc to their parent was filled, and their adoption by the nearest node
+//! whose own parents lead to a root (Boykov and Kolmogorov 2004, and so are the stamps).
+ghost use Rattle.std.specs.Prelude.{◌≡◌, ◌+◌, ◌<◌, ◌≤◌, ◌*◌, length};
 ghost use Rattle.flow_net.specs.Nets.{IsNode};
 ghost use Rattle.flow_net.specs.Flows.{Fits};
 ghost use Rattle.flow_solve.specs.Packs.{IsPacked};
 ghost use Rattle.flow_solve.specs.Steps.{OnlyLooks, PaysLooks};
 
 use crate::chains::{Bottleneck, supply};
-use crate::frontiers::{
-    Tree, after, direction_of, enlist, get, label_of, orphan_on, parent_of, place_of, put,
+use crate::forest::{
+    END, LEAST_CHILD, NO_PARENT, Trees, abandon_first, abandon_last, activate, after, direction_of,
+    get, is_tired, label_of, next_orphan, parent_of, spend, stamp_of,
 };
 use crate::packing::Packed;
-use crate::searching::{Direction, head};
+use crate::searching::{FAR, head};
 use crate::walking::tail;
 use flow_net::FlowTable;
 
-/// Marks the parent's cell of an orphan, which else has the next orphan of its level.
-const ORPHAN: u32 = 1 << 31;
-
-/// Two search trees, one that grows from the sources and one from the sinks.
-#[derive(Clone, Copy)]
-pub(crate) struct Trees {
-    /// The tree of the sources.
-    pub sources: Tree,
-    /// The tree of the sinks.
-    pub sinks: Tree,
-    /// Whether a tree has taken a node that is on a list of the other.
-    pub mixed: bool,
-    /// The least level that has orphans.
-    pub lowest: u32,
-    /// The greatest level that has orphans.
-    pub highest: u32,
-    /// What may still be done: steps, and half-arcs that are passed by.
-    pub left: u64,
-    /// The trees are tired where no more than this is left: they have brought too little for what they took.
-    pub floor: u64,
-}
-
-/// Whether the trees have taken so much for what they bring that they end.
-pub(crate) fn is_tired(trees: &Trees) -> bool
-    ensures { IsFalse result → 1 ≤ trees.now.left }
-{
-    trees.left <= trees.floor
-}
-
-/// Takes as many as some half-arcs off what may still be done, or all that is left. Answers whether there were so many.
-pub(crate) fn spend(trees: &mut Trees, count: u32) -> bool
-    ensures some { IsTrue result → trees.new.left + count ≡ trees.old.left }
-    ensures none { IsFalse result → trees.new.left ≡ 0 }
-{
-    if trees.left < u64::from(count) {
-        trees.left = 0;
-        return false;
-    }
-    trees.left -= u64::from(count);
-    true
-}
-
-/// Makes a node an orphan.
-fn abandon(trees: &mut Trees, nodes: u32, cells: &mut [u32], node: u32)
-    requires node { 1 ≤ node }
-    ensures left { trees.new.left ≡ trees.old.left }
-{
-    let level = get(cells, label_of(node)) / 2;
-    let next = get(cells, orphan_on(nodes, level));
-    put(cells, parent_of(node), ORPHAN | next);
-    put(cells, orphan_on(nodes, level), node);
-    trees.lowest = trees.lowest.min(level);
-    trees.highest = trees.highest.max(level);
-}
-
 /// Makes orphans of the nodes on a path whose half-arc to their parent was filled: those that half-arcs lead to before
-/// the one where the trees touch, and those that half-arcs leave behind it.
+/// the one where the trees touch, and those that half-arcs leave behind it. In each tree the nearest to the root comes
+/// first.
 pub(crate) fn abandon_filled(
     packed: Packed<'_>,
     flow: &mut FlowTable,
@@ -86,26 +33,110 @@ pub(crate) fn abandon_filled(
     ensures looks { OnlyLooks flow.old flow.new (length path.now) }
     ensures left { trees.new.left ≡ trees.old.left }
 {
-    let nodes = packed.net.nodes();
     for i in bottleneck.first.min(path.len())..path.len() {
         let half = path[i];
         if i >= bottleneck.end || half as usize >= packed.halves.len() {
             return;
         }
         let (next, room) = flow.look(packed.net, half);
-        if room == 0 && i != touch {
-            let node = if i < touch {
-                next
-            } else {
-                tail(packed.net, half)
-            };
-            abandon(trees, nodes, cells, node);
+        if room == 0 && i < touch {
+            abandon_last(trees, cells, next);
+        } else if room == 0 && i > touch {
+            abandon_first(trees, cells, tail(packed.net, half));
         }
     }
 }
 
-/// Gives an orphan a parent on the level before its own, if one is left there. Answers whether that, or all that may
-/// still be done, is done.
+/// Walks over the parents of a node to a root, or to a node that is known at this time to lead to one. Answers one more
+/// than the node's distance from the root, or `FAR` where the walk ends at an orphan or no more may be done.
+fn walk_to_root(packed: Packed<'_>, trees: &mut Trees, cells: &[u32], node: u32) -> u32
+    requires packed { IsPacked packed.net.now packed.first.now packed.halves.now }
+    requires size { 4 * packed.net.now.nodes ≤ length cells.now }
+    requires node { IsNode packed.net.now node }
+    ensures left { trees.new.left ≤ trees.old.left }
+{
+    let mut node = node;
+    let mut walked: u32 = 0;
+    'chain: loop {
+        let half = cells[parent_of(node)];
+        if half == NO_PARENT {
+            return FAR;
+        }
+        let label = cells[label_of(node)];
+        if label < LEAST_CHILD || cells[stamp_of(node)] == trees.time {
+            return walked.saturating_add(label / 2);
+        }
+        if half as usize >= packed.halves.len() || !spend(trees, 1) {
+            return FAR;
+        }
+        walked = walked.saturating_add(1);
+        node = head(packed.net, half);
+    }
+}
+
+/// Gives the nodes that such a walk went over the labels for their distances, and the time.
+fn mark_walk(packed: Packed<'_>, cells: &mut [u32], node: u32, distance: u32, time: u32)
+    requires packed { IsPacked packed.net.now packed.first.now packed.halves.now }
+    requires size { 4 * packed.net.now.nodes ≤ length cells.old }
+    requires node { IsNode packed.net.now node }
+{
+    let mut node = node;
+    let side = cells[label_of(node)] % 2;
+    let mut label = distance.saturating_mul(2).saturating_add(side);
+    'walk: for _ in 0..distance {
+        let half = cells[parent_of(node)];
+        if cells[stamp_of(node)] == time {
+            return;
+        }
+        cells[label_of(node)] = label;
+        cells[stamp_of(node)] = time;
+        if half as usize >= packed.halves.len() {
+            return;
+        }
+        label = label.saturating_sub(2);
+        node = head(packed.net, half);
+    }
+}
+
+/// One more than the distance from the root of a node that may adopt an orphan, if that is nearer than any so far and
+/// something remains on the half-arc between them, or else `FAR`. The half-arc is given that leads to the node.
+fn offer(
+    packed: Packed<'_>,
+    flow: &mut FlowTable,
+    trees: &mut Trees,
+    cells: &mut [u32],
+    own: u32,
+    half: u32,
+    nearest: u32,
+) -> u32
+    requires fits { Fits packed.net.now flow.old.flows }
+    requires packed { IsPacked packed.net.now packed.first.now packed.halves.now }
+    requires size { 4 * packed.net.now.nodes ≤ length cells.old }
+    requires half { half < 2 * length packed.net.now.arcs }
+    ensures looks { OnlyLooks flow.old flow.new 1 }
+    ensures left { trees.new.left ≤ trees.old.left }
+{
+    let node = head(packed.net, half);
+    let label = cells[label_of(node)];
+    if label <= 1 || label % 2 != own % 2 || cells[parent_of(node)] == NO_PARENT {
+        return FAR;
+    }
+    if cells[stamp_of(node)] == trees.time && label / 2 >= nearest {
+        return FAR;
+    }
+    let (_, room) = flow.look(packed.net, supply(direction_of(own), half));
+    if room == 0 {
+        return FAR;
+    }
+    let distance = walk_to_root(packed, trees, cells, node);
+    if distance != FAR {
+        mark_walk(packed, cells, node, distance, trees.time);
+    }
+    distance
+}
+
+/// Gives an orphan the nearest parent in its tree that leads to a root. Answers whether that, or all that may still be
+/// done, is done.
 fn find_parent(
     packed: Packed<'_>,
     flow: &mut FlowTable,
@@ -122,172 +153,96 @@ fn find_parent(
     // Brings the network's limits, `IsNet`, into the proof.
     let _ = packed.net.nodes();
     let own = cells[label_of(node)];
-    let direction = direction_of(own);
-    let nearer = own.saturating_sub(2);
+    let begin = packed.first[node as usize - 1];
     let end = packed.first[node as usize];
-    let begin = cells[place_of(node)]
-        .max(packed.first[node as usize - 1])
-        .min(end);
-    if trees.left < u64::from(end - begin) {
-        trees.left = 0;
+    if !spend(trees, end - begin) {
         return true;
     }
+    let mut nearest = FAR;
+    let mut parent = NO_PARENT;
     for spot in begin..end {
         let half = packed.halves[spot as usize];
-        if cells[label_of(head(packed.net, half))] == nearer {
-            let (_, room) = flow.look(packed.net, supply(direction, half));
-            if room > 0 {
-                cells[parent_of(node)] = half;
-                cells[place_of(node)] = spot;
-                trees.left -= u64::from(spot + 1 - begin);
-                return true;
-            }
+        let distance = offer(packed, flow, trees, cells, own, half, nearest);
+        if distance < nearest {
+            nearest = distance;
+            parent = half;
         }
     }
-    trees.left -= u64::from(end - begin);
-    false
+    if parent == NO_PARENT {
+        return false;
+    }
+    cells[label_of(node)] = nearest.saturating_mul(2).saturating_add(2 + own % 2);
+    cells[parent_of(node)] = parent;
+    cells[stamp_of(node)] = trees.time;
+    true
 }
 
-/// A level on which an orphan could have a parent, and the place of the half-arc that leads to it.
-#[derive(Clone, Copy)]
-struct Spot {
-    /// The level, or one past the farthest.
-    level: u32,
-    /// The place.
-    place: u32,
+/// Leaves the node that a half-arc leads to from a node that comes free: a child becomes an orphan, and a node of the
+/// same tree that could take the free node back becomes active.
+fn part(
+    packed: Packed<'_>,
+    flow: &mut FlowTable,
+    trees: &mut Trees,
+    cells: &mut [u32],
+    own: u32,
+    half: u32,
+)
+    requires fits { Fits packed.net.now flow.old.flows }
+    requires half { half < 2 * length packed.net.now.arcs }
+    ensures looks { OnlyLooks flow.old flow.new 1 }
+    ensures left { trees.new.left ≡ trees.old.left }
+{
+    let node = head(packed.net, half);
+    let label = get(cells, label_of(node));
+    if label <= 1 || label % 2 != own % 2 {
+        return;
+    }
+    if label >= LEAST_CHILD && get(cells, parent_of(node)) == half ^ 1 {
+        abandon_last(trees, cells, node);
+    }
+    if get(cells, after(node)) == 0 {
+        let (_, room) = flow.look(packed.net, supply(direction_of(own), half));
+        if room > 0 {
+            activate(trees, cells, node);
+        }
+    }
 }
 
-/// The least level past its own on which a node would have a parent in its tree. The node's children become orphans.
-fn leave_level(
+/// Sets an orphan free that found no parent.
+fn release(
     packed: Packed<'_>,
     flow: &mut FlowTable,
     trees: &mut Trees,
     cells: &mut [u32],
     node: u32,
-    limit: u32,
-) -> Spot
+)
     requires fits { Fits packed.net.now flow.old.flows }
     requires packed { IsPacked packed.net.now packed.first.now packed.halves.now }
     requires size { 4 * packed.net.now.nodes ≤ length cells.old }
     requires node { IsNode packed.net.now node }
     ensures paid { PaysLooks flow.old trees.old.left flow.new trees.new.left }
 {
-    let nodes = packed.net.nodes();
+    // Brings the network's limits, `IsNet`, into the proof.
+    let _ = packed.net.nodes();
     let own = cells[label_of(node)];
-    let direction = direction_of(own);
-    let level = own / 2;
+    cells[label_of(node)] = 0;
     let begin = packed.first[node as usize - 1];
     let end = packed.first[node as usize];
-    let mut found = Spot {
-        level: limit.saturating_add(1),
-        place: 0,
-    };
-    if level >= limit || !spend(trees, end - begin) {
-        return found;
-    }
-    for spot in begin..end {
-        let half = packed.halves[spot as usize];
-        let next = head(packed.net, half);
-        let label = cells[label_of(next)];
-        let on = label / 2 + 1;
-        if label % 2 == own % 2 && on > level {
-            if on == level + 2 && cells[parent_of(next)] == half ^ 1 {
-                abandon(trees, nodes, cells, next);
-            }
-            if on < found.level {
-                let (_, room) = flow.look(packed.net, supply(direction, half));
-                if room > 0 {
-                    found = Spot {
-                        level: on,
-                        place: spot,
-                    };
-                }
-            }
-        }
-    }
-    found
-}
-
-/// Puts a node, whose level in the tree has changed, on the list of its new level.
-fn relist(tree: &mut Tree, cells: &mut [u32], node: u32, level: u32)
-    requires node { 1 ≤ node }
-{
-    let is_on_list = get(cells, after(node)) != 0;
-    if is_on_list {
-        tree.waiting = tree.waiting.saturating_sub(1);
-    }
-    if tree.level <= level && level <= tree.limit {
-        tree.waiting = tree.waiting.saturating_add(1);
-        if !is_on_list {
-            enlist(tree, cells, node, level);
+    if spend(trees, end - begin) {
+        for spot in begin..end {
+            part(
+                packed,
+                flow,
+                trees,
+                cells,
+                own,
+                packed.halves[spot as usize],
+            );
         }
     }
 }
 
-/// Moves an orphan that found no parent to a farther level, or out of its tree where that is past the farthest.
-fn raise(packed: Packed<'_>, flow: &mut FlowTable, trees: &mut Trees, cells: &mut [u32], node: u32)
-    requires fits { Fits packed.net.now flow.old.flows }
-    requires packed { IsPacked packed.net.now packed.first.now packed.halves.now }
-    requires size { 4 * packed.net.now.nodes ≤ length cells.old }
-    requires node { IsNode packed.net.now node }
-    ensures paid { PaysLooks flow.old trees.old.left flow.new trees.new.left }
-{
-    let nodes = packed.net.nodes();
-    let own = cells[label_of(node)];
-    let limit = match direction_of(own) {
-        Direction::Forwards => trees.sources.limit,
-        Direction::Backwards => trees.sinks.limit,
-    };
-    let found = leave_level(packed, flow, trees, cells, node, limit);
-    match direction_of(own) {
-        Direction::Forwards => relist(&mut trees.sources, cells, node, found.level),
-        Direction::Backwards => relist(&mut trees.sinks, cells, node, found.level),
-    }
-    if found.level > limit {
-        cells[label_of(node)] = own % 2;
-    } else {
-        cells[label_of(node)] = found.level.saturating_mul(2).saturating_add(own % 2);
-        cells[place_of(node)] = found.place;
-        // It takes its parent when the orphans of its new level do.
-        abandon(trees, nodes, cells, node);
-    }
-}
-
-/// Adopts the orphans of a level. Answers whether that was done before the trees had to end.
-fn adopt_level(
-    packed: Packed<'_>,
-    flow: &mut FlowTable,
-    trees: &mut Trees,
-    cells: &mut [u32],
-    level: u32,
-) -> bool
-    requires fits { Fits packed.net.now flow.old.flows }
-    requires packed { IsPacked packed.net.now packed.first.now packed.halves.now }
-    requires size { 4 * packed.net.now.nodes ≤ length cells.old }
-    ensures paid { PaysLooks flow.old trees.old.left flow.new trees.new.left }
-{
-    let nodes = packed.net.nodes();
-    'orphans: while !is_tired(trees) {
-        let node = get(cells, orphan_on(nodes, level));
-        if node < 1 || node > nodes {
-            return node == 0;
-        }
-        trees.left -= 1;
-        let rest = cells[parent_of(node)] & (ORPHAN - 1);
-        put(cells, orphan_on(nodes, level), rest);
-        match direction_of(cells[label_of(node)]) {
-            Direction::Forwards => trees.sources.orphans = trees.sources.orphans.saturating_add(1),
-            Direction::Backwards => trees.sinks.orphans = trees.sinks.orphans.saturating_add(1),
-        }
-        if !find_parent(packed, flow, trees, cells, node) {
-            raise(packed, flow, trees, cells, node);
-        }
-    }
-    false
-}
-
-/// Adopts all orphans, the nearest first, so that a node that is moved has its last level at once. Answers whether that
-/// was done before the trees had to end.
+/// Adopts all orphans, or sets them free. Answers whether that was done before the trees had to end.
 pub(crate) fn adopt(
     packed: Packed<'_>,
     flow: &mut FlowTable,
@@ -299,13 +254,16 @@ pub(crate) fn adopt(
     requires size { 4 * packed.net.now.nodes ≤ length cells.old }
     ensures paid { PaysLooks flow.old trees.old.left flow.new trees.new.left }
 {
-    for level in trees.lowest..packed.net.nodes() {
-        if level > trees.highest {
-            return true;
+    let nodes = packed.net.nodes();
+    'orphans: while !is_tired(trees) {
+        trees.left -= 1;
+        let node = next_orphan(trees, cells);
+        if node < 1 || nodes < node {
+            return node == END;
         }
-        if !adopt_level(packed, flow, trees, cells, level) {
-            return false;
+        if !find_parent(packed, flow, trees, cells, node) {
+            release(packed, flow, trees, cells, node);
         }
     }
-    true
+    false
 }

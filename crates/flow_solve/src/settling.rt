@@ -13,7 +13,7 @@ ghost use Rattle.flow_solve.specs.Settling.{pair_at, HasRoles, HasSums};
 ghost use Rattle.flow_solve.specs.Stages.{HasFlow, IsTask};
 ghost use Rattle.flow_solve.specs.Steps.{OnlyLooks};
 
-use crate::frontiers::get;
+use crate::forest::get;
 use crate::stages::Task;
 use flow_net::FlowTable;
 

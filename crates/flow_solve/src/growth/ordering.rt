@@ -11,7 +11,7 @@ ghost use Rattle.flow_net.specs.Orders.{IsOrder};
 ghost use Rattle.flow_solve.specs.Packs.{IsPacked};
 ghost use Rattle.flow_solve.specs.Growth.{ArePlaces, IsClean, IsInOrder};
 
-use crate::frontiers::{END, get, put};
+use crate::forest::{END, get, put};
 use crate::packing::Packed;
 use crate::searching::head;
 use flow_net::MOST_NODES;

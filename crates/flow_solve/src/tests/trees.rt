@@ -138,7 +138,7 @@ fn add_random_arcs(net: &mut Network, random: &mut Random) -> bool {
     true
 }
 
-/// Where a frontier ran out the flow is greatest: a hint to the stages after the trees, which no contract tells.
+/// Where the active nodes ran out the flow is greatest: a hint to the stages after the trees, which no contract tells.
 #[test]
 fn trees_on_random_networks(rt: HostRuntime) {
     let mut random = Random { state: 2011 };

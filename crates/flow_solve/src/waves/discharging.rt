@@ -7,7 +7,7 @@ ghost use Rattle.flow_solve.specs.Packs.{IsPacked};
 ghost use Rattle.flow_solve.specs.Stages.{degree_of};
 ghost use Rattle.flow_solve.specs.Steps.{OnlyLooks, PaysLooks, PaysSteps, TakesSteps};
 
-use crate::frontiers::{get, put};
+use crate::forest::{get, put};
 use crate::packing::Packed;
 use crate::searching::{FAR, head};
 use crate::waves::excess::{Wave, afford, book, count_on, excess_of, level_of, link, set_excess};

@@ -5,7 +5,7 @@
 ghost use Rattle.std.specs.Prelude.{◌≡◌, ◌+◌, ◌-◌, ◌*◌, ◌≤◌, true, false, length};
 ghost use Rattle.std.specs.List.{All};
 
-use crate::frontiers::{get, put};
+use crate::forest::{get, put};
 
 /// How far waves are.
 #[derive(Clone, Copy)]

@@ -6,7 +6,7 @@ ghost use Rattle.flow_net.specs.Flows.{Fits};
 ghost use Rattle.flow_solve.specs.Packs.{IsPacked};
 ghost use Rattle.flow_solve.specs.Steps.{OnlyLooks, PaysLooks};
 
-use crate::frontiers::{get, put};
+use crate::forest::{get, put};
 use crate::packing::Packed;
 use crate::searching::{Direction, FAR, cross, head};
 use crate::waves::excess::{

@@ -49,7 +49,7 @@ fn least_of(numbers: &[u32]) -> u32
 }
 
 /// The least number of arcs that leave a node, or that enter one: the connectivity is no greater.
-fn least_degree(net: &Network, cells: &mut [u32]) -> u64
+pub(crate) fn least_degree(net: &Network, cells: &mut [u32]) -> u64
     requires cells { 2 * net.now.nodes ≤ length cells.old }
     ensures reached { (X : ℕ → Bool) × IsProper net.now X × (leaving net.now X ≡ result) }
     ensures least { (v : ℕ) → IsNode net.now v → result ≤ leaving net.now (just v) }

@@ -22,9 +22,11 @@ use Rattle.flow_text.specs.ProblemReading.{problem_tests, mark_tests}
 use Rattle.flow_text.specs.Problem.{size_tests, node_tests, arc_tests, end_tests, instance_of}
 use Rattle.flow_text.specs.Problem.{nodes}
 use Rattle.flow_text.specs.ProblemReading.{marks_of, size_of, node_of, arc_of, with_problem_record, with_node}
-use Rattle.flow_text.specs.Solution.{Written, stated_of, solution, solution_rules, solution_record_fault}
+use Rattle.flow_text.specs.Solution.{stated_of, solution, solution_rules, solution_record_fault}
 use Rattle.flow_text.specs.SolutionReading.{SolutionSoFar, so_far_of, so_far_rules, stated_in}
-use Rattle.flow_text.specs.Solution.{value_tests, written_of}
+use Rattle.flow_text.specs.Solution.{value_tests}
+use Rattle.flow_text.specs.SolutionReading.{Written, written_of}
+use Rattle.flow_text.specs.declared.solutions.FlowLine.{FlowLine}
 use Rattle.flow_text.specs.SolutionReading.{flow_of, with_solution_record, IsLineWithin, IsWithinLimits}
 use Rattle.flow_text.specs.declared.faults.FaultCode.{FaultCode}
 use Rattle.flow_text.specs.declared.faults.FaultCode.TheVariants.{UnknownLine, WrongFields, NotMax, NotTerminal}
@@ -309,11 +311,12 @@ nothing_stated : (nodes : ℕ) → IsInsideSolution (so_far_of nodes [])
 unfolding stated_of
 nothing_stated nodes = record { value_most = omega arith; lines_most = omega arith; lines_within = search std_rules }
 
-pub accepted_solution : (b : List ℕ) (nodes : ℕ) (found : Written) → solution b nodes ≡ Ok found
+pub accepted_solution : (b : List ℕ) (nodes : ℕ) (found : Written)
+    → solution b nodes ≡ Ok (found.value, found.lines)
     → IsWithinLimits nodes found
 unfolding solution
 accepted_solution b nodes found h =
-    let parts = accepted-parts _ found (whole_fault (solution_rules nodes) stated_of b) h in
+    let parts = accepted-parts _ (found.value, found.lines) (whole_fault (solution_rules nodes) stated_of b) h in
     let whole = by_text so_far_rules (so_far_of nodes) with_solution_record (Adds-solution nodes) IsInsideSolution
     keeps_solution b (nothing_stated nodes) (whole-same nodes b ∙ parts.0) in
-    subst (λ (w : Written). IsWithinLimits nodes w) parts.1 whole.0
+    subst (λ (w : ℕ × List FlowLine). IsWithinLimits nodes (record { value = w.0; lines = w.1 })) parts.1 whole.0

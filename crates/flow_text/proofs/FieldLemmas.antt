@@ -8,7 +8,9 @@ use Rattle.std.proofs.lemmas.List.{drop_all, append-nil}
 use Rattle.std.proofs.lemmas.List.Edits.{length-between, get_or-between}
 use Rattle.std.proofs.lemmas.List.Elements.{All-from_get_or}
 use Rattle.std.proofs.lemmas.Bool.{cases_lt}
-use Rattle.flow_text.specs.Fields.{fields_of, is_blank, has_bytes}
+use Rattle.flow_text.specs.Fields.{fields_of}
+use Rattle.flow_text.specs.LineParts.{has_bytes}
+use Rattle.flow_text.specs.LineParts.{is_blank}
 
 -- a blank in front changes nothing
 pub fields_of-blank : (c : ℕ) (line : List ℕ) → is_blank c ≡ true → fields_of (c ∷ line) ≡ fields_of line

@@ -10,7 +10,9 @@ use Rattle.std.proofs.lemmas.List.{map-append}
 use Rattle.std.proofs.lemmas.List.Folds.{find-append}
 use Rattle.std.proofs.lemmas.List.Elements.{filter-append}
 use Rattle.std.proofs.lemmas.List.Splits.{slice_split-cons_no}
-use Rattle.flow_text.specs.Fields.{fields_of, is_blank, has_bytes}
+use Rattle.flow_text.specs.Fields.{fields_of}
+use Rattle.flow_text.specs.LineParts.{has_bytes}
+use Rattle.flow_text.specs.LineParts.{is_blank}
 use Rattle.flow_text.specs.Rules.{is_comment, names}
 use Rattle.flow_text.proofs.RuleLemmas.{has_some}
 

@@ -14,8 +14,10 @@ use Rattle.std.proofs.Math.Nat.{pow-suc}
 use Rattle.std.proofs.Math.Seq.{take-append_seam, get_or-append_seam}
 use Rattle.memchr.specs.Find.{IsFirstByte, is_byte}
 use Rattle.flow_text.specs.LineParts.{is_end}
-use Rattle.flow_text.specs.Fields.{fields_of, is_blank}
-use Rattle.flow_text.specs.Digits.{value_of, is_number}
+use Rattle.flow_text.specs.Fields.{fields_of}
+use Rattle.flow_text.specs.LineParts.{is_blank}
+use Rattle.flow_text.specs.Digits.{value_of}
+use Rattle.flow_text.specs.Numbers.{is_number}
 use Rattle.flow_text.specs.Rules.{is_comment}
 use Rattle.flow_text.specs.Tests.{first_failed, ends_tests}
 use Rattle.flow_text.specs.declared.faults.FaultCode.{FaultCode}

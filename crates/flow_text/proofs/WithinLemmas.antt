@@ -7,8 +7,9 @@ use Rattle.std.proofs.lemmas.Grind.{common_steps}
 use Rattle.flow_net.specs.declared.limits.TheConstants.{GREATEST_CAPACITY}
 use Rattle.flow_text.specs.Lines.{lines}
 use Rattle.flow_text.specs.Fields.{fields_of, field_at}
-use Rattle.flow_text.specs.Digits.{value_of, is_number}
-use Rattle.flow_text.specs.Tests.{Test, first_failed, number_tests, ends_tests}
+use Rattle.flow_text.specs.Digits.{value_of}
+use Rattle.flow_text.specs.Numbers.{is_number}
+use Rattle.flow_text.specs.Tests.{first_failed, number_tests, ends_tests}
 use Rattle.flow_text.specs.Rules.{Rules, is_comment, fault_of, first_fault, whole_fault, at_line}
 use Rattle.flow_text.specs.Reading.{accepted, with_line, Adds}
 use Rattle.flow_text.specs.declared.faults.FaultCode.{FaultCode}
@@ -74,7 +75,7 @@ passed true code others h = cc
 passed false code others h = (refl, h)
 
 -- a number that passes its tests
-pub record InRange (field : List ℕ) (least greatest : ℕ) (tests : List Test) : Type 0 where
+pub record InRange (field : List ℕ) (least greatest : ℕ) (tests : List (Bool × FaultCode)) : Type 0 where
   pub from : least ≤ value_of field
   pub to : value_of field ≤ greatest
   pub others : first_failed tests ≡ None
@@ -83,7 +84,7 @@ or_false : (a b : Bool) → (a || b) ≡ false → (a ≡ false) × (b ≡ false
 or_false false b h = (refl, h)
 or_false true b h = cc
 
-pub number-passed : (field : List ℕ) (least greatest : ℕ) (code : FaultCode) (tests : List Test)
+pub number-passed : (field : List ℕ) (least greatest : ℕ) (code : FaultCode) (tests : List (Bool × FaultCode))
     → first_failed (number_tests field least greatest code ++ tests) ≡ None → InRange field least greatest tests
 number-passed field least greatest code tests h =
     let digits = passed (not (is_number field)) _

@@ -1,7 +1,6 @@
 -- The value of a field.
-use Rattle.std.specs.Prelude.{ℕ, ◌+◌, ◌*◌, ◌-◌, ◌^◌, Bool, ◌&&◌, List, [], ◌∷◌, length}
-use Rattle.std.specs.Str.{all_ascii_digits}
-use Rattle.flow_text.specs.Fields.{has_bytes, field_at}
+use Rattle.std.specs.Prelude.{ℕ, ◌+◌, ◌*◌, ◌-◌, ◌^◌, List, [], ◌∷◌, length}
+use Rattle.flow_text.specs.Fields.{field_at}
 
 -- each digit times 10 to the number of digits after it
 unfoldable pub value_of : List ℕ → ℕ
@@ -11,7 +10,3 @@ value_of (digit ∷ digits) = (digit - 48) * 10 ^ length digits + value_of digit
 -- the value of the field at a place, counted from 0
 abbrev pub number_at : List (List ℕ) → ℕ → ℕ
 number_at fields k = value_of (field_at fields k)
-
--- one digit or more, and nothing else
-abbrev pub is_number : List ℕ → Bool
-is_number field = has_bytes field && all_ascii_digits field

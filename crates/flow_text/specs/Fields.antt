@@ -1,17 +1,11 @@
 -- The fields of a line.
-use Rattle.std.specs.Prelude.{ℕ, Bool, ◌==◌, ◌||◌, List, [], length, nat_lt, filter, slice_index_or}
+use Rattle.std.specs.Prelude.{ℕ, ◌==◌, ◌||◌, List, [], length, nat_lt, filter, slice_index_or}
 use Rattle.std.specs.List.{slice_split}
 
--- byte 32, 9 or 13
-abbrev pub is_blank : ℕ → Bool
-is_blank c = c == 32 || c == 9 || c == 13
-
-abbrev pub has_bytes : List ℕ → Bool
-has_bytes bytes = nat_lt 0 (length bytes)
-
--- the parts between blanks that have a byte, in order
+-- the parts between the bytes 32, 9 and 13, in order, but for those without a byte
 unfoldable pub fields_of : List ℕ → List (List ℕ)
-fields_of line = filter has_bytes (slice_split is_blank line)
+fields_of line =
+    filter (λ part. nat_lt 0 (length part)) (slice_split (λ c. c == 32 || c == 9 || c == 13) line)
 
 -- the field at a place, counted from 0
 abbrev pub field_at : List (List ℕ) → ℕ → List ℕ

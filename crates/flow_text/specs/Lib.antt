@@ -15,3 +15,4 @@ pub mod FaultTexts
 pub mod UsualLines
 pub mod TextLaws
 pub mod Output
+pub mod ArcLines

@@ -20,10 +20,6 @@ line_of word numbers = codes word ++ flat_map (λ n. codes " " ++ decimal n) num
 abbrev pub flow_line : Arc × ℕ → List ℕ
 flow_line (arc, flow) = line_of "f" (arc.src ∷ arc.dst ∷ flow ∷ [])
 
--- a SRC DST CAP
-abbrev pub arc_line : Arc → List ℕ
-arc_line arc = line_of "a" (arc.src ∷ arc.dst ∷ arc.cap ∷ [])
-
 -- the word of the verdict, and its numbers; FOUND alone may be negative, with '-' before its digits
 unfoldable pub verdict_line : Verdict → List ℕ
 verdict_line (Over src dst flow cap) = line_of "over" (src ∷ dst ∷ flow ∷ cap ∷ [])
@@ -45,8 +41,8 @@ solve_text value_only net value flows =
     line_of "s" (value ∷ []) ++ (if value_only then [] else flat_map flow_line (zip net.arcs flows))
 
 -- A cut: the value, the nodes of its source side, rising, and where they are asked for the arcs that leave it, in
--- order.
+-- order, each as a SRC DST CAP.
 unfoldable pub cut_text : Bool → Net → ℕ → (ℕ → Bool) → List ℕ
 cut_text arcs net value X =
     line_of "s" (value ∷ []) ++ flat_map (λ v. line_of "n" (v ∷ [])) (filter X (range_with_len 1 net.nodes))
-    ++ (if arcs then flat_map arc_line (filter (leaves X) net.arcs) else [])
+    ++ (if arcs then flat_map (λ a. line_of "a" (a.src ∷ a.dst ∷ a.cap ∷ [])) (filter (leaves X) net.arcs) else [])

@@ -9,7 +9,7 @@ use Rattle.flow_net.specs.NodeSets.{one_of}
 use Rattle.flow_text.specs.Lines.{lines}
 use Rattle.flow_text.specs.Fields.{fields_of, field_at}
 use Rattle.flow_text.specs.Digits.{number_at}
-use Rattle.flow_text.specs.Tests.{first_failed, number_tests, ends_tests, Test}
+use Rattle.flow_text.specs.Tests.{first_failed, number_tests, ends_tests}
 use Rattle.flow_text.specs.Rules.{Rules, names, early_fault, whole_fault}
 use Rattle.flow_text.specs.declared.faults.FaultCode.{FaultCode}
 use Rattle.flow_text.specs.declared.faults.FaultCode.TheVariants.{UnknownLine, WrongFields, SecondProblemLine, ProblemLineMissing, NotMax, NodesOutOfRange, ArcsOutOfRange, NodeOutOfRange, NodeLineAfterArcLine, NotTerminal, TerminalsMissing, AlreadyTerminal, TooManyArcs, CapacityOutOfRange, TooFewArcs}
@@ -44,12 +44,8 @@ nodes known = (unwrap_or known.size (0, 0)).0
 abbrev pub arc_count : Known → ℕ
 arc_count known = (unwrap_or known.size (0, 0)).1
 
--- whether a source or a sink is missing
-abbrev pub lacks_terminals : Known → Bool
-lacks_terminals known = nat_le (length known.sources) 0 || nat_le (length known.sinks) 0
-
 -- the tests of a problem line, but for that of a second one
-unfoldable pub size_tests : List (List ℕ) → List Test
+unfoldable pub size_tests : List (List ℕ) → List (Bool × FaultCode)
 size_tests fields =
     (not (length fields == 4), WrongFields)
     ∷ (not (bytes_eq (field_at fields 1) (codes "max")), NotMax)
@@ -57,7 +53,7 @@ size_tests fields =
     ++ number_tests (field_at fields 3) 0 MOST_ARCS ArcsOutOfRange
 
 -- the tests of a node line
-abbrev pub node_tests : Known → List (List ℕ) → List Test
+abbrev pub node_tests : Known → List (List ℕ) → List (Bool × FaultCode)
 node_tests known fields =
     (not (is_some known.size), ProblemLineMissing)
     ∷ (nat_lt 0 (length known.arcs), NodeLineAfterArcLine)
@@ -67,10 +63,10 @@ node_tests known fields =
     ∷ (one_of known.sources (number_at fields 1) || one_of known.sinks (number_at fields 1), AlreadyTerminal) ∷ []
 
 -- the tests of an arc line
-abbrev pub arc_tests : Known → List (List ℕ) → List Test
+abbrev pub arc_tests : Known → List (List ℕ) → List (Bool × FaultCode)
 arc_tests known fields =
     (not (is_some known.size), ProblemLineMissing)
-    ∷ (lacks_terminals known, TerminalsMissing)
+    ∷ (nat_le (length known.sources) 0 || nat_le (length known.sinks) 0, TerminalsMissing)
     ∷ (nat_le (arc_count known) (length known.arcs), TooManyArcs)
     ∷ ends_tests (nodes known) CapacityOutOfRange fields
 
@@ -83,10 +79,10 @@ problem_record_fault known fields =
     else Some UnknownLine
 
 -- the tests of the end of input
-abbrev pub end_tests : Known → List Test
+abbrev pub end_tests : Known → List (Bool × FaultCode)
 end_tests known =
     (not (is_some known.size), ProblemLineMissing)
-    ∷ (lacks_terminals known, TerminalsMissing)
+    ∷ (nat_le (length known.sources) 0 || nat_le (length known.sinks) 0, TerminalsMissing)
     ∷ (nat_lt (length known.arcs) (arc_count known), TooFewArcs) ∷ []
 
 -- the rules of a problem file

@@ -11,7 +11,6 @@ use Rattle.flow_text.specs.Digits.{value_of}
 use Rattle.flow_text.specs.Rules.{names}
 use Rattle.flow_text.specs.Terminals.{Marks, lacks_one}
 use Rattle.flow_text.specs.Problem.{Known, known_of, size_tests, node_tests, instance_of, problem_rules}
-use Rattle.flow_text.specs.Tests.{Test}
 use Rattle.flow_text.specs.declared.faults.FaultCode.TheVariants.{SecondProblemLine}
 use Rattle.flow_text.specs.Reading.{State, HasRead, FeedsBy, AnswersAs}
 use Rattle.flow_text.specs.declared.faults.FaultCode.{FaultCode}
@@ -37,7 +36,7 @@ arc_of fields = record {
 }
 
 -- the tests of a problem line
-abbrev pub problem_tests : Known → List (List ℕ) → List Test
+abbrev pub problem_tests : Known → List (List ℕ) → List (Bool × FaultCode)
 problem_tests known fields = (is_some known.size, SecondProblemLine) ∷ size_tests fields
 
 -- the terminals after a node line with these fields
@@ -85,7 +84,7 @@ known_with sized = record {
 }
 
 -- the tests of a node line behind its first two, which look at other lines alone
-unfoldable pub mark_tests : ℕ → Marks → List (List ℕ) → List Test
+unfoldable pub mark_tests : ℕ → Marks → List (List ℕ) → List (Bool × FaultCode)
 mark_tests nodes marks fields =
     drop 2 (node_tests (known_with (record { nodes = nodes; declared = 0; marks = marks; arcs = [] })) fields)
 

@@ -1,11 +1,11 @@
 -- Solution files of the DIMACS format (1990): which fault a text has, or which value and flow lines it gives.
-use Rattle.std.specs.Prelude.{ℕ, not, ◌==◌, nat_le, List, ◌∷◌, length, map, filter, Option, None, Some, is_some, Result, Ok, Err, if◌then◌else◌, codes}
+use Rattle.std.specs.Prelude.{ℕ, Bool, not, ◌==◌, nat_le, List, ◌∷◌, length, map, filter, Option, None, Some, is_some, Result, Ok, Err, if◌then◌else◌, codes}
 use Rattle.std.specs.List.{find}
 use Rattle.std.specs.Option.{option_map, option_map_or, unwrap_or}
 use Rattle.flow_text.specs.Lines.{lines}
 use Rattle.flow_text.specs.Fields.{fields_of, field_at}
 use Rattle.flow_text.specs.Digits.{number_at}
-use Rattle.flow_text.specs.Tests.{first_failed, number_tests, ends_tests, Test}
+use Rattle.flow_text.specs.Tests.{first_failed, number_tests, ends_tests}
 use Rattle.flow_text.specs.Rules.{Rules, names, early_fault, whole_fault}
 use Rattle.flow_text.specs.declared.faults.FaultCode.{FaultCode}
 use Rattle.flow_text.specs.declared.faults.FaultCode.TheVariants.{UnknownLine, WrongFields, SecondSolutionLine, SolutionLineMissing, TooManyFlowLines, FlowOutOfRange, ValueOutOfRange}
@@ -27,12 +27,12 @@ stated_of before = let records = map fields_of before in record {
 }
 
 -- the tests of a solution line, but for that of a second one
-unfoldable pub value_tests : List (List ℕ) → List Test
+unfoldable pub value_tests : List (List ℕ) → List (Bool × FaultCode)
 value_tests fields =
     (not (length fields == 2), WrongFields) ∷ number_tests (field_at fields 1) 0 GREATEST_VALUE ValueOutOfRange
 
 -- the tests of a flow line
-abbrev pub flow_tests : ℕ → Stated → List (List ℕ) → List Test
+abbrev pub flow_tests : ℕ → Stated → List (List ℕ) → List (Bool × FaultCode)
 flow_tests nodes stated fields =
     (not (is_some stated.value), SolutionLineMissing)
     ∷ (nat_le MOST_FLOW_LINES (length stated.lines), TooManyFlowLines)
@@ -53,19 +53,11 @@ solution_end_fault stated = if is_some stated.value then None else Some Solution
 abbrev pub solution_rules : ℕ → Rules Stated
 solution_rules nodes = record { record_fault = solution_record_fault nodes; end_fault = solution_end_fault }
 
--- what an accepted solution says: VALUE and the flow lines
-pub record Written : Type 0 where
-  pub value : ℕ
-  pub lines : List FlowLine
-
-abbrev pub written_of : Stated → Written
-written_of stated = record { value = unwrap_or stated.value 0; lines = stated.lines }
-
 -- the early fault of a solution text that may go on, for a problem of so many nodes
 abbrev pub early_solution : List ℕ → ℕ → Option (ℕ × FaultCode)
 early_solution b nodes = early_fault (solution_rules nodes) stated_of b
 
--- the first fault of a whole solution text, or what it says
-unfoldable pub solution : List ℕ → ℕ → Result Written (ℕ × FaultCode)
-solution b nodes =
-    option_map_or Err (whole_fault (solution_rules nodes) stated_of b) (Ok (written_of (stated_of (lines b))))
+-- the first fault of a whole solution text, or what it says: VALUE and the flow lines
+unfoldable pub solution : List ℕ → ℕ → Result (ℕ × List FlowLine) (ℕ × FaultCode)
+solution b nodes = let stated = stated_of (lines b) in
+    option_map_or Err (whole_fault (solution_rules nodes) stated_of b) (Ok (unwrap_or stated.value 0, stated.lines))

@@ -1,11 +1,11 @@
 -- What the reader of a solution keeps and answers.
 use Rattle.std.specs.Prelude.{◌≡◌, ℕ, Bool, true, false, ◌≤◌, ◌<◌, ◌^◌, ◌++◌, List, [], ◌∷◌, length, Option, Some, None, is_some, Result, Ok, Err, codes, if◌then◌else◌}
 use Rattle.std.specs.List.{All}
+use Rattle.std.specs.Option.{unwrap_or}
 use Rattle.flow_text.specs.Fields.{field_at}
 use Rattle.flow_text.specs.Digits.{value_of}
 use Rattle.flow_text.specs.Rules.{Rules, names}
-use Rattle.flow_text.specs.Solution.{Stated, stated_of, value_tests, solution_record_fault, solution_end_fault, Written, early_solution}
-use Rattle.flow_text.specs.Tests.{Test}
+use Rattle.flow_text.specs.Solution.{Stated, stated_of, value_tests, solution_record_fault, solution_end_fault, early_solution}
 use Rattle.flow_text.specs.declared.faults.FaultCode.TheVariants.{SecondSolutionLine}
 use Rattle.flow_text.specs.Reading.{State, HasRead, Tells, Refuses, AnswersAs}
 use Rattle.flow_text.specs.declared.faults.FaultCode.{FaultCode}
@@ -15,6 +15,14 @@ use Rattle.flow_text.specs.declared.machine.Refusal.TheVariants.{Memory}
 use Rattle.flow_text.specs.declared.solutions.FlowLine.{FlowLine}
 use Rattle.flow_text.specs.declared.solutions.Solution.{Solution}
 use Rattle.flow_text.specs.declared.limits.TheConstants.{GREATEST_VALUE, MOST_FLOW_LINES}
+
+-- what an accepted solution says: VALUE and the flow lines
+pub record Written : Type 0 where
+  pub value : ℕ
+  pub lines : List FlowLine
+
+abbrev pub written_of : Stated → Written
+written_of stated = record { value = unwrap_or stated.value 0; lines = stated.lines }
 
 -- VALUE of `s VALUE`
 abbrev pub given_of : List (List ℕ) → ℕ
@@ -43,7 +51,7 @@ so_far_rules = record {
 }
 
 -- the tests of a solution line
-abbrev pub solution_tests : SolutionSoFar → List (List ℕ) → List Test
+abbrev pub solution_tests : SolutionSoFar → List (List ℕ) → List (Bool × FaultCode)
 solution_tests known fields = (is_some known.value, SecondSolutionLine) ∷ value_tests fields
 
 -- SRC, DST and FLOW of `f SRC DST FLOW`
@@ -98,8 +106,8 @@ FeedsSolution nodes b (Ok done) new = ReadsSolution nodes new b
 FeedsSolution nodes b (Err fault) new = Tells fault (early_solution b nodes) × Refuses new fault
 
 -- what `finish` answers to a whole text
-abbrev pub FinishesSolution : Result Written (ℕ × FaultCode) → Result Solution ReadFault → Type 0
-FinishesSolution answer (Ok found) = answer ≡ Ok (written_in found)
+abbrev pub FinishesSolution : Result (ℕ × List FlowLine) (ℕ × FaultCode) → Result Solution ReadFault → Type 0
+FinishesSolution answer (Ok found) = answer ≡ Ok (found.value, found.lines.items)
 FinishesSolution answer (Err fault) = AnswersAs answer (Err fault)
 
 -- the flow lines that a reader lends: none after a refusal

@@ -1,27 +1,25 @@
--- Tests in an order: the first that fails decides.
-use Rattle.std.specs.Prelude.{ℕ, Bool, not, ◌||◌, ◌==◌, nat_lt, List, [], ◌∷◌, ◌++◌, length, Option, None, Some, if◌then◌else◌}
+-- Tests in an order: the first that fails decides. A test is whether it fails, with the fault that it tells.
+use Rattle.std.specs.Prelude.{ℕ, Bool, not, ◌&&◌, ◌||◌, ◌==◌, nat_lt, List, [], ◌∷◌, ◌++◌, length, Option, None, Some, if◌then◌else◌}
 use Rattle.flow_text.specs.Fields.{field_at}
-use Rattle.flow_text.specs.Digits.{is_number, value_of}
+use Rattle.flow_text.specs.Digits.{value_of}
+use Rattle.std.specs.Str.{all_ascii_digits}
 use Rattle.flow_text.specs.declared.faults.FaultCode.{FaultCode}
 use Rattle.flow_text.specs.declared.faults.FaultCode.TheVariants.{WrongFields, BadNumber, NodeOutOfRange}
 use Rattle.flow_net.specs.declared.limits.TheConstants.{GREATEST_CAPACITY}
 
--- whether a test fails, and the fault that it tells
-abbrev pub Test : Type 0
-Test = Bool × FaultCode
-
-abbrev pub first_failed : List Test → Option FaultCode
+-- the fault of the first test that fails
+abbrev pub first_failed : List (Bool × FaultCode) → Option FaultCode
 first_failed [] = None
 first_failed (test ∷ tests) = if test.0 then Some test.1 else first_failed tests
 
--- a number from a least to a greatest
-abbrev pub number_tests : List ℕ → ℕ → ℕ → FaultCode → List Test
+-- a number, of one digit or more and nothing else, from a least to a greatest
+abbrev pub number_tests : List ℕ → ℕ → ℕ → FaultCode → List (Bool × FaultCode)
 number_tests field least greatest code =
-    (not (is_number field), BadNumber)
+    (not (nat_lt 0 (length field) && all_ascii_digits field), BadNumber)
     ∷ (nat_lt (value_of field) least || nat_lt greatest (value_of field), code) ∷ []
 
 -- a line of a letter, SRC, DST and a number of 64 bits, where a greater number has this fault
-unfoldable pub ends_tests : ℕ → FaultCode → List (List ℕ) → List Test
+unfoldable pub ends_tests : ℕ → FaultCode → List (List ℕ) → List (Bool × FaultCode)
 ends_tests nodes code fields =
     (not (length fields == 4), WrongFields)
     ∷ number_tests (field_at fields 1) 1 nodes NodeOutOfRange

@@ -6,8 +6,8 @@ use Rattle.flow_net.specs.Limits.{IsNet, IsProblem}
 use Rattle.flow_text.specs.Lines.{ended, rest}
 use Rattle.flow_text.specs.LineParts.{joined, HasNoEnd}
 use Rattle.flow_text.specs.Problem.{early, problem}
-use Rattle.flow_text.specs.Solution.{Written, early_solution, solution}
-use Rattle.flow_text.specs.SolutionReading.{IsWithinLimits}
+use Rattle.flow_text.specs.Solution.{early_solution, solution}
+use Rattle.flow_text.specs.SolutionReading.{Written, IsWithinLimits}
 use Rattle.flow_text.specs.declared.faults.FaultCode.{FaultCode}
 
 -- each text is cut into lines and a rest without byte 10 ..
@@ -35,5 +35,5 @@ AcceptedProblemIsWithin = (b : List ℕ) (p : Instance) → problem b ≡ Ok p �
 
 -- an accepted solution text says a value and flow lines within the limits
 abbrev pub AcceptedSolutionIsWithin : Type 0
-AcceptedSolutionIsWithin = (b : List ℕ) (nodes : ℕ) (found : Written) → solution b nodes ≡ Ok found
-    → IsWithinLimits nodes found
+AcceptedSolutionIsWithin = (b : List ℕ) (nodes : ℕ) (found : Written)
+    → solution b nodes ≡ Ok (found.value, found.lines) → IsWithinLimits nodes found

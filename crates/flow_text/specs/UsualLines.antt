@@ -4,8 +4,10 @@ use Rattle.std.specs.Prelude.{◌≡◌, ℕ, ◌^◌, ◌<◌, ◌≤◌, true,
 use Rattle.std.specs.Str.{all_ascii_digits}
 use Rattle.memchr.specs.Find.{IsFirstByte, is_byte}
 use Rattle.flow_text.specs.LineParts.{is_end}
-use Rattle.flow_text.specs.Fields.{fields_of, is_blank}
-use Rattle.flow_text.specs.Digits.{value_of, is_number}
+use Rattle.flow_text.specs.Fields.{fields_of}
+use Rattle.flow_text.specs.LineParts.{is_blank}
+use Rattle.flow_text.specs.Digits.{value_of}
+use Rattle.flow_text.specs.Numbers.{is_number}
 use Rattle.flow_text.specs.Rules.{is_comment}
 use Rattle.flow_text.specs.declared.limits.TheConstants.{LONGEST_LINE, SHORT_DIGITS}
 

@@ -5,7 +5,8 @@
 ghost use Rattle.std.specs.Prelude.{◌≡◌, ◌+◌, ◌<◌, ◌≤◌, [], ◌∷◌, ◌++◌, length, drop, codes, decimal};
 ghost use Rattle.arrayvec.specs.ArrayVec.{array_vec_len};
 ghost use Rattle.flow_text.specs.FaultTexts.{fault_text};
-ghost use Rattle.flow_text.specs.Output.{arc_line, fault_line, line_of, verdict_line};
+ghost use Rattle.flow_text.specs.ArcLines.{arc_line};
+ghost use Rattle.flow_text.specs.Output.{fault_line, line_of, verdict_line};
 
 use crate::{FaultCode, Verdict};
 use arrayvec::ArrayVec;

@@ -1,9 +1,9 @@
 //! The judge of the lines of a solution.
 ghost use Rattle.std.specs.Prelude.{◌≡◌, ◌≤◌, [], ◌∷◌, ◌++◌, List, ℕ, Some, None, is_some, true, length, IfOk, MatchResult};
 ghost use Rattle.flow_text.specs.Tests.{first_failed};
-ghost use Rattle.flow_text.specs.Solution.{value_tests, flow_tests, written_of};
+ghost use Rattle.flow_text.specs.Solution.{value_tests, flow_tests};
 ghost use Rattle.flow_text.specs.SolutionReading.{solution_tests, so_far_of, so_far_rules, stated_in};
-ghost use Rattle.flow_text.specs.SolutionReading.{given_of, flow_of, KeepsLine, with_solution_record, written_in, IsWithinLimits};
+ghost use Rattle.flow_text.specs.SolutionReading.{given_of, flow_of, KeepsLine, with_solution_record, written_in, written_of, IsWithinLimits};
 ghost use Rattle.flow_text.specs.Reading.{Judges};
 
 use crate::faults::FaultCode;
@@ -39,8 +39,7 @@ pub(crate) struct SolutionLines {
 }
 
 impl Model for SolutionLines {
-    ghost use Rattle.flow_text.specs.Solution.{written_of};
-    ghost use Rattle.flow_text.specs.SolutionReading.{SolutionSoFar, IsWithinLimits};
+    ghost use Rattle.flow_text.specs.SolutionReading.{written_of, SolutionSoFar, IsWithinLimits};
 
     ghost Value = { SolutionSoFar };
 

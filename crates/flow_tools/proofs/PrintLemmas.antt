@@ -8,7 +8,8 @@ use Rattle.flow_net.specs.Nets.{Net, arc_at}
 use Rattle.flow_net.specs.Arcs.{no_arc}
 use Rattle.flow_net.specs.declared.networks.Arc.{Arc}
 use Rattle.flow_net.specs.Cuts.{leaves}
-use Rattle.flow_text.specs.Output.{flow_line, arc_line, line_of}
+use Rattle.flow_text.specs.Output.{flow_line, line_of}
+use Rattle.flow_text.specs.ArcLines.{arc_line}
 use Rattle.flow_tools.specs.Sides.{nodes_inside}
 use Rattle.flow_text.specs.Output.{solve_text, cut_text}
 use Rattle.flow_tools.specs.Sending.{Stops}

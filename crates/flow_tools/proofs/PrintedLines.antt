@@ -13,8 +13,10 @@ use Rattle.flow_net.specs.Flows.{Fits}
 use Rattle.flow_net.proofs.Zips.{zip_from_fits}
 use Rattle.flow_text.specs.Lines.{rest, lines}
 use Rattle.flow_text.specs.LineParts.{is_end, joined, HasNoEnd}
-use Rattle.flow_text.specs.Fields.{fields_of, is_blank}
-use Rattle.flow_text.specs.Digits.{value_of, is_number}
+use Rattle.flow_text.specs.Fields.{fields_of}
+use Rattle.flow_text.specs.LineParts.{is_blank}
+use Rattle.flow_text.specs.Digits.{value_of}
+use Rattle.flow_text.specs.Numbers.{is_number}
 use Rattle.flow_text.specs.Tests.{first_failed}
 use Rattle.flow_text.specs.Rules.{fault_of, first_fault, whole_fault}
 use Rattle.flow_text.specs.Output.{line_of, flow_line, solve_text}

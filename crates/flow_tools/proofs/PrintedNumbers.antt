@@ -10,9 +10,11 @@ use Rattle.std.proofs.lemmas.Bool.{and_parts, and_from, ne_eqb}
 use Rattle.std.proofs.lemmas.Grind.{common_steps}
 use Rattle.std.proofs.lemmas.Fmt.{decimal_by_steps_wide}
 use Rattle.std.proofs.lemmas.List.Elements.{All-nil, All-cons}
-use Rattle.flow_text.specs.Fields.{is_blank, has_bytes}
+use Rattle.flow_text.specs.LineParts.{is_blank}
+use Rattle.flow_text.specs.LineParts.{has_bytes}
 use Rattle.flow_text.specs.LineParts.{is_end, HasNoEnd}
-use Rattle.flow_text.specs.Digits.{value_of, is_number}
+use Rattle.flow_text.specs.Digits.{value_of}
+use Rattle.flow_text.specs.Numbers.{is_number}
 
 -- Some digits, and the number that they make.
 pub record IsPrinted (n : ℕ) (ds : List ℕ) : Type 0 where

@@ -1,7 +1,8 @@
 //! The lines of which a text has many are made in the gathered bytes themselves, so that each is copied once.
 ghost use Rattle.std.specs.Prelude.{◌+◌, ◌≤◌, [], ◌∷◌, ◌++◌, OnOk};
 ghost use Rattle.arrayvec.specs.ArrayVec.{array_vec_len};
-ghost use Rattle.flow_text.specs.Output.{arc_line, flow_line, line_of};
+ghost use Rattle.flow_text.specs.Output.{flow_line, line_of};
+ghost use Rattle.flow_text.specs.ArcLines.{arc_line};
 ghost use Rattle.flow_tools.specs.Streams.{over};
 ghost use Rattle.flow_tools.specs.Sending.{IsGathered};
 

@@ -2,7 +2,8 @@
 ghost use Rattle.std.specs.Prelude.{◌≡◌, ◌≤◌, [], ◌∷◌, ◌++◌, length, filter};
 ghost use Rattle.std.specs.List.{flat_map, zip};
 ghost use Rattle.flow_net.specs.Cuts.{leaves};
-ghost use Rattle.flow_text.specs.Output.{arc_line, cut_text, flow_line, line_of, solve_text};
+ghost use Rattle.flow_text.specs.Output.{cut_text, flow_line, line_of, solve_text};
+ghost use Rattle.flow_text.specs.ArcLines.{arc_line};
 ghost use Rattle.flow_tools.specs.Sides.{nodes_inside, side_of};
 ghost use Rattle.flow_tools.specs.Streams.{over};
 ghost use Rattle.flow_tools.specs.Sending.{IsGathered, IsPut};

@@ -3,7 +3,7 @@
 use Rattle.std.proofs.Common.{◌∙◌, arith, refl, rules}
 use Rattle.flow_net.specs.Arcs.{no_arc}
 use Rattle.flow_net.specs.Cuts.{leaves}
-use Rattle.flow_text.specs.Output.{arc_line}
+use Rattle.flow_text.specs.ArcLines.{arc_line}
 use Rattle.flow_tools.specs.Sides.{side_of}
 use Rattle.flow_tools.proofs.SendLemmas.{on_err}
 use Rattle.flow_tools.proofs.LineLemmas.{line_if, lines_more, lines_skip, lines_stop, lines_end, flat_map-filter}

@@ -1,7 +1,7 @@
 -- The lines so far have been put or wait, and no put has failed.
 use Rattle.std.proofs.Common.{◌≡◌}
 use Rattle.flow_net.specs.Cuts.{leaves}
-use Rattle.flow_text.specs.Output.{arc_line}
+use Rattle.flow_text.specs.ArcLines.{arc_line}
 use Rattle.flow_tools.specs.Sides.{side_of}
 use Rattle.flow_tools.proofs.LineLemmas.{line_if, HasSent}
 use Rattle.flow_tools.proofs.printing.gather_arcs.Given as goal

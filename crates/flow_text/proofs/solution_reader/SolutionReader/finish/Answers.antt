@@ -1,7 +1,7 @@
 -- `finish`: no fault, and the solution that the lines say; or the machine's fault.
 use Rattle.std.proofs.Common.{ap, sym, subst, ◌∙◌, ◌≡◌, ℕ}
-use Rattle.flow_text.specs.Solution.{written_of, solution}
-use Rattle.flow_text.specs.SolutionReading.{SolutionSoFar, so_far_of, stated_in, IsWithinLimits, written_in}
+use Rattle.flow_text.specs.Solution.{solution}
+use Rattle.flow_text.specs.SolutionReading.{Written, written_of, SolutionSoFar, so_far_of, stated_in, IsWithinLimits, written_in}
 use Rattle.flow_text.proofs.EndLemmas.{accepted-fine, accepted-fault}
 use Rattle.flow_text.proofs.SolutionLemmas.{Adds-solution, whole-same}
 use Rattle.flow_text.proofs.solution_reader.SolutionReader.finish.Goals as goal
@@ -12,7 +12,8 @@ unfolding solution
 returns-in-Ok-clause-whole c = λ nodes b r.
     let closed = c.in-Ok.ensures.whole (so_far_of nodes) (Adds-solution nodes) b (rw (← c.self.view_is) at r.0) in
     accepted-fine _ _ _ (sym (whole-same nodes b) ∙ closed.0)
-    (c.into_solution.ensures.written ∙ ap (λ (k : SolutionSoFar). written_of (stated_in k)) closed.1)
+    (ap (λ (w : Written). (w.value, w.lines))
+    (c.into_solution.ensures.written ∙ ap (λ (k : SolutionSoFar). written_of (stated_in k)) closed.1))
 
 -- its lines are within the limits
 pub returns-in-Ok-clause-limits : goal.returns-in-Ok-clause-limits

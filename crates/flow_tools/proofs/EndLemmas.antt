@@ -56,7 +56,9 @@ module _ (source : Stream) (q : Option (List ℕ)) (qf : Bool) (job : Job) where
     one_pass = r.one_pass;
     solution_read = inl (refl, refl);
     exit = exit_of stop r;
-    told = told;
+    e = told.0;
+    put_e = told.1;
+    told = told.2;
     answered = answered;
   } where
     exit_of : (stop : Stop)
@@ -84,7 +86,9 @@ module _ (source : Stream) (q : Option (List ℕ)) (qf : Bool) (job : Job) where
     one_pass = r.one_pass;
     solution_read = inl (refl, refl);
     exit = exit_of end a.o a.exit;
-    told = told;
+    e = told.0;
+    put_e = told.1;
+    told = told.2;
     answered = is;
   } where
     exit_of : (end : Result ℕ Stop) (o : List ℕ) → PutsAt job instance [] out o end
@@ -112,7 +116,9 @@ module _ (source given out : Stream) (feasible_only : Bool) (instance : Instance
     one_pass = r.one_pass;
     solution_read = inr (tt, r.judged.0, (instance, r.judged.1, a.one_pass));
     exit = exit_of end a.o a.exit;
-    told = told;
+    e = told.0;
+    put_e = told.1;
+    told = told.2;
     answered = answered;
   } where
     exit_of : (end : Result ℕ Stop) (o : List ℕ) → ChecksAt feasible_only instance given out a.q o end

@@ -15,5 +15,6 @@ pub mod ConnectAnswers
 pub mod PrintedNumbers
 pub mod PrintedLines
 pub mod OptimalTexts
+pub mod CutTextLemmas
 pub mod TextRunLemmas
 mod CircleLemmas

@@ -9,7 +9,7 @@ use Rattle.std.proofs.lemmas.List.Sorted.{sum_by-IsPermutation}
 use Rattle.flow_text.specs.SolutionReading.{IsLineWithin}
 use Rattle.flow_text.specs.declared.solutions.FlowLine.{FlowLine}
 use Rattle.flow_net.specs.declared.limits.TheConstants.{GREATEST_CAPACITY}
-use Rattle.flow_tools.specs.SolutionFlows.{line_flow}
+use Rattle.flow_tools.specs.LineFlows.{line_flow}
 
 -- the first line and the rest
 pub line_flow-cons : (p : ℕ → ℕ → Bool) (x : FlowLine) (lines : List FlowLine)

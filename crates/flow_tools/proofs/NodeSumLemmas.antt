@@ -15,8 +15,11 @@ use Rattle.flow_net.specs.MarkedNodes.{marked}
 use Rattle.flow_text.specs.SolutionReading.{IsLineWithin}
 use Rattle.flow_text.specs.declared.solutions.FlowLine.{FlowLine}
 use Rattle.flow_text.specs.declared.limits.TheConstants.{MOST_FLOW_LINES, GREATEST_VALUE}
-use Rattle.flow_tools.specs.SolutionFlows.{line_flow, lines_into, lines_out_of}
-use Rattle.flow_tools.specs.Verdicts.{IsInner, IsBalancedAt, IsBalanced, IsFirstUnbalanced}
+use Rattle.flow_tools.specs.SolutionFlows.{lines_into, lines_out_of}
+use Rattle.flow_tools.specs.LineFlows.{line_flow}
+use Rattle.flow_tools.specs.Verdicts.{IsInner, IsBalanced}
+use Rattle.flow_tools.specs.FirstFaults.{IsBalancedAt}
+use Rattle.flow_tools.specs.FirstFaults.{IsFirstUnbalanced}
 use Rattle.flow_tools.specs.NodeSums.{IsCellOf, at_node, AreNodeFlows, AreEqualUnless, IsFirstUnequal}
 use Rattle.flow_tools.proofs.LineSums.{line_flow-most, line_flow-cons, line_flow_agree}
 

@@ -11,14 +11,15 @@ use Rattle.flow_net.specs.NodeSets.{one_of, just}
 use Rattle.flow_net.specs.Flows.{flow_over, IsFeasible, HasValue, IsGreatest}
 use Rattle.flow_net.proofs.Zips.{zip_from_fits}
 use Rattle.flow_net.proofs.Cuts.{flow_over-le-cap_over}
-use Rattle.flow_text.specs.Solution.{Written, solution}
+use Rattle.flow_text.specs.SolutionReading.{Written}
+use Rattle.flow_text.specs.Solution.{solution}
 use Rattle.flow_text.specs.declared.verdicts.Verdict.{Verdict}
 use Rattle.flow_text.specs.declared.verdicts.Verdict.TheVariants.{Over, Unbalanced, Value, Feasible, NotMaximal}
 use Rattle.flow_text.specs.declared.verdicts.Verdict.TheVariants.{Optimal}
 use Rattle.flow_net.specs.declared.limits.TheConstants.{MOST_ARCS}
 use Rattle.flow_text.specs.declared.limits.TheConstants.{GREATEST_VALUE}
 use Rattle.flow_text.proofs.AcceptedLemmas.{accepted_problem}
-use Rattle.flow_tools.specs.SolutionFlows.{line_flow}
+use Rattle.flow_tools.specs.LineFlows.{line_flow}
 use Rattle.flow_tools.specs.Verdicts.{IsRight, IsVerdict, IsBalanced}
 use Rattle.flow_tools.specs.ArcShares.{Carries}
 use Rattle.flow_tools.specs.SolvedTexts.{carried_line, written_flow, SolvedIsOptimal}
@@ -54,7 +55,7 @@ value_small p xs value n few f v =
 
 -- a greatest flow, written down, is right
 written_right : (p : Instance) (xs : List ℕ) (value : ℕ) → IsFeasible p.net (one_of p.sources) (one_of p.sinks) xs
-    → HasValue p.net (one_of p.sources) xs value → IsRight p (written_flow p.net value xs)
+    → HasValue p.net (one_of p.sources) xs value → IsRight p value (map carried_line (zip p.net.arcs xs))
 written_right p xs value f v =
     let lines = map carried_line (zip p.net.arcs xs) in
     let c : Carries p.net lines xs = λ t. written_carries t p.net.arcs xs in
@@ -71,10 +72,10 @@ greatest_one : (net : Net) (s t : ℕ → Bool) (j k : ℕ) → IsGreatest net s
 greatest_one net s t j k g h = omega (arith, g.reached.2, h.most g.reached.0 g.reached.1)
 
 -- no other verdict than that it is optimal
-only_optimal : (p : Instance) (w : Written) (k : ℕ) (verdict : Verdict) → IsVerdict p w false (Optimal k)
-    → IsVerdict p w false verdict → verdict ≡ Optimal k
-only_optimal p w k (Over src dst flow cap) o v = absurd (omega (arith, v.0.over, o.0.0 src dst))
-only_optimal p w k (Unbalanced node into out) o v = absurd (v.1.unbalanced (o.0.1 node v.1.inner))
+only_optimal : (p : Instance) (w : Written) (k : ℕ) (verdict : Verdict) → IsVerdict p w.value w.lines false (Optimal k)
+    → IsVerdict p w.value w.lines false verdict → verdict ≡ Optimal k
+only_optimal p w k (Over src dst flow cap) o v = absurd (omega (arith, v.0, v.1, v.2, o.0.0 src dst))
+only_optimal p w k (Unbalanced node into out) o v = absurd (v.4 (v.2 ∙ o.0.1 node v.1 ∙ sym v.3))
 only_optimal p w k (Value given found) o v = absurd (v.2 (ap pos v.3 ∙ o.0.2 ∙ sym v.4))
 only_optimal p w k (Feasible value) o v = let never = v.1 in cc
 only_optimal p w k (NotMaximal value) o v =
@@ -89,12 +90,12 @@ solved_optimal b p text said s =
     let h : IsProblem p = within.1 in
     let w = written_flow p.net s.value s.flows in
     let right = written_right p s.flows s.value s.feasible s.valued in
-    let optimal : IsVerdict p w false (Optimal s.value) = (right, refl, refl, s.value_is.greatest) in
+    let optimal : IsVerdict p w.value w.lines false (Optimal s.value) = (right, refl, refl, s.greatest) in
     let accepted = solved_is_accepted p.net s.value s.flows n h.arcs_most
     (value_small p s.flows s.value n h.arcs_most s.feasible s.valued) s.feasible.fits in (
       w,
       s.value,
       ap (λ t. solution t p.net.nodes) s.text_is ∙ accepted,
-      s.value_is.greatest,
-      λ verdict. ((λ v. only_optimal p w s.value verdict optimal v), λ e. subst (IsVerdict p w false) (sym e) optimal),
+      s.greatest,
+      λ verdict. ((λ v. only_optimal p w s.value verdict optimal v), λ e. subst (IsVerdict p w.value w.lines false) (sym e) optimal),
     )

@@ -12,7 +12,7 @@ use Rattle.flow_net.specs.NodeSets.{just}
 use Rattle.flow_net.specs.Flows.{flow_over, out_of, into, Fits}
 use Rattle.flow_net.proofs.Zips.{zip_from_fits}
 use Rattle.flow_net.proofs.Cuts.{flow_over-le-cap_over}
-use Rattle.flow_text.specs.Solution.{Written}
+use Rattle.flow_text.specs.SolutionReading.{Written}
 use Rattle.flow_text.specs.SolutionReading.{IsLineWithin, IsWithinLimits}
 use Rattle.flow_text.specs.declared.solutions.FlowLine.{FlowLine}
 use Rattle.flow_text.specs.declared.verdicts.Verdict.{Verdict}
@@ -21,7 +21,8 @@ use Rattle.flow_text.specs.declared.verdicts.Verdict.TheVariants.{Optimal}
 use Rattle.flow_tools.specs.SolutionFlows.{pair_flow, lines_into, lines_out_of}
 use Rattle.flow_tools.specs.ArcShares.{is_pair}
 use Rattle.flow_tools.specs.FeasibleSolutions.{IsFeasibleSolution, is_of_feasible}
-use Rattle.flow_tools.specs.Verdicts.{IsWithinCapacities, IsBalanced, IsFirstOver, IsVerdict}
+use Rattle.flow_tools.specs.Verdicts.{IsWithinCapacities, IsBalanced, IsVerdict}
+use Rattle.flow_tools.specs.FirstFaults.{IsFirstOver}
 use Rattle.flow_tools.specs.ArcShares.{Carries}
 use Rattle.flow_tools.proofs.LineSums.{line_flow-cons}
 use Rattle.flow_tools.proofs.Judging.{carried_feasible}
@@ -210,12 +211,12 @@ over_told p lines src dst h s = omega (arith, h.over, feasible_within p lines s 
 
 -- a verdict on lines that some flow carries tells whether a feasible flow does
 pub carried_told : (p : Instance) (w : Written) (feasible_only : Bool) (verdict : Verdict) (xs : List ℕ) → IsNet p.net
-    → IsWithinLimits p.net.nodes w → Fits p.net xs → Carries p.net w.lines xs → IsVerdict p w feasible_only verdict
+    → IsWithinLimits p.net.nodes w → Fits p.net xs → Carries p.net w.lines xs → IsVerdict p w.value w.lines feasible_only verdict
     → (is_of_feasible verdict ≡ true) ↔ IsFeasibleSolution p w.lines
 carried_told p w only (Over src dst flow cap) xs n l f c v =
-    ((λ e. cc), λ s. absurd (over_told p w.lines src dst v.0 s))
+    ((λ e. cc), λ s. absurd (over_told p w.lines src dst (record { over = omega (arith, v.0, v.1, v.2); least = v.3 }) s))
 carried_told p w only (Unbalanced node into out) xs n l f c v =
-    ((λ e. cc), λ s. absurd (v.1.unbalanced (feasible_balanced p w n l s node v.1.inner)))
+    ((λ e. cc), λ s. absurd (v.4 (v.2 ∙ feasible_balanced p w n l s node v.1 ∙ sym v.3)))
 carried_told p w only (Value given found) xs n l f c v = ((λ e. carried_solution p w.lines xs f c v.1), λ s. refl)
 carried_told p w only (Feasible value) xs n l f c v = ((λ e. carried_solution p w.lines xs f c v.0.1), λ s. refl)
 carried_told p w only (NotMaximal value) xs n l f c v =
@@ -225,7 +226,7 @@ carried_told p w only (Optimal value) xs n l f c v = ((λ e. carried_solution p 
 -- the same of a result that may be want of memory
 pub result_told : (p : Instance) (w : Written) (feasible_only : Bool) (r : Result Verdict OutOfMemory) (xs : List ℕ)
     → IsNet p.net → IsWithinLimits p.net.nodes w → Fits p.net xs → Carries p.net w.lines xs
-    → IfOk r (IsVerdict p w feasible_only)
+    → IfOk r (IsVerdict p w.value w.lines feasible_only)
     → IfOk r (λ verdict. (is_of_feasible verdict ≡ true) ↔ IsFeasibleSolution p w.lines)
 result_told p w only (Ok verdict) xs n l f c v = carried_told p w only verdict xs n l f c v
 result_told p w only (Err e) xs n l f c v = tt

@@ -272,7 +272,7 @@ no_fault nodes value b done fine said = rw (fine, said) refl
 
 whole_read : (nodes value : ℕ) (ls : List (List ℕ)) (b : List ℕ) (done : List FlowLine) → lines b ≡ ls
     → first_fault so_far_rules (so_far_of nodes) [] ls ≡ None → so_far_of nodes ls ≡ known nodes value done
-    → solution b nodes ≡ Ok (record { value = value; lines = done })
+    → solution b nodes ≡ Ok (value, done)
 unfolding solution
 whole_read nodes value ls b done e fine says =
     let so_far : so_far_of nodes (lines b) ≡ known nodes value done = ap (so_far_of nodes) e ∙ says in
@@ -284,7 +284,7 @@ whole_read nodes value ls b done e fine says =
 -- a printed flow, read as a solution
 pub solved_is_accepted : (net : Net) (value : ℕ) (flows : List ℕ) → IsNet net → length net.arcs ≤ MOST_ARCS
     → value ≤ GREATEST_VALUE → Fits net flows
-    → solution (solve_text false net value flows) net.nodes ≡ Ok (written_flow net value flows)
+    → solution (solve_text false net value flows) net.nodes ≡ Ok (value, map carried_line (zip net.arcs flows))
 solved_is_accepted net value flows n few small f =
     let arcs = recursion_from_All (IsArcWithin net.nodes) net.arcs n.arcs_within in
     let fits = zip_from_fits net flows f in

@@ -16,9 +16,10 @@ use Rattle.flow_net.proofs.Zips.{AllZip-from, zip_from_fits}
 use Rattle.flow_net.proofs.Cuts.{flow_over-le-cap_over}
 use Rattle.flow_text.specs.SolutionReading.{IsLineWithin}
 use Rattle.flow_text.specs.declared.solutions.FlowLine.{FlowLine}
-use Rattle.flow_tools.specs.SolutionFlows.{line_flow, pair_flow, pair_cap}
+use Rattle.flow_tools.specs.SolutionFlows.{pair_flow, pair_cap}
+use Rattle.flow_tools.specs.LineFlows.{line_flow}
 use Rattle.flow_tools.specs.ArcShares.{is_pair}
-use Rattle.flow_tools.specs.Verdicts.{IsFirstOver}
+use Rattle.flow_tools.specs.FirstFaults.{IsFirstOver}
 use Rattle.flow_tools.specs.ArcShares.{IsBefore}
 use Rattle.flow_tools.specs.ArcShares.{pair_rank, place_rank, line_rank, place_of, AreArcPlaces, AreOrderedArcs}
 use Rattle.flow_tools.specs.ArcShares.{arc_flow, Carries, HasMore, IsFull, ArePassed}

@@ -9,7 +9,8 @@ use Rattle.flow_text.specs.TextLaws.{EarlyFaultStays, EarlySolutionFaultStays}
 use Rattle.flow_text.specs.declared.faults.FaultCode.{FaultCode}
 use Rattle.flow_tools.specs.Streams.{Stream, HasEnded}
 use Rattle.flow_tools.specs.Answers.{IsAnswer}
-use Rattle.flow_tools.specs.Exits.{EndsAt, EndsWith, HasFault, IsAllowed, IsCheck, IsTold, ending}
+use Rattle.flow_tools.specs.Exits.{EndsAt, EndsWith, HasFault, IsAllowed, IsCheck, ending}
+use Rattle.flow_tools.specs.AnswerExits.{IsTold}
 use Rattle.flow_tools.specs.TextRuns.{Answers, RunsOn}
 use Rattle.flow_tools.specs.declared.jobs.Job.{Job}
 use Rattle.flow_tools.specs.declared.jobs.Job.TheVariants.{Solve, Cut, Connect, Check}
@@ -77,9 +78,9 @@ module _ (job : Job) (b b_rest q q_rest : List ℕ) where
 
     -- whatever the exit was, the output got nothing or a beginning of an answer
     pub ran_refused : (status : ℕ) (refused : NoMemory) → EndsWith job source given out err status → Ran (Err refused)
-    ran_refused status refused run = (run.o, run.told.0, run.put_o, run.told.1, at run.end run.exit) where
+    ran_refused status refused run = (run.o, run.e, run.put_o, run.put_e, at run.end run.exit) where
       at : (end : Result ℕ Stop) → EndsAt job source given out run.p run.q run.o end
-          → RunsOn job b q run.o run.told.0 (Err refused)
+          → RunsOn job b q run.o run.e (Err refused)
       at (Ok s) h = inr (run.o, s, answers run.p run.q run.o s run.delivered_p run.delivered_q h.1, ([], sym (append-nil run.o)))
       at (Err (Fault false line code)) h = inl h.3
       at (Err (Fault true line code)) h = inl h.2
@@ -99,10 +100,10 @@ module _ (job : Job) (b b_rest q q_rest : List ℕ) where
     pub ran_done : (status : ℕ) → EarlyFaultStays → EarlySolutionFaultStays
         → EndsWith job source given out err status → status ≢ 4 → err_has ≡ false → Ran (Ok status)
     ran_done status stays solution_stays run done none =
-        let told = told_whole (ending run.end).0 run.told none in
-        (run.o, run.told.0, run.put_o, run.told.1, at run.end run.exit told run.answered) where
-          at : (end : Result ℕ Stop) → EndsAt job source given out run.p run.q run.o end → run.told.0 ≡ (ending end).0
-              → status ≡ (ending end).1 → RunsOn job b q run.o run.told.0 (Ok status)
+        let told = told_whole (ending run.end).0 (run.e, run.put_e, run.told) none in
+        (run.o, run.e, run.put_o, run.put_e, at run.end run.exit told run.answered) where
+          at : (end : Result ℕ Stop) → EndsAt job source given out run.p run.q run.o end → run.e ≡ (ending end).0
+              → status ≡ (ending end).1 → RunsOn job b q run.o run.e (Ok status)
           at (Ok s) h told is =
               inl (subst (λ k. Answers job b q run.o k) (sym is) (answers run.p run.q run.o s run.delivered_p run.delivered_q h.1), told)
           at (Err (Fault false line code)) h told is =

@@ -1,12 +1,12 @@
 -- How a run ends but for its message, and a job that was handed a problem.
-use Rattle.std.specs.Prelude.{◌≡◌, ℕ, true, false, List, [], Result, Ok, Err, None, Bool}
+use Rattle.std.specs.Prelude.{◌≡◌, ◌⊎◌, ℕ, true, false, List, [], Result, Ok, Err, None, Bool}
 use Rattle.std.specs.Io.KnownBytes.{Appends, Consumes}
 use Rattle.flow_net.specs.Nets.{Instance}
 use Rattle.flow_text.specs.Solution.{early_solution, solution}
 use Rattle.flow_tools.specs.Streams.{Stream, IsKept, HasFailed, HasEnded, IsBeginning}
 use Rattle.flow_tools.specs.OnePass.{IsOnePass}
 use Rattle.flow_tools.specs.Answers.{IsAnswer}
-use Rattle.flow_tools.specs.Exits.{HasFault, IsTold, ending, EndsWith}
+use Rattle.flow_tools.specs.Exits.{HasFault, ending, EndsWith}
 use Rattle.flow_tools.specs.declared.jobs.Job.{Job}
 use Rattle.flow_tools.specs.declared.jobs.Job.TheVariants.{Check}
 use Rattle.flow_tools.specs.declared.jobs.Stop.{Stop}
@@ -47,6 +47,11 @@ pub record Checks (feasible_only : Bool) (instance : Instance) (given out : Stre
   pub put_o : Appends out.before.bytes out.after.bytes o
   pub one_pass : IsOnePass (λ b. early_solution b instance.net.nodes) q
   pub exit : ChecksAt feasible_only instance given out q o end
+
+-- all of the message was taken, or a beginning of it by a stream that failed
+abbrev pub IsTold : Stream → List ℕ → Type 0
+IsTold err message = (e : List ℕ) × Appends err.before.bytes err.after.bytes e
+    × ((IsKept err × (e ≡ message)) ⊎ (HasFailed err × IsBeginning e message))
 
 -- A run but for its message: with any stream that took the message it is a whole run.
 abbrev pub Runs : Job → Stream → Stream → Stream → Result ℕ Stop → Type 0

@@ -1,48 +1,42 @@
 -- What each job puts for an accepted problem, and with which status it ends.
-use Rattle.std.specs.Prelude.{◌≡◌, ◌↔◌, ℕ, Bool, true, false, List, [], ◌∷◌, IsTrue, IsFalse, Ok}
+use Rattle.std.specs.Prelude.{◌≡◌, ◌↔◌, ℕ, Bool, true, false, not, List, [], ◌∷◌, Ok}
 use Rattle.flow_net.specs.Nets.{Net, Instance, IsNode}
 use Rattle.flow_net.specs.NodeSets.{one_of, IsLeastOver}
 use Rattle.flow_net.specs.Flows.{IsFeasible, HasValue, IsGreatest, HasNoLoops}
-use Rattle.flow_net.specs.Cuts.{IsCut, IsMinimumCut, capacity, IsInLeastSourceSide, IsInLeastSinkSide}
+use Rattle.flow_net.specs.Cuts.{IsCut, IsMinimumCut}
 use Rattle.flow_net.specs.Connectivity.{leaving, crossing, IsProper}
 use Rattle.flow_text.specs.Output.{line_of, solve_text, cut_text, verdict_line}
-use Rattle.flow_text.specs.Solution.{Written, solution}
+use Rattle.flow_text.specs.Solution.{solution}
+use Rattle.flow_text.specs.declared.solutions.FlowLine.{FlowLine}
 use Rattle.flow_text.specs.declared.verdicts.Verdict.{Verdict}
 use Rattle.flow_text.specs.declared.verdicts.Verdict.TheVariants.{Feasible, Optimal}
 use Rattle.flow_tools.specs.Verdicts.{IsVerdict}
 use Rattle.flow_tools.specs.declared.jobs.Job.{Job}
 use Rattle.flow_tools.specs.declared.jobs.Job.TheVariants.{Solve, Cut, Connect, Check}
 
--- One number is the greatest value of a feasible flow and the least capacity of a cut.
-pub record IsValueOf (p : Instance) (value : ℕ) : Type 0 where
-  pub greatest : IsGreatest p.net (one_of p.sources) (one_of p.sinks) value
-  pub least : IsLeastOver (IsCut (one_of p.sources) (one_of p.sinks)) (capacity p.net) value
-
--- a set holds exactly the nodes that lie in the source side of every minimum cut; or, nearest the sinks, all but those
--- that lie outside the source side of every minimum cut
+-- on one side of a set, inside (true) or outside (false), stand exactly the nodes that every minimum cut has there
 abbrev pub IsNearest : Net → (ℕ → Bool) → (ℕ → Bool) → Bool → (ℕ → Bool) → Type 0
-IsNearest net s t false X = (v : ℕ) → IsNode net v → IsTrue (X v) ↔ IsInLeastSourceSide net s t v
-IsNearest net s t true X = (v : ℕ) → IsNode net v → IsFalse (X v) ↔ IsInLeastSinkSide net s t v
+IsNearest net s t side X = (v : ℕ) → IsNode net v →
+    (X v ≡ side) ↔ ((Y : ℕ → Bool) → IsMinimumCut net s t Y → Y v ≡ side)
 
--- What `solve` puts: the value, and some feasible flow that has it, in which self-loops carry nothing.
+-- What `solve` puts: the greatest value, and some feasible flow that has it, in which self-loops carry nothing.
 pub record IsSolveText (p : Instance) (value_only : Bool) (text : List ℕ) : Type 0 where
   pub value : ℕ
   pub flows : List ℕ
-  pub value_is : IsValueOf p value
+  pub greatest : IsGreatest p.net (one_of p.sources) (one_of p.sinks) value
   pub feasible : IsFeasible p.net (one_of p.sources) (one_of p.sinks) flows
   pub valued : HasValue p.net (one_of p.sources) flows value
   pub no_loops : HasNoLoops p.net flows
   pub text_is : text ≡ solve_text value_only p.net value flows
 
--- What `cut` puts: the value, and the source side of a minimum cut of that capacity: the one nearest the sources, or
--- nearest the sinks.
+-- What `cut` puts: the greatest value, and the set inside which stand exactly the nodes that lie inside every minimum
+-- cut; or, nearest the sinks, outside which stand exactly those outside every one. It is a minimum cut itself, and its
+-- capacity is the value: this is a law (`CutTexts.antt`).
 pub record IsCutText (p : Instance) (arcs sink : Bool) (text : List ℕ) : Type 0 where
   pub value : ℕ
   pub X : ℕ → Bool
-  pub value_is : IsValueOf p value
-  pub minimum : IsMinimumCut p.net (one_of p.sources) (one_of p.sinks) X
-  pub valued : capacity p.net X ≡ value
-  pub nearest : IsNearest p.net (one_of p.sources) (one_of p.sinks) sink X
+  pub greatest : IsGreatest p.net (one_of p.sources) (one_of p.sinks) value
+  pub nearest : IsNearest p.net (one_of p.sources) (one_of p.sinks) (not sink) X
   pub text_is : text ≡ cut_text arcs p.net value X
 
 -- the connectivity that is asked for: the least number of arcs that leave a set or, undirected, that have exactly one
@@ -68,5 +62,5 @@ IsAnswer (Cut arcs sink) p q text status = IsCutText p arcs sink text × (status
 IsAnswer (Connect undirected pair) p q text status =
     (value : ℕ) × IsConnectivityOf p undirected pair value × (text ≡ line_of "k" (value ∷ [])) × (status ≡ 0)
 IsAnswer (Check feasible_only) p q text status =
-    (written : Written) × (verdict : Verdict) × (solution q p.net.nodes ≡ Ok written)
-    × IsVerdict p written feasible_only verdict × (text ≡ verdict_line verdict) × (status ≡ verdict_status verdict)
+    (given : ℕ) × (lines : List FlowLine) × (verdict : Verdict) × (solution q p.net.nodes ≡ Ok (given, lines))
+    × IsVerdict p given lines feasible_only verdict × (text ≡ verdict_line verdict) × (status ≡ verdict_status verdict)

@@ -7,8 +7,8 @@ use Rattle.flow_net.specs.Limits.{IsNet}
 use Rattle.flow_net.specs.NodeSets.{one_of}
 use Rattle.flow_net.specs.Flows.{flow_over, Fits, HasValue, IsGreatest}
 use Rattle.flow_text.specs.declared.solutions.FlowLine.{FlowLine}
-use Rattle.flow_tools.specs.SolutionFlows.{line_flow}
-use Rattle.flow_tools.specs.Verdicts.{IsFirstOver}
+use Rattle.flow_tools.specs.LineFlows.{line_flow}
+use Rattle.flow_tools.specs.FirstFaults.{IsFirstOver}
 use Rattle.flow_tools.specs.declared.sharing.ArcPlace.{ArcPlace}
 use Rattle.flow_tools.specs.declared.sharing.Shared.{Shared}
 use Rattle.flow_tools.specs.declared.sharing.Shared.TheVariants.{Flow, Over}

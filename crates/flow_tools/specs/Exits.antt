@@ -59,23 +59,21 @@ ending (Err ReadFailed) = (codes "flow: read failed\n", 4)
 ending (Err WriteFailed) = (codes "flow: write failed\n", 4)
 ending (Err OutOfMemory) = (codes "flow: out of memory\n", 4)
 
--- all of the message was taken, or a beginning of it by a stream that failed
-abbrev pub IsTold : Stream → List ℕ → Type 0
-IsTold err message = (e : List ℕ) × Appends err.before.bytes err.after.bytes e
-    × ((IsKept err × (e ≡ message)) ⊎ (HasFailed err × IsBeginning e message))
-
--- A whole run: what the inputs delivered and what was put, in one pass, the exit, and its message and status.
+-- A whole run: what the inputs delivered and what was put, in one pass, the exit, and its status and message. All of
+-- the message was put, or a beginning of it by a stream that failed.
 pub record EndsWith (job : Job) (source given out err : Stream) (status : ℕ) : Type 0 where
   pub end : Result ℕ Stop
   pub p : List ℕ
   pub q : List ℕ
   pub o : List ℕ
+  pub e : List ℕ
   pub delivered_p : Consumes source.before.bytes source.after.bytes p
   pub delivered_q : Consumes given.before.bytes given.after.bytes q
   pub put_o : Appends out.before.bytes out.after.bytes o
+  pub put_e : Appends err.before.bytes err.after.bytes e
   pub one_pass : IsOnePass early p
   pub solution_read : ((q ≡ []) × IsKept given)
       ⊎ HasComeToSolution job source p (λ nodes. IsOnePass (λ b. early_solution b nodes) q)
   pub exit : EndsAt job source given out p q o end
-  pub told : IsTold err (ending end).0
+  pub told : (IsKept err × (e ≡ (ending end).0)) ⊎ (HasFailed err × IsBeginning e (ending end).0)
   pub answered : status ≡ (ending end).1

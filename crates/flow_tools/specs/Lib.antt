@@ -8,9 +8,12 @@ pub mod Exits
 pub mod AnswerExits
 pub mod TextRuns
 pub mod SolutionFlows
+pub mod LineFlows
 pub mod Verdicts
+pub mod FirstFaults
 pub mod FeasibleSolutions
 pub mod ArcShares
 pub mod NodeSums
 pub mod Degrees
 pub mod SolvedTexts
+pub mod CutTexts

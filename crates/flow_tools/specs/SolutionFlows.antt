@@ -5,13 +5,9 @@ use Rattle.flow_net.specs.NodeSets.{one_of}
 use Rattle.flow_net.specs.Cuts.{cap_over}
 use Rattle.flow_text.specs.declared.solutions.FlowLine.{FlowLine}
 
--- the sum of the flows of the lines whose two nodes pass a test
-abbrev pub line_flow : (ℕ → ℕ → Bool) → List FlowLine → ℕ
-line_flow p lines = sum_by (λ l. if p l.src l.dst then l.flow else 0) lines
-
 -- a pair's flow: the sum of the flows of the lines from u to v
 abbrev pub pair_flow : List FlowLine → ℕ → ℕ → ℕ
-pair_flow lines u v = line_flow (λ src dst. (u == src) && (v == dst)) lines
+pair_flow lines u v = sum_by (λ l. if (u == l.src) && (v == l.dst) then l.flow else 0) lines
 
 -- a pair's capacity: the sum of the capacities of the arcs from u to v, 0 where there is none
 abbrev pub pair_cap : Net → ℕ → ℕ → ℕ
@@ -19,10 +15,10 @@ pair_cap net u v = cap_over (λ a. (u == a.src) && (v == a.dst)) net.arcs
 
 -- OUT and IN: the sum of the flows of the lines that begin, that end in a set of nodes
 abbrev pub lines_out_of : (ℕ → Bool) → List FlowLine → ℕ
-lines_out_of X lines = line_flow (λ src dst. X src) lines
+lines_out_of X lines = sum_by (λ l. if X l.src then l.flow else 0) lines
 
 abbrev pub lines_into : (ℕ → Bool) → List FlowLine → ℕ
-lines_into X lines = line_flow (λ src dst. X dst) lines
+lines_into X lines = sum_by (λ l. if X l.dst then l.flow else 0) lines
 
 -- what leaves the sources less what enters them, below 0 where more enters them
 abbrev pub net_outflow : Instance → List FlowLine → ℤ

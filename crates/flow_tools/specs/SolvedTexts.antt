@@ -7,7 +7,8 @@ use Rattle.flow_net.specs.Nets.{Net, Instance}
 use Rattle.flow_net.specs.NodeSets.{one_of}
 use Rattle.flow_net.specs.Flows.{IsGreatest}
 use Rattle.flow_text.specs.Problem.{problem}
-use Rattle.flow_text.specs.Solution.{Written, solution}
+use Rattle.flow_text.specs.SolutionReading.{Written}
+use Rattle.flow_text.specs.Solution.{solution}
 use Rattle.flow_text.specs.declared.solutions.FlowLine.{FlowLine}
 use Rattle.flow_text.specs.declared.verdicts.Verdict.{Verdict}
 use Rattle.flow_text.specs.declared.verdicts.Verdict.TheVariants.{Optimal}
@@ -26,6 +27,6 @@ written_flow net value flows = record { value = value; lines = map carried_line 
 -- has, is accepted as a solution of it, and the one verdict on it is that it is optimal, with the greatest value
 abbrev pub SolvedIsOptimal : Type 0
 SolvedIsOptimal = (b : List ℕ) (p : Instance) (text : List ℕ) → problem b ≡ Ok p → IsSolveText p false text
-    → (w : Written) × (k : ℕ) × (solution text p.net.nodes ≡ Ok w)
+    → (w : Written) × (k : ℕ) × (solution text p.net.nodes ≡ Ok (w.value, w.lines))
     × IsGreatest p.net (one_of p.sources) (one_of p.sinks) k
-    × ((verdict : Verdict) → IsVerdict p w false verdict ↔ (verdict ≡ Optimal k))
+    × ((verdict : Verdict) → IsVerdict p w.value w.lines false verdict ↔ (verdict ≡ Optimal k))

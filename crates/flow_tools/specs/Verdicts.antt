@@ -3,7 +3,6 @@ use Rattle.std.specs.Prelude.{◌≡◌, ◌≢◌, ℕ, ◌<◌, ◌≤◌, ◌
 use Rattle.flow_net.specs.Nets.{Net, Instance, IsNode}
 use Rattle.flow_net.specs.NodeSets.{one_of, just}
 use Rattle.flow_net.specs.Flows.{IsGreatest}
-use Rattle.flow_text.specs.Solution.{Written}
 use Rattle.flow_text.specs.declared.solutions.FlowLine.{FlowLine}
 use Rattle.flow_text.specs.declared.verdicts.Verdict.{Verdict}
 use Rattle.flow_text.specs.declared.verdicts.Verdict.TheVariants.{Over, Unbalanced, Value, Feasible, NotMaximal, Optimal}
@@ -17,39 +16,28 @@ IsInner p v = IsNode p.net v × IsFalse (one_of p.sources v) × IsFalse (one_of 
 abbrev pub IsWithinCapacities : Net → List FlowLine → Type 0
 IsWithinCapacities net lines = (u v : ℕ) → pair_flow lines u v ≤ pair_cap net u v
 
--- what enters a node leaves it
-abbrev pub IsBalancedAt : List FlowLine → ℕ → Type 0
-IsBalancedAt lines v = lines_into (just v) lines ≡ lines_out_of (just v) lines
-
--- so it is at every node that is neither source nor sink
+-- what enters a node that is neither source nor sink leaves it
 abbrev pub IsBalanced : Instance → List FlowLine → Type 0
-IsBalanced p lines = (v : ℕ) → IsInner p v → IsBalancedAt lines v
-
--- the least pair whose flow passes its capacity, by the first node, then by the second
-pub record IsFirstOver (net : Net) (lines : List FlowLine) (src dst : ℕ) : Type 0 where
-  pub over : pair_cap net src dst < pair_flow lines src dst
-  pub least : (u v : ℕ) → (u < src) ⊎ ((u ≡ src) × (v < dst)) → pair_flow lines u v ≤ pair_cap net u v
-
--- the least node, neither source nor sink, of which what enters it isn't what leaves it
-pub record IsFirstUnbalanced (p : Instance) (lines : List FlowLine) (node : ℕ) : Type 0 where
-  pub inner : IsInner p node
-  pub unbalanced : lines_into (just node) lines ≢ lines_out_of (just node) lines
-  pub least : (v : ℕ) → v < node → IsInner p v → IsBalancedAt lines v
+IsBalanced p lines = (v : ℕ) → IsInner p v → lines_into (just v) lines ≡ lines_out_of (just v) lines
 
 -- the flow lines are those of a feasible flow, and VALUE is its value
-abbrev pub IsRight : Instance → Written → Type 0
-IsRight p w = IsWithinCapacities p.net w.lines × IsBalanced p w.lines × (pos w.value ≡ net_outflow p w.lines)
+abbrev pub IsRight : Instance → ℕ → List FlowLine → Type 0
+IsRight p value lines = IsWithinCapacities p.net lines × IsBalanced p lines × (pos value ≡ net_outflow p lines)
 
--- the verdict: the first that applies
-abbrev pub IsVerdict : Instance → Written → Bool → Verdict → Type 0
-IsVerdict p w _ (Over src dst flow cap) =
-    IsFirstOver p.net w.lines src dst × (flow ≡ pair_flow w.lines src dst) × (cap ≡ pair_cap p.net src dst)
-IsVerdict p w _ (Unbalanced node into out) = IsWithinCapacities p.net w.lines × IsFirstUnbalanced p w.lines node
-    × (into ≡ lines_into (just node) w.lines) × (out ≡ lines_out_of (just node) w.lines)
-IsVerdict p w _ (Value given found) = IsWithinCapacities p.net w.lines × IsBalanced p w.lines
-    × (pos given ≢ found) × (given ≡ w.value) × (found ≡ net_outflow p w.lines)
-IsVerdict p w feasible_only (Feasible value) = IsRight p w × (feasible_only ≡ true) × (value ≡ w.value)
-IsVerdict p w feasible_only (NotMaximal value) = IsRight p w × (feasible_only ≡ false) × (value ≡ w.value)
+-- The verdict on VALUE, as it is given, and the flow lines is the first that applies: that a pair's flow passes its
+-- capacity, of the least pair by its first node and then by its second; that what enters a node isn't what leaves it,
+-- of the least node that is neither source nor sink; that VALUE isn't the flow's value; or one of the last three.
+abbrev pub IsVerdict : Instance → ℕ → List FlowLine → Bool → Verdict → Type 0
+IsVerdict p given lines _ (Over src dst flow cap) =
+    (flow ≡ pair_flow lines src dst) × (cap ≡ pair_cap p.net src dst) × (cap < flow)
+    × ((u v : ℕ) → (u < src) ⊎ ((u ≡ src) × (v < dst)) → pair_flow lines u v ≤ pair_cap p.net u v)
+IsVerdict p given lines _ (Unbalanced node into out) = IsWithinCapacities p.net lines × IsInner p node
+    × (into ≡ lines_into (just node) lines) × (out ≡ lines_out_of (just node) lines) × (into ≢ out)
+    × ((v : ℕ) → v < node → IsInner p v → lines_into (just v) lines ≡ lines_out_of (just v) lines)
+IsVerdict p given lines _ (Value value found) = IsWithinCapacities p.net lines × IsBalanced p lines
+    × (pos value ≢ found) × (value ≡ given) × (found ≡ net_outflow p lines)
+IsVerdict p given lines only (Feasible value) = IsRight p given lines × (only ≡ true) × (value ≡ given)
+IsVerdict p given lines only (NotMaximal value) = IsRight p given lines × (only ≡ false) × (value ≡ given)
     × ((k : ℕ) × IsGreatest p.net (one_of p.sources) (one_of p.sinks) k × (value < k))
-IsVerdict p w feasible_only (Optimal value) = IsRight p w × (feasible_only ≡ false) × (value ≡ w.value)
+IsVerdict p given lines only (Optimal value) = IsRight p given lines × (only ≡ false) × (value ≡ given)
     × IsGreatest p.net (one_of p.sources) (one_of p.sinks) value

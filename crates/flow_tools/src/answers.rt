@@ -1,10 +1,11 @@
 //! The answers to a problem: what is computed, and what is put. All memory is asked for before anything is put.
-ghost use Rattle.std.specs.Prelude.{◌≡◌, [], ◌≤◌, length, IfOk};
+ghost use Rattle.std.specs.Prelude.{◌≡◌, [], ◌≤◌, not, length, IfOk};
 ghost use Rattle.flow_net.specs.NodeSets.{one_of};
 ghost use Rattle.flow_net.specs.Flows.{Fits, IsFeasible, HasValue, HasNoLoops};
 ghost use Rattle.flow_net.specs.Cuts.{IsMinimumCut, capacity};
 ghost use Rattle.flow_solve.specs.Bounds.{work_cells};
-ghost use Rattle.flow_tools.specs.Answers.{IsValueOf, IsNearest};
+ghost use Rattle.flow_tools.specs.Answers.{IsNearest};
+ghost use Rattle.flow_tools.specs.CutTexts.{IsValueOf};
 ghost use Rattle.flow_tools.specs.AnswerExits.{Puts};
 ghost use Rattle.flow_tools.specs.Sides.{side_of};
 ghost use Rattle.flow_tools.specs.Streams.{over};
@@ -140,7 +141,7 @@ fn find_cut<M: Method>(problem: &Problem, room: &mut Room, sink: bool, side: &mu
         IsMinimumCut p.net (one_of p.sources) (one_of p.sinks) (side_of sink side.new) }
     ensures valued { capacity problem.now.net (side_of sink side.new) ≡ result }
     ensures nearest { let p = problem.now in
-        IsNearest p.net (one_of p.sources) (one_of p.sinks) sink (side_of sink side.new) }
+        IsNearest p.net (one_of p.sources) (one_of p.sinks) (not sink) (side_of sink side.new) }
 {
     let net = problem.net();
     let (s, t) = (problem.sources(), problem.sinks());

@@ -34,7 +34,7 @@ fn put_verdict<O: Output>(
     out: &mut O,
 ) -> Result<u8, Stop>
     requires { IsWithinLimits problem.now.net.nodes (written_in written.now) }
-    ensures { (q : List ℕ) → solution q problem.now.net.nodes ≡ Ok (written_in written.now)
+    ensures { (q : List ℕ) → solution q problem.now.net.nodes ≡ Ok (written.now.value, written.now.lines.items)
         → Puts (Job.Check feasible_only) problem.now q (over (O.state out.old) (O.state out.new)) result }
 {
     let verdict = match check(alloc, problem, written, feasible_only) {

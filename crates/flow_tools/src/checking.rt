@@ -73,8 +73,8 @@ fn wrong_sum(
 ) -> Result<Option<Verdict>, OutOfMemory>
     requires limits { IsWithinLimits problem.now.net.nodes (written_in solution.now) }
     requires within { IsWithinCapacities problem.now.net solution.now.lines.items }
-    ensures { IfOk result (λ wrong. MatchOption wrong (IsRight problem.now (written_in solution.now))
-        (λ verdict. (feasible_only : Bool) → IsVerdict problem.now (written_in solution.now) feasible_only verdict)) }
+    ensures { IfOk result (λ wrong. MatchOption wrong (IsRight problem.now solution.now.value solution.now.lines.items)
+        (λ verdict. (feasible_only : Bool) → IsVerdict problem.now solution.now.value solution.now.lines.items feasible_only verdict)) }
 {
     let flows = node_flows(alloc, problem.net().nodes(), solution.lines.as_slice())?;
     if let Some(node) = first_unbalanced(alloc, problem, &flows)? {
@@ -104,7 +104,7 @@ fn judge(
     requires limits { IsWithinLimits problem.now.net.nodes (written_in solution.now) }
     requires fits { Fits problem.now.net flow.old.flows }
     requires carries { Carries problem.now.net solution.now.lines.items flow.old.flows }
-    ensures { IfOk result (IsVerdict problem.now (written_in solution.now) feasible_only) }
+    ensures { IfOk result (IsVerdict problem.now solution.now.value solution.now.lines.items feasible_only) }
 {
     if let Some(verdict) = wrong_sum(alloc, problem, solution)? {
         return Ok(verdict);
@@ -138,7 +138,7 @@ pub fn check(
     feasible_only: bool,
 ) -> Result<Verdict, OutOfMemory>
     requires { IsWithinLimits problem.now.net.nodes (written_in solution.now) }
-    ensures verdict { IfOk result (IsVerdict problem.now (written_in solution.now) feasible_only) }
+    ensures verdict { IfOk result (IsVerdict problem.now solution.now.value solution.now.lines.items feasible_only) }
     ensures feasible { IfOk result (λ verdict. IsTrue (is_of_feasible verdict)
         ↔ IsFeasibleSolution problem.now solution.now.lines.items) }
 {

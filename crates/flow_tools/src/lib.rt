@@ -37,7 +37,7 @@ pub use checking::check;
 pub use connecting::connectivity;
 pub use counted::Counted;
 pub use jobs::{Job, Stop};
-pub use laws::solved_is_optimal;
+pub use laws::{greatest_is_least, printed_cut_is_minimum, solved_is_optimal};
 pub use running::run;
 pub use sending::put_all;
 pub use streams::{Failed, Input, Output};

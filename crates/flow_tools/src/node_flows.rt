@@ -8,7 +8,8 @@ ghost use Rattle.flow_text.specs.SolutionReading.{IsLineWithin};
 ghost use Rattle.flow_text.specs.declared.limits.TheConstants.{MOST_FLOW_LINES};
 ghost use Rattle.flow_text.specs.declared.solutions.FlowLine.{FlowLine};
 ghost use Rattle.flow_tools.specs.SolutionFlows.{net_outflow};
-ghost use Rattle.flow_tools.specs.Verdicts.{IsBalanced, IsFirstUnbalanced};
+ghost use Rattle.flow_tools.specs.Verdicts.{IsBalanced};
+ghost use Rattle.flow_tools.specs.FirstFaults.{IsFirstUnbalanced};
 ghost use Rattle.flow_tools.specs.NodeSums.{IsCellOf, AreNodeFlows, HaveTallied, at_node, IsFirstUnequal, AreEqualUnless};
 
 use flow_net::{OutOfMemory, Problem};

@@ -40,7 +40,7 @@ impl Reader for SolutionReader {
 
     ghost has_fault = { λ n b fault. solution b n ≡ Err fault };
 
-    ghost accepts = { λ n b s. (solution b n ≡ Ok (written_in s)) × IsWithinLimits n (written_in s) };
+    ghost accepts = { λ n b s. (solution b n ≡ Ok (s.value, s.lines.items)) × IsWithinLimits n (written_in s) };
 
     fn feed(&mut self, piece: &[u8]) -> Result<(), ReadFault> {
         SolutionReader::feed(self, piece)

@@ -1,7 +1,7 @@
 //! The run of a job over its streams.
 ghost use Rattle.std.specs.Prelude.{◌≡◌, Err};
-ghost use Rattle.flow_tools.specs.AnswerExits.{Runs};
-ghost use Rattle.flow_tools.specs.Exits.{EndsWith, IsTold, ending};
+ghost use Rattle.flow_tools.specs.AnswerExits.{IsTold, Runs};
+ghost use Rattle.flow_tools.specs.Exits.{EndsWith, ending};
 ghost use Rattle.flow_tools.specs.Streams.{over};
 
 use crate::answers::{answer_cut, answer_solve};

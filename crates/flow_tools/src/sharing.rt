@@ -13,7 +13,7 @@ ghost use Rattle.flow_text.specs.SolutionReading.{IsLineWithin};
 ghost use Rattle.flow_text.specs.declared.solutions.FlowLine.{FlowLine};
 ghost use Rattle.flow_tools.specs.SolutionFlows.{pair_cap};
 ghost use Rattle.flow_tools.specs.ArcShares.{is_pair};
-ghost use Rattle.flow_tools.specs.Verdicts.{IsFirstOver};
+ghost use Rattle.flow_tools.specs.FirstFaults.{IsFirstOver};
 ghost use Rattle.flow_tools.specs.ArcShares.{pair_rank, line_rank, place_of, AreArcPlaces, AreOrderedArcs, arc_flow, Carries, HasMore, IsFull, ArePassed, IsSharedOut};
 
 use flow_net::{FlowTable, Network, OutOfMemory};

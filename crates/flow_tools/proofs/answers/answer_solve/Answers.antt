@@ -16,7 +16,7 @@ returns-in-Ok-put_solution g c =
       record {
         value = solved.value;
         flows = solved.table.flows;
-        value_is = c.in-Ok.ensures.value;
+        greatest = c.in-Ok.ensures.value.greatest;
         feasible = c.in-Ok.ensures.feasible;
         valued = c.in-Ok.ensures.valued;
         no_loops = c.in-Ok.ensures.no_loops;
@@ -35,7 +35,7 @@ returns g c =
       record {
         value = solved.value;
         flows = solved.table.flows;
-        value_is = c.in-Ok.ensures.value;
+        greatest = c.in-Ok.ensures.value.greatest;
         feasible = c.in-Ok.ensures.feasible;
         valued = c.in-Ok.ensures.valued;
         no_loops = c.in-Ok.ensures.no_loops;

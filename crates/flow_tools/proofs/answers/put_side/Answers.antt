@@ -15,9 +15,7 @@ returns-in-Ok g c =
       record {
         value = c.find_cut-value.result;
         X = X;
-        value_is = c.find_cut-value.ensures.value;
-        minimum = c.find_cut-value.ensures.minimum;
-        valued = c.find_cut-value.ensures.valued;
+        greatest = c.find_cut-value.ensures.value.greatest;
         nearest = c.find_cut-value.ensures.nearest;
         text_is = refl;
       },
@@ -33,9 +31,7 @@ returns g c =
       record {
         value = c.find_cut-value.result;
         X = X;
-        value_is = c.find_cut-value.ensures.value;
-        minimum = c.find_cut-value.ensures.minimum;
-        valued = c.find_cut-value.ensures.valued;
+        greatest = c.find_cut-value.ensures.value.greatest;
         nearest = c.find_cut-value.ensures.nearest;
         text_is = refl;
       },

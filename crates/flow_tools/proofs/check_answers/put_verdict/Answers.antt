@@ -16,7 +16,7 @@ returns-in-Err-put_all g c q accepted =
         (
           verdict_line v,
           verdict_status v,
-          (_, v, accepted, c.in-Ok.ensures.verdict, refl, refl),
+          (_, _, v, accepted, c.in-Ok.ensures.verdict, refl, refl),
           stops.part,
         ),
       );

@@ -4,7 +4,7 @@ use Rattle.std.proofs.Common.{Bool, subst, refl, MatchOption}
 use Rattle.flow_net.specs.NodeSets.{one_of}
 use Rattle.flow_text.specs.SolutionReading.{written_in}
 use Rattle.flow_tools.specs.Verdicts.{IsRight, IsVerdict}
-use Rattle.flow_tools.proofs.Judging.{carried_within, carried_value, greatest_value}
+use Rattle.flow_tools.proofs.Judging.{carried_within, carried_value, carried_feasible, greatest_value}
 use Rattle.flow_tools.proofs.checking.judge.Goals as goal
 
 pub wrong_sum-requires-clause-within : goal.wrong_sum-requires-clause-within
@@ -12,11 +12,21 @@ wrong_sum-requires-clause-within c =
     carried_within c.args.problem.now.net c.args.solution.now.lines.items c.args.flow.now.flows c.requires.fits
     c.requires.carries
 
+pub is_greatest-requires : goal.is_greatest-requires
+is_greatest-requires c =
+    let p = c.args.problem.now in
+    let w = written_in c.args.solution.now in
+    let right = subst
+    (λ o. MatchOption o (IsRight p w.value w.lines)
+    (λ verdict. (feasible_only : Bool) → IsVerdict p w.value w.lines feasible_only verdict))
+    c.in_default.is c.in_ok-verdict.ensures in
+    carried_feasible p w.lines c.args.flow.now.flows c.requires.fits c.requires.carries right.1
+
 pub returns-in-Some : goal.returns-in-Some
 returns-in-Some c =
     let p = c.args.problem.now in
     let w = written_in c.args.solution.now in
-    (subst (λ o. MatchOption o (IsRight p w) (λ verdict. (feasible_only : Bool) → IsVerdict p w feasible_only verdict))
+    (subst (λ o. MatchOption o (IsRight p w.value w.lines) (λ verdict. (feasible_only : Bool) → IsVerdict p w.value w.lines feasible_only verdict))
     c.in-Some.is c.in_ok-verdict.ensures) c.args.feasible_only
 
 pub returns-then-branch : goal.returns-then-branch
@@ -24,7 +34,7 @@ returns-then-branch c =
     let p = c.args.problem.now in
     let w = written_in c.args.solution.now in
     let right = subst
-    (λ o. MatchOption o (IsRight p w) (λ verdict. (feasible_only : Bool) → IsVerdict p w feasible_only verdict))
+    (λ o. MatchOption o (IsRight p w.value w.lines) (λ verdict. (feasible_only : Bool) → IsVerdict p w.value w.lines feasible_only verdict))
     c.in_default.is c.in_ok-verdict.ensures in
     let value = carried_value p w.lines c.args.flow.now.flows w.value c.requires.carries right.2 in (
       right,
@@ -39,7 +49,7 @@ returns-else-branch c =
     let p = c.args.problem.now in
     let w = written_in c.args.solution.now in
     let right = subst
-    (λ o. MatchOption o (IsRight p w) (λ verdict. (feasible_only : Bool) → IsVerdict p w feasible_only verdict))
+    (λ o. MatchOption o (IsRight p w.value w.lines) (λ verdict. (feasible_only : Bool) → IsVerdict p w.value w.lines feasible_only verdict))
     c.in_default.is c.in_ok-verdict.ensures in
     let value = carried_value p w.lines c.args.flow.now.flows w.value c.requires.carries right.2 in
     let less = c.in_ok-is_greatest.ensures.less c.if-branch.false in

@@ -1,12 +1,13 @@
 -- The verdicts of `wrong_sum`: the cells of a node hold what the lines say of it, and the sums over the sources fit
 -- since the sum over all lines does.
-use Rattle.std.proofs.Common.{◌≡◌, ◌-◌, ◌∙◌, ℕ, List, ap, subst, MatchOption, arith}
+use Rattle.std.proofs.Common.{◌≡◌, ◌-◌, ◌∙◌, ℕ, List, ap, sym, subst, MatchOption, arith}
 use Rattle.std.proofs.lemmas.Grind.{get_or_default_zero}
 use Rattle.flow_net.specs.Nets.{Net}
 use Rattle.flow_net.specs.NodeSets.{one_of}
 use Rattle.flow_text.specs.declared.solutions.FlowLine.{FlowLine}
 use Rattle.flow_tools.specs.NodeSums.{AreNodeFlows, IsCellOf}
-use Rattle.flow_tools.specs.Verdicts.{IsBalanced, IsFirstUnbalanced}
+use Rattle.flow_tools.specs.Verdicts.{IsBalanced}
+use Rattle.flow_tools.specs.FirstFaults.{IsFirstUnbalanced}
 use Rattle.flow_tools.proofs.LineSums.{line_flow-most}
 use Rattle.flow_tools.proofs.NodeSumLemmas.{cell_into, cell_out, sources_into, sources_out}
 use Rattle.flow_tools.proofs.checking.wrong_sum.Goals as goal
@@ -26,14 +27,19 @@ returns-in-Some c = λ feasible_only.
     c.in_ok-flows.ensures in
     let found = subst (λ o. MatchOption o (IsBalanced p lines) (IsFirstUnbalanced p lines)) c.in-Some.is
     (c.in_ok-node.ensures lines flows) in
-    let at : IsCellOf p.net.nodes c.in-Some.node = found.inner.0 in (
+    let at : IsCellOf p.net.nodes c.in-Some.node = found.inner.0 in
+    let into_is = c.index.ensures
+    ∙ get_or_default_zero into (c.in-Some.node - 1) _ (omega (arith, flows.into_len, at.0, at.1))
+    ∙ cell_into p.net.nodes lines into out c.in-Some.node flows at in
+    let out_is = c.index-in-Some.ensures
+    ∙ get_or_default_zero out (c.in-Some.node - 1) _ (omega (arith, flows.out_len, at.0, at.1))
+    ∙ cell_out p.net.nodes lines into out c.in-Some.node flows at in (
       c.requires.within,
-      found,
-      c.index.ensures ∙ get_or_default_zero into (c.in-Some.node - 1) _ (omega (arith, flows.into_len, at.0, at.1))
-          ∙ cell_into p.net.nodes lines into out c.in-Some.node flows at,
-      c.index-in-Some.ensures
-          ∙ get_or_default_zero out (c.in-Some.node - 1) _ (omega (arith, flows.out_len, at.0, at.1))
-          ∙ cell_out p.net.nodes lines into out c.in-Some.node flows at,
+      found.inner,
+      into_is,
+      out_is,
+      (λ e. found.unbalanced (sym into_is ∙ e ∙ out_is)),
+      found.least,
     )
 
 pub outflow_of_sources-found-requires-clause-into_fits : goal.outflow_of_sources-found-requires-clause-into_fits

@@ -4,7 +4,7 @@ use Rattle.std.proofs.lemmas.List.Sorted.{All-permutation}
 use Rattle.flow_text.specs.SolutionReading.{IsLineWithin}
 use Rattle.flow_text.specs.declared.solutions.FlowLine.{FlowLine}
 use Rattle.flow_net.specs.Residual.{Table}
-use Rattle.flow_tools.specs.Verdicts.{IsFirstOver}
+use Rattle.flow_tools.specs.FirstFaults.{IsFirstOver}
 use Rattle.flow_tools.specs.ArcShares.{Carries, arc_flow}
 use Rattle.flow_tools.proofs.Shares.{carries_none, carries_moved, first_over_moved}
 use Rattle.flow_tools.proofs.sharing.share_out.Goals as goal

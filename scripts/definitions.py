@@ -7,7 +7,7 @@ follow fails. The page has to tell
 
 - each file that is reached with its number of lines, and their sum; comments, blank lines and imports don't count;
 - what these definitions rest on in turn: the names of the standard library, the constants with their values, the types
-  of the code with their numbers of lines, and what each stream says of its bytes;
+  of the code with their numbers of lines and what they hold, and what each stream says of its bytes;
 - each definition that it quotes as it stands in the specs, whole.
 
 A file that is reached has to hold nothing else, so that its reader never wonders what a definition is there for. The
@@ -186,7 +186,8 @@ def rows(counts, outside):
             text = re.search(rf"^pub (?:struct|enum) {kind} .*?^}}$", file.read_text(), re.M | re.S)
             lines = (text or fail(f"{kind} isn't a type of {file}"))[0].splitlines()
             lines = [line for line in lines if line.strip() and not line.strip().startswith(("//", "#["))]
-            types[f"| `{kind}` of `{file.relative_to(ROOT)}` | {len(lines)} |"] = len(lines)
+            held = squeezed(" ".join(lines[1:-1]).replace("pub ", "")).rstrip(",").replace(", }", " }")
+            types[f"| `{kind}` of `{file.relative_to(ROOT)}` | {len(lines)} | `{held}` |"] = len(lines)
     table += [f"- `{path}`: {' '.join(f'`{name}`' for name in names)}" for path, names in sorted(library.items())]
     table += [f"| `{name}` | `{value}` |" for name, value in sorted(constants.items())]
     table += sorted(types)

@@ -3,7 +3,8 @@ use Rattle.std.proofs.Common.{◌≡◌, ℕ, ◌↔◌, Bool, true, false, not,
 use Rattle.flow_net.specs.Nets.{Net}
 use Rattle.flow_net.specs.Limits.{IsNet}
 use Rattle.flow_net.specs.Flows.{IsFeasible}
-use Rattle.flow_net.specs.Cuts.{IsCut, IsMinimumCut, IsInLeastSourceSide, IsInLeastSinkSide}
+use Rattle.flow_net.specs.Cuts.{IsCut, IsMinimumCut}
+use Rattle.flow_net.specs.LeastSides.{IsInLeastSourceSide, IsInLeastSinkSide}
 use Rattle.flow_net.specs.Residual.{IsClosed, IsReachable, IsReaching, tail_of, head_of}
 use Rattle.flow_net.proofs.Cuts.{weak_duality, strong_duality, closed_minimum, value_closed}
 

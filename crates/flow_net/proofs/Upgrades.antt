@@ -6,9 +6,9 @@ use Rattle.flow_net.specs.Nets.{Net, arc_at}
 use Rattle.flow_net.specs.Arcs.{no_arc}
 use Rattle.flow_net.specs.Limits.{IsNet}
 use Rattle.flow_net.specs.Flows.{IsGreatest}
-use Rattle.flow_net.specs.Cuts.{cap_over, leaves, capacity, IsMinimumCut, IsInLeastSourceSide}
+use Rattle.flow_net.specs.Cuts.{cap_over, leaves, capacity, IsMinimumCut}
+use Rattle.flow_net.specs.LeastSides.{IsInLeastSourceSide, IsInLeastSinkSide}
 use Rattle.flow_net.specs.LeastCuts.{IsLeastCapacity}
-use Rattle.flow_net.specs.Cuts.{IsInLeastSinkSide}
 use Rattle.flow_net.specs.Laws.{AreApart, widened, upgraded}
 use Rattle.flow_net.proofs.MaxFlows.{greatest_is_least}
 

@@ -25,11 +25,3 @@ capacity net X = cap_over (leaves X) net.arcs
 pub record IsMinimumCut (net : Net) (s t X : ℕ → Bool) : Type 0 where
   pub cut : IsCut s t X
   pub least : (Y : ℕ → Bool) → IsCut s t Y → capacity net X ≤ capacity net Y
-
--- the least source side: the nodes that lie in the source side of every minimum cut
-abbrev pub IsInLeastSourceSide : Net → (ℕ → Bool) → (ℕ → Bool) → ℕ → Type 0
-IsInLeastSourceSide net s t v = (X : ℕ → Bool) → IsMinimumCut net s t X → IsTrue (X v)
-
--- the least sink side: the nodes that lie outside the source side of every minimum cut
-abbrev pub IsInLeastSinkSide : Net → (ℕ → Bool) → (ℕ → Bool) → ℕ → Type 0
-IsInLeastSinkSide net s t v = (X : ℕ → Bool) → IsMinimumCut net s t X → IsFalse (X v)

@@ -6,7 +6,8 @@ use Rattle.flow_net.specs.Limits.{IsNet}
 use Rattle.flow_net.specs.DerivedNets.{unit, both_ways}
 use Rattle.flow_net.specs.NodeSets.{just}
 use Rattle.flow_net.specs.Flows.{out_of, into, IsFeasible, HasValue, IsGreatest}
-use Rattle.flow_net.specs.Cuts.{IsCut, capacity, IsMinimumCut, IsInLeastSourceSide, IsInLeastSinkSide}
+use Rattle.flow_net.specs.Cuts.{IsCut, capacity, IsMinimumCut}
+use Rattle.flow_net.specs.LeastSides.{IsInLeastSourceSide, IsInLeastSinkSide}
 use Rattle.flow_net.specs.LeastCuts.{IsLeastCapacity}
 use Rattle.flow_net.specs.LeastCuts.{IsConnectivity, IsUndirectedConnectivity, IsPairConnectivity, IsUndirectedPairConnectivity}
 use Rattle.flow_net.specs.Residual.{IsClosed, IsReachable, IsReaching}

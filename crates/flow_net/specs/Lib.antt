@@ -7,6 +7,7 @@ pub mod MarkedNodes
 pub mod Flows
 pub mod GreatestFlows
 pub mod Cuts
+pub mod LeastSides
 pub mod Connectivity
 pub mod LeastCuts
 pub mod Residual

@@ -4,7 +4,8 @@ use Rattle.flow_net.specs.Nets.{Net}
 use Rattle.flow_net.specs.Limits.{IsNet}
 use Rattle.flow_net.specs.NodeSets.{one_of}
 use Rattle.flow_net.specs.Flows.{IsFeasible, HasValue, IsGreatest}
-use Rattle.flow_net.specs.Cuts.{IsCut, capacity, IsMinimumCut, IsInLeastSourceSide, IsInLeastSinkSide}
+use Rattle.flow_net.specs.Cuts.{IsCut, capacity, IsMinimumCut}
+use Rattle.flow_net.specs.LeastSides.{IsInLeastSourceSide, IsInLeastSinkSide}
 use Rattle.flow_net.specs.Residual.{tail_of, head_of, IsClosed, IsReaching}
 use Rattle.flow_net.proofs.Cuts.{strong_duality, closed_greatest, closed_minimum}
 use Rattle.flow_net.proofs.Sides.{least_source_side, least_sink_side, outside_closed}

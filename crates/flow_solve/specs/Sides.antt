@@ -4,7 +4,8 @@ use Rattle.flow_net.specs.Nets.{Net, IsNode}
 use Rattle.flow_net.specs.NodeSets.{one_of}
 use Rattle.flow_net.specs.Flows.{HasValue}
 use Rattle.flow_net.specs.GreatestFlows.{HasGreatestValue}
-use Rattle.flow_net.specs.Cuts.{capacity, IsMinimumCut, IsInLeastSourceSide, IsInLeastSinkSide}
+use Rattle.flow_net.specs.Cuts.{capacity, IsMinimumCut}
+use Rattle.flow_net.specs.LeastSides.{IsInLeastSourceSide, IsInLeastSinkSide}
 use Rattle.flow_solve.specs.declared.searching.Direction.{Direction}
 use Rattle.flow_solve.specs.declared.searching.Direction.TheVariants.{Forwards, Backwards}
 use Rattle.flow_solve.specs.declared.stages.Task.{Task}

@@ -44,6 +44,10 @@ nodes known = (unwrap_or known.size (0, 0)).0
 abbrev pub arc_count : Known → ℕ
 arc_count known = (unwrap_or known.size (0, 0)).1
 
+-- whether a source or a sink is missing
+abbrev pub lacks_terminals : Known → Bool
+lacks_terminals known = nat_le (length known.sources) 0 || nat_le (length known.sinks) 0
+
 -- the tests of a problem line, but for that of a second one
 unfoldable pub size_tests : List (List ℕ) → List (Bool × FaultCode)
 size_tests fields =
@@ -66,7 +70,7 @@ node_tests known fields =
 abbrev pub arc_tests : Known → List (List ℕ) → List (Bool × FaultCode)
 arc_tests known fields =
     (not (is_some known.size), ProblemLineMissing)
-    ∷ (nat_le (length known.sources) 0 || nat_le (length known.sinks) 0, TerminalsMissing)
+    ∷ (lacks_terminals known, TerminalsMissing)
     ∷ (nat_le (arc_count known) (length known.arcs), TooManyArcs)
     ∷ ends_tests (nodes known) CapacityOutOfRange fields
 
@@ -82,7 +86,7 @@ problem_record_fault known fields =
 abbrev pub end_tests : Known → List (Bool × FaultCode)
 end_tests known =
     (not (is_some known.size), ProblemLineMissing)
-    ∷ (nat_le (length known.sources) 0 || nat_le (length known.sinks) 0, TerminalsMissing)
+    ∷ (lacks_terminals known, TerminalsMissing)
     ∷ (nat_lt (length known.arcs) (arc_count known), TooFewArcs) ∷ []
 
 -- the rules of a problem file

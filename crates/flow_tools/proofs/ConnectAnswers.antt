@@ -6,10 +6,17 @@ use Rattle.flow_net.specs.Nets.{Net, Instance}
 use Rattle.flow_net.specs.Arcs.{no_arc}
 use Rattle.flow_net.specs.Limits.{AreTerminals}
 use Rattle.flow_net.specs.DerivedNets.{unit, unit_arc, both_ways}
-use Rattle.flow_net.specs.NodeSets.{one_of}
+use Rattle.flow_net.specs.NodeSets.{one_of, IsLeastOver}
+use Rattle.flow_net.specs.Connectivity.{leaving, crossing}
+use Rattle.std.specs.Prelude.{if◌then◌else◌}
 use Rattle.flow_net.specs.LeastCuts.{IsConnectivity, IsPairConnectivity}
 use Rattle.flow_net.proofs.Connections.{undirected, undirected_pair, connectivity_of_unit, pair_of_unit}
-use Rattle.flow_tools.specs.Answers.{IsConnectivityOf}
+use Rattle.flow_tools.specs.Answers.{IsSeparating}
+
+-- the connectivity that is asked for: undirected or not, and with the pair or not
+abbrev pub IsConnectivityOf : Instance → Bool → Bool → ℕ → Type 0
+IsConnectivityOf p undirected pair k =
+    IsLeastOver (IsSeparating p pair) (if undirected then crossing p.net else leaving p.net) k
 
 -- every capacity is 1
 pub unit_capacities : (net made : Net) → made ≡ unit net → All (λ a. a.cap ≡ 1) made.arcs

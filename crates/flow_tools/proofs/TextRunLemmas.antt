@@ -29,7 +29,7 @@ of_text (Solve value_only) instance q r text status same h = h
 of_text (Cut arcs sink) instance q r text status same h = h
 of_text (Connect undirected pair) instance q r text status same h = h
 of_text (Check feasible_only) instance q r text status same h =
-    subst (λ l. IsAnswer (Check feasible_only) instance l text status) (same tt) h
+    subst (λ l. IsAnswer (Check feasible_only) instance l text status) (same (feasible_only, refl)) h
 
 module _ (job : Job) (b b_rest q q_rest : List ℕ) where
   -- the problem and the solution, over the run

@@ -1,5 +1,5 @@
 -- What each job puts for an accepted problem, and with which status it ends.
-use Rattle.std.specs.Prelude.{◌≡◌, ◌↔◌, ℕ, Bool, true, false, not, List, [], ◌∷◌, Ok}
+use Rattle.std.specs.Prelude.{◌≡◌, ◌↔◌, ℕ, Bool, true, false, not, List, [], ◌∷◌, Ok, if◌then◌else◌}
 use Rattle.flow_net.specs.Nets.{Net, Instance, IsNode}
 use Rattle.flow_net.specs.NodeSets.{one_of, IsLeastOver}
 use Rattle.flow_net.specs.Flows.{IsFeasible, HasValue, IsGreatest, HasNoLoops}
@@ -39,14 +39,11 @@ pub record IsCutText (p : Instance) (arcs sink : Bool) (text : List ℕ) : Type 
   pub nearest : IsNearest p.net (one_of p.sources) (one_of p.sinks) (not sink) X
   pub text_is : text ≡ cut_text arcs p.net value X
 
--- the connectivity that is asked for: the least number of arcs that leave a set or, undirected, that have exactly one
--- end in it; over all proper sets of nodes or, with the pair, over those with every source inside and every sink
--- outside
-abbrev pub IsConnectivityOf : Instance → Bool → Bool → ℕ → Type 0
-IsConnectivityOf p false false k = IsLeastOver (IsProper p.net) (leaving p.net) k
-IsConnectivityOf p true false k = IsLeastOver (IsProper p.net) (crossing p.net) k
-IsConnectivityOf p false true k = IsLeastOver (IsCut (one_of p.sources) (one_of p.sinks)) (leaving p.net) k
-IsConnectivityOf p true true k = IsLeastOver (IsCut (one_of p.sources) (one_of p.sinks)) (crossing p.net) k
+-- the sets that a connectivity is the least over: all proper sets of nodes or, with the pair, those with every source
+-- inside and every sink outside
+abbrev pub IsSeparating : Instance → Bool → (ℕ → Bool) → Type 0
+IsSeparating p false X = IsProper p.net X
+IsSeparating p true X = IsCut (one_of p.sources) (one_of p.sinks) X
 
 -- the status of a check: 0 where the solution is right
 abbrev pub verdict_status : Verdict → ℕ
@@ -54,13 +51,15 @@ verdict_status (Feasible value) = 0
 verdict_status (Optimal value) = 0
 verdict_status _ = 1
 
--- the answer of a job to a problem: a text, and the status of the run; `check` alone has to do with a solution's text
--- q, and puts the verdict on what it says
+-- The answer of a job to a problem: a text, and the status of the run. `connect` puts the least number of arcs that
+-- leave a set or, undirected, that have exactly one end in it. `check` alone has to do with a solution's text q, and
+-- puts the verdict on what it says.
 abbrev pub IsAnswer : Job → Instance → List ℕ → List ℕ → ℕ → Type 0
 IsAnswer (Solve value_only) p q text status = IsSolveText p value_only text × (status ≡ 0)
 IsAnswer (Cut arcs sink) p q text status = IsCutText p arcs sink text × (status ≡ 0)
 IsAnswer (Connect undirected pair) p q text status =
-    (value : ℕ) × IsConnectivityOf p undirected pair value × (text ≡ line_of "k" (value ∷ [])) × (status ≡ 0)
+    (value : ℕ) × IsLeastOver (IsSeparating p pair) (if undirected then crossing p.net else leaving p.net) value
+    × (text ≡ line_of "k" (value ∷ [])) × (status ≡ 0)
 IsAnswer (Check feasible_only) p q text status =
     (given : ℕ) × (lines : List FlowLine) × (verdict : Verdict) × (solution q p.net.nodes ≡ Ok (given, lines))
     × IsVerdict p given lines feasible_only verdict × (text ≡ verdict_line verdict) × (status ≡ verdict_status verdict)

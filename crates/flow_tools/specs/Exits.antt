@@ -1,5 +1,5 @@
 -- How a run ends.
-use Rattle.std.specs.Prelude.{◌≡◌, ◌⊎◌, ℕ, true, false, List, [], codes, Result, Ok, Err, Option, Some, None, ⊤}
+use Rattle.std.specs.Prelude.{◌≡◌, ◌⊎◌, ℕ, Bool, true, false, List, [], codes, Result, Ok, Err, Option, Some, None}
 use Rattle.std.specs.Io.KnownBytes.{Appends, Consumes}
 use Rattle.flow_net.specs.Nets.{Instance}
 use Rattle.flow_text.specs.Problem.{early, problem}
@@ -20,8 +20,7 @@ HasFault early whole input fault = (early ≡ Some fault) ⊎ (HasEnded input ×
 
 -- the job checks a solution
 abbrev pub IsCheck : Job → Type 0
-IsCheck (Check feasible_only) = ⊤
-IsCheck _ = ⊥
+IsCheck job = (feasible_only : Bool) × (job ≡ Check feasible_only)
 
 -- a job that checks a solution has come to it: the problem has ended and is accepted; and this holds for its number
 -- of nodes

@@ -12,18 +12,18 @@ pub returns-in-Solve : goal.returns-in-Solve
 returns-in-Solve g c =
     rw c.in-Solve.is
     (answered (over (g.I.Input.state c.args.problem.now) (g.I.Input.state c.read_all.new.input))
-    _ _ _ _ _ _ (λ check. check) (c.in-Ok.ensures 0 c.new.ensures) c.answer_solve.ensures)
+    _ _ _ _ _ _ (λ check. let is = check.1 in cc) (c.in-Ok.ensures 0 c.new.ensures) c.answer_solve.ensures)
 
 pub returns-in-Cut : goal.returns-in-Cut
 returns-in-Cut g c =
     rw c.in-Cut.is
     (answered (over (g.I.Input.state c.args.problem.now) (g.I.Input.state c.read_all.new.input))
-    _ _ _ _ _ _ (λ check. check) (c.in-Ok.ensures 0 c.new.ensures) c.answer_cut.ensures)
+    _ _ _ _ _ _ (λ check. let is = check.1 in cc) (c.in-Ok.ensures 0 c.new.ensures) c.answer_cut.ensures)
 
 pub returns-in-Connect : goal.returns-in-Connect
 returns-in-Connect g c =
     rw c.in-Connect.is (answered (over (g.I.Input.state c.args.problem.now) (g.I.Input.state c.read_all.new.input)) _ _
-    _ _ _ _ (λ check. check) (c.in-Ok.ensures 0 c.new.ensures) c.answer_connect.ensures)
+    _ _ _ _ (λ check. let is = check.1 in cc) (c.in-Ok.ensures 0 c.new.ensures) c.answer_connect.ensures)
 
 pub returns-in-Check : goal.returns-in-Check
 returns-in-Check g c =

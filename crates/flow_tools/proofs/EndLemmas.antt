@@ -125,8 +125,10 @@ module _ (source given out : Stream) (feasible_only : Bool) (instance : Instance
         → EndsAt (Check feasible_only) source given out r.text a.q o end
     exit_of (Ok status) o x = (x.1, (r.judged.0, x.0.0, (λ c. x.0), (instance, r.judged.1, x.2)))
     exit_of (Err (Fault false line code)) o x = absurd x
-    exit_of (Err (Fault true line code)) o x = (x.0, x.1, x.2, ((feasible_only, refl), r.judged.0, (instance, r.judged.1, x.3)))
-    exit_of (Err ReadFailed) o x = (x.1, x.2, inr (x.0, ((feasible_only, refl), r.judged.0, (instance, r.judged.1, x.3))))
+    exit_of (Err (Fault true line code)) o x =
+        (x.0, x.1, x.2, ((feasible_only, refl), r.judged.0, (instance, r.judged.1, x.3)))
+    exit_of (Err ReadFailed) o x =
+        (x.1, x.2, inr (x.0, ((feasible_only, refl), r.judged.0, (instance, r.judged.1, x.3))))
     exit_of (Err WriteFailed) o x =
         (x.1, (x.2.0, x.2.1, (r.judged.0, x.0.0, (λ c. x.0), (instance, r.judged.1, x.2.2)), x.2.3))
     exit_of (Err OutOfMemory) o x = (r.judged.0.0, x.0, x.1, x.2)

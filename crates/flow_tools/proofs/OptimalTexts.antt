@@ -97,5 +97,8 @@ solved_optimal b p text said s =
       s.value,
       ap (λ t. solution t p.net.nodes) s.text_is ∙ accepted,
       s.greatest,
-      λ verdict. ((λ v. only_optimal p w s.value verdict optimal v), λ e. subst (IsVerdict p w.value w.lines false) (sym e) optimal),
+      λ verdict. (
+        (λ v. only_optimal p w s.value verdict optimal v),
+        λ e. subst (IsVerdict p w.value w.lines false) (sym e) optimal,
+      ),
     )

@@ -211,10 +211,12 @@ over_told p lines src dst h s = omega (arith, h.over, feasible_within p lines s 
 
 -- a verdict on lines that some flow carries tells whether a feasible flow does
 pub carried_told : (p : Instance) (w : Written) (feasible_only : Bool) (verdict : Verdict) (xs : List ℕ) → IsNet p.net
-    → IsWithinLimits p.net.nodes w → Fits p.net xs → Carries p.net w.lines xs → IsVerdict p w.value w.lines feasible_only verdict
+    → IsWithinLimits p.net.nodes w → Fits p.net xs → Carries p.net w.lines xs
+    → IsVerdict p w.value w.lines feasible_only verdict
     → (is_of_feasible verdict ≡ true) ↔ IsFeasibleSolution p w.lines
 carried_told p w only (Over src dst flow cap) xs n l f c v =
-    ((λ e. cc), λ s. absurd (over_told p w.lines src dst (record { over = omega (arith, v.0, v.1, v.2); least = v.3 }) s))
+    let over : IsFirstOver p.net w.lines src dst = record { over = omega (arith, v.0, v.1, v.2); least = v.3 } in
+    ((λ e. cc), λ s. absurd (over_told p w.lines src dst over s))
 carried_told p w only (Unbalanced node into out) xs n l f c v =
     ((λ e. cc), λ s. absurd (v.4 (v.2 ∙ feasible_balanced p w n l s node v.1 ∙ sym v.3)))
 carried_told p w only (Value given found) xs n l f c v = ((λ e. carried_solution p w.lines xs f c v.1), λ s. refl)

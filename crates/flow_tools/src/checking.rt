@@ -73,8 +73,9 @@ fn wrong_sum(
 ) -> Result<Option<Verdict>, OutOfMemory>
     requires limits { IsWithinLimits problem.now.net.nodes (written_in solution.now) }
     requires within { IsWithinCapacities problem.now.net solution.now.lines.items }
-    ensures { IfOk result (λ wrong. MatchOption wrong (IsRight problem.now solution.now.value solution.now.lines.items)
-        (λ verdict. (feasible_only : Bool) → IsVerdict problem.now solution.now.value solution.now.lines.items feasible_only verdict)) }
+    ensures { let p = problem.now in let value = solution.now.value in let lines = solution.now.lines.items in
+        IfOk result (λ wrong. MatchOption wrong (IsRight p value lines)
+        (λ verdict. (only : Bool) → IsVerdict p value lines only verdict)) }
 {
     let flows = node_flows(alloc, problem.net().nodes(), solution.lines.as_slice())?;
     if let Some(node) = first_unbalanced(alloc, problem, &flows)? {

@@ -26,7 +26,9 @@ pub returns-in-Some : goal.returns-in-Some
 returns-in-Some c =
     let p = c.args.problem.now in
     let w = written_in c.args.solution.now in
-    (subst (λ o. MatchOption o (IsRight p w.value w.lines) (λ verdict. (feasible_only : Bool) → IsVerdict p w.value w.lines feasible_only verdict))
+    (subst
+    (λ o. MatchOption o (IsRight p w.value w.lines)
+    (λ verdict. (feasible_only : Bool) → IsVerdict p w.value w.lines feasible_only verdict))
     c.in-Some.is c.in_ok-verdict.ensures) c.args.feasible_only
 
 pub returns-then-branch : goal.returns-then-branch
@@ -34,7 +36,8 @@ returns-then-branch c =
     let p = c.args.problem.now in
     let w = written_in c.args.solution.now in
     let right = subst
-    (λ o. MatchOption o (IsRight p w.value w.lines) (λ verdict. (feasible_only : Bool) → IsVerdict p w.value w.lines feasible_only verdict))
+    (λ o. MatchOption o (IsRight p w.value w.lines)
+    (λ verdict. (feasible_only : Bool) → IsVerdict p w.value w.lines feasible_only verdict))
     c.in_default.is c.in_ok-verdict.ensures in
     let value = carried_value p w.lines c.args.flow.now.flows w.value c.requires.carries right.2 in (
       right,
@@ -49,7 +52,8 @@ returns-else-branch c =
     let p = c.args.problem.now in
     let w = written_in c.args.solution.now in
     let right = subst
-    (λ o. MatchOption o (IsRight p w.value w.lines) (λ verdict. (feasible_only : Bool) → IsVerdict p w.value w.lines feasible_only verdict))
+    (λ o. MatchOption o (IsRight p w.value w.lines)
+    (λ verdict. (feasible_only : Bool) → IsVerdict p w.value w.lines feasible_only verdict))
     c.in_default.is c.in_ok-verdict.ensures in
     let value = carried_value p w.lines c.args.flow.now.flows w.value c.requires.carries right.2 in
     let less = c.in_ok-is_greatest.ensures.less c.if-branch.false in

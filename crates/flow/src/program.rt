@@ -3,7 +3,7 @@
 ghost use Rattle.std.specs.Prelude.{◌≡◌};
 ghost use Rattle.flow_tools.specs.Streams.{over};
 ghost use Rattle.flow_tools.specs.Sending.{IsPut};
-ghost use Rattle.flow_tools.specs.Exits.{IsTold};
+ghost use Rattle.flow_tools.specs.AnswerExits.{IsTold};
 ghost use Rattle.flow.specs.Messages.{cannot_open, given_name};
 
 use crate::commands::commands;

@@ -8,7 +8,7 @@
 //!    is pushed through. A node whose half-arc to its parent was filled is an *orphan*: it is *adopted* by the nearest
 //!    node of its tree whose parents lead to a root, or else comes free, with its children as orphans in turn. So no
 //!    search begins anew. The trees end by themselves where they bring little for what they take: they may take 8
-//!    steps for each arc at first and 1,024 more for each augmentation. That serves where the first paths are short
+//!    steps for each arc at first and 512 more for each augmentation. That serves where the first paths are short
 //!    and most of a tree outlives a push: images, assignments, closures.
 //! 2. **Waves that lift** (`waves`, `settling`), where the trees had to end before their active nodes ran out. All
 //!    that can leave the sources does, and each node sends what it has received, its *excess*, on to nodes that a

@@ -7,9 +7,10 @@
 //!    *stamp*, the time when its parents were last known to lead to a root. Where the trees touch, an augmenting path
 //!    is pushed through. A node whose half-arc to its parent was filled is an *orphan*: it is *adopted* by the nearest
 //!    node of its tree whose parents lead to a root, or else comes free, with its children as orphans in turn. So no
-//!    search begins anew. The trees end by themselves where they bring little for what they take: they may take 8
-//!    steps for each arc at first and 1,024 more for each augmentation. That serves where the first paths are short
-//!    and most of a tree outlives a push: images, assignments, closures.
+//!    search begins anew. The trees end by themselves where they bring little for what they take: they may take 8 steps
+//!    for each arc at first, and 24 more for each half-arc of a path that flow is pushed along, since repairs cost the
+//!    more the longer paths are. That serves where the first paths are short and most of a tree outlives a push:
+//!    images, assignments, closures.
 //! 2. **Waves that lift** (`waves`, `settling`), where the trees had to end before their active nodes ran out. All
 //!    that can leave the sources does, and each node sends what it has received, its *excess*, on to nodes that a
 //!    search has found a level nearer to the sinks, the farthest level first (after Karzanov 1974). A node that is

@@ -10,7 +10,7 @@ scratch folder of its own, with a copy of examples/ and with FLOW on the PATH as
 command before. In a block fenced as ```console checkout, they run in the repository itself, where standard output
 alone is compared, with the repository's path shown as /path/to/flow, and they must leave no file behind that git would
 take. Links to files of the repository must lead somewhere, and each file of the crates must stand on the page that
-tells what stands where. Each check that fails is told; the last line counts them.
+tells what stands where, by its path. Each check that fails is told; the last line counts them.
 """
 
 import difflib
@@ -139,27 +139,34 @@ def check_links(document):
     return passed, failed
 
 
+def sections(document):
+    """The parts of a document by their headings of the second rank, without the marks of code."""
+    parts = re.split(r"^## ", document.read_text(), flags=re.M)[1:]
+    return {heading.strip("`"): text for heading, text in (part.split("\n", 1) for part in parts)}
+
+
 def check_names():
     """Looks for the crates' files on the pages that tell what stands where; answers how many are there and aren't.
 
-    A lemma file has a row in docs/PROOFS.md, a source file a place in docs/ARCHITECTURE.md, and a file of definitions
-    is named on one of these pages or in docs/DEFINITIONS.md. Tests are named where they are declared.
+    The part of docs/ARCHITECTURE.md on a crate names each file of its src/ and specs/ by the path within the crate,
+    and a lemma file has a row in docs/PROOFS.md. Tests are named where they are declared.
     """
-    pages = {name: (REPOSITORY / f"docs/{name}.md").read_text() for name in ("PROOFS", "ARCHITECTURE", "DEFINITIONS")}
-    wanted = [(file, ["PROOFS"]) for file in REPOSITORY.glob("crates/*/proofs/*.antt")]
-    wanted += [(file, ["ARCHITECTURE"]) for file in REPOSITORY.glob("crates/*/src/**/*.rt")]
-    wanted += [(file, list(pages)) for file in REPOSITORY.glob("crates/*/specs/*.antt")]
+    parts = sections(REPOSITORY / "docs/ARCHITECTURE.md")
+    rows = re.findall(r"^\| ([^|]*) \|", (REPOSITORY / "docs/PROOFS.md").read_text(), re.M)
+    lemmas = {name for row in rows for name in re.findall(r"`(\w+)`", row)}
+    wanted = [(file, "ARCHITECTURE") for kind in ("src/**/*.rt", "specs/*.antt")
+              for file in REPOSITORY.glob(f"crates/*/{kind}")]
+    wanted += [(file, "PROOFS") for file in REPOSITORY.glob("crates/*/proofs/*.antt")]
     passed = failed = 0
-    for file, names in sorted(wanted):
-        parts = (*file.parent.name.split("_"), *file.stem.split("_"))
-        if file.stem in ("Lib", "lib") or "tests" in parts or "test" in parts:
+    for file, page in sorted(wanted):
+        crate, *path = file.relative_to(REPOSITORY / "crates").parts
+        if file.stem in ("Lib", "lib") or {"tests", "test"} & set("_".join([*path[1:-1], file.stem]).split("_")):
             continue
-        if any(re.search(rf"\b{file.stem}\b", pages[name]) for name in names):
+        if file.stem in lemmas if page == "PROOFS" else f"`{'/'.join(path)}`" in parts.get(crate, ""):
             passed += 1
         else:
             failed += 1
-            wanted_in = " or ".join(f"docs/{name}.md" for name in names)
-            print(f"failed: {file.relative_to(REPOSITORY)} is not named in {wanted_in}")
+            print(f"failed: {file.relative_to(REPOSITORY)} is not named in docs/{page}.md")
     return passed, failed
 
 

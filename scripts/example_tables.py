@@ -91,6 +91,25 @@ def new_links(checks, flow, scratch):
                      (str(least), str(len(absent)), str(better)))
 
 
+def large_network(checks, flow, scratch):
+    """A grid of 900 sites with the hub in a corner, in a few seconds: two links of any corner split it."""
+    size = 30
+    write(scratch, "sites.csv", "site,x,y\n" + "".join(f"{place},{place % size},{place // size}\n"
+                                                      for place in range(size * size)))
+    links = [(place, place + 1) for place in range(size * size) if (place + 1) % size]
+    links += [(place, place + size) for place in range(size * (size - 1))]
+    write(scratch, "links.csv", "one,other\n" + "".join(f"{one},{other}\n" for one, other in links))
+    first = ", ".join(map(str, range(1, 31))) + " and 869 more"
+    started = time.perf_counter()
+    own_data(checks, flow, scratch, "redundancy", [
+        "900 sites, 1740 links; the loss of 2 links can split the network, of fewer never",
+        f"2 links must fail before these lose 0: {first}", f"the loss of 0 to 1 and 0 to 30 cuts off {first}",
+        "the loss of 28 to 29 and 29 to 59 cuts off 29", "the loss of 870 to 871 and 840 to 870 cuts off 870",
+        "the loss of 898 to 899 and 869 to 899 cuts off 899",
+        "of 402810 new links 0 help, so that 3 must fail"])
+    checks.equal("redundancy: a large network takes less than a minute", time.perf_counter() - started < 60, True)
+
+
 def complaints(checks, flow, scratch):
     """Where the program is missing or refuses, or the data isn't as it has to be, an example says so in a line."""
     def complaint(name, program=flow, **files):
@@ -261,3 +280,33 @@ def common_module(checks, flow):
     checks.equal("dimacs: cut nearest the sinks", program.cut(problem, sink=True).source_side, {"quarry", "mill"})
     checks.equal("dimacs: connectivity", program.connectivity(problem, pair=True), 1)
     checks.equal("dimacs: infinite", problem.infinite(), 6)
+    checks.equal("dimacs: no questions", list(program.cuts_from(problem, [])), [])
+
+
+def copies(checks, flow):
+    """The cuts of copies side by side are those of the problem with each source by itself, with one copy and with
+    many in a run, and around a hundred nodes, where the numbers get a digit more."""
+    import dimacs
+    chance, program = random.Random(1962), dimacs.Flow(flow)
+    for nodes in (2, 9, 10, 99, 101):
+        arcs = [(chance.randrange(nodes), chance.randrange(nodes), chance.randrange(4)) for _ in range(3 * nodes)]
+        asked = chance.sample(range(1, nodes), min(nodes - 1, 12))
+
+        def problem_of(*sources):
+            problem = dimacs.Problem()
+            for node in range(nodes):
+                problem.node(node)
+            problem.sink(0)
+            for source in sources:
+                problem.source(source)
+            for arc in arcs:
+                problem.arc(*arc)
+            return problem
+
+        expected = [program.cut(problem_of(node)) for node in asked]
+        usual = dimacs.Copies.ARCS_OF_A_RUN
+        for at_once in (1, 7 * nodes, usual):
+            dimacs.Copies.ARCS_OF_A_RUN = at_once
+            found = list(program.cuts_from(problem_of(), asked))
+            checks.equal(f"dimacs: copies of {nodes} nodes, {at_once} arcs in a run", found, expected)
+        dimacs.Copies.ARCS_OF_A_RUN = usual

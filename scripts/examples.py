@@ -259,14 +259,15 @@ def main():
             elif networkx:
                 segmentation_by_networkx(checks, flow, scratch)
             small[name](checks, flow, os.path.join(folder, f"small {name}"))
-        for check in (tables.small_limits, tables.small_chain, tables.new_links, tables.complaints,
-                      tables.guide_scripts):
+        for check in (tables.small_limits, tables.small_chain, tables.new_links, tables.large_network,
+                      tables.complaints, tables.guide_scripts):
             check(checks, flow, os.path.join(folder, check.__name__))
         tables.endings(checks, os.path.join(folder, "endings"))
         pictures.png_files(checks, folder)
         pictures.painted_strokes(checks, flow, os.path.join(folder, "painted"))
         pictures.refused_strokes(checks, flow, os.path.join(folder, "strokes"))
     tables.common_module(checks, flow)
+    tables.copies(checks, flow)
     for name, module in (("networkx", "networkx"), ("scipy", "scipy"), ("pixels", "numpy")):
         bridge(checks, flow, name, module)
     print(f"examples: {checks.passed} passed, {checks.failed} failed")

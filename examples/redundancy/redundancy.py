@@ -80,7 +80,8 @@ def read(example):
             row.refuse("other", f"'{one}' is joined to itself")
         links.append((one, other))
     network = Network(spots, links)
-    lost = [site for site in network.sites if site not in reached(network)]
+    there = reached(network)
+    lost = [site for site in network.sites if site not in there]
     if lost:
         more = f", nor from {command.count(len(lost) - 1, 'site')} more" if len(lost) > 1 else ""
         found[lost[0]].refuse("site", f"no links lead from '{lost[0]}' to the hub '{network.hub}'{more}")

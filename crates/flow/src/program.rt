@@ -9,8 +9,7 @@ ghost use Rattle.flow.specs.Messages.{cannot_open, given_name};
 use crate::commands::commands;
 use crate::requests::{Files, job_of};
 use clap::error::ErrorKind;
-use flow_tools::memory::Script;
-use flow_tools::{Failed, Input, Job, Output, put_all, run};
+use flow_tools::{Counted, Failed, Input, Job, Output, put_all, run};
 use std::alloc::Global;
 
 /// Where the inputs that a command line names are opened.
@@ -64,7 +63,7 @@ fn run_files<S: Source, O: Output, E: Output>(
             None => refuse_file(files.solution, err),
         },
         _ => {
-            let mut nothing = Script::new(b"", 1, false, 0);
+            let mut nothing = Counted::new(&b""[..]);
             run(alloc, job, &mut problem, &mut nothing, out, err)
         }
     }

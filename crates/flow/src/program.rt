@@ -88,7 +88,7 @@ fn put_cannot_open<E: Output>(err: &mut E, name: &[u8]) -> Result<(), Failed>
     put_all(err, b"\n")
 }
 
-/// Prints what the parse of the words ended with in place of a job: help, or why they are refused.
+/// Prints what the words came to in place of a job: help, or why they are refused.
 fn refuse<O: Output, E: Output>(alloc: Global, error: clap::Error, out: &mut O, err: &mut E) -> u8 {
     let text = match error.to_string(alloc) {
         Ok(text) if error.kind() != ErrorKind::OutOfMemory => text,
@@ -104,7 +104,7 @@ fn refuse<O: Output, E: Output>(alloc: Global, error: clap::Error, out: &mut O, 
     }
 }
 
-/// Puts why words are refused, without clap's tip to pass an unknown flag as a value: as a value it would name a file.
+/// Puts why words are refused, without clap's tip to pass an unknown flag as a value: it would name a file.
 fn put_refusal<E: Output>(err: &mut E, text: &str) -> Result<(), Failed> {
     let (before, tail) = match text.split_once("\n  tip: to pass '") {
         Some(parts) => parts,
@@ -120,7 +120,7 @@ fn put_refusal<E: Output>(err: &mut E, text: &str) -> Result<(), Failed> {
     }
 }
 
-/// Puts a message, as far as it is taken, and answers the status of a device or memory that failed.
+/// Puts a message, as far as it is taken, and answers the status for a device or memory that failed.
 fn tell<E: Output>(err: &mut E, message: &[u8]) -> u8
     ensures status { result ≡ 4 }
     ensures told { IsTold (over (E.state err.old) (E.state err.new)) message.now }

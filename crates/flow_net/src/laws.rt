@@ -43,8 +43,8 @@ pub fn connectivity_by_pairs()
     ensures { ConnectivityByPairs }
 {}
 
-/// The connectivity is the least, over every node but the first of an order, of the connectivities of the nodes before
-/// it with it, to it and from it.
+/// The connectivity is the least of the connectivities between a node and all those before it in an order, both ways,
+/// over every node but the first.
 pub fn connectivity_by_growth()
     ensures { ConnectivityByGrowth }
 {}
@@ -66,10 +66,9 @@ pub fn single_upgrade()
     ensures { SingleUpgrade }
 {}
 
-/// A network whose nodes are renamed by a one-to-one naming and whose arcs stand in another order keeps the limits, its
-/// terminals and its greatest value. A flow carried over is feasible where it was, with the same value, and each flow
-/// is one that is carried over. Minimum cuts, the least source side and the least sink side are the same under the new
-/// names.
+/// A network whose nodes are renamed one to one and whose arcs stand in another order keeps the limits, its terminals
+/// and its greatest value. A flow that is carried over stays feasible and keeps its value, and each flow is one that is
+/// carried over. Minimum cuts, the least source side and the least sink side are the same under the new names.
 pub fn same_arranged()
     ensures { SameArranged }
 {}

@@ -1,13 +1,14 @@
 //! Networks, tables of flows, and the theory of maximum flows and minimum cuts.
 //!
 //! This is the lowest crate of the toolkit. It says what a network, a feasible flow, a cut and the edge connectivity
-//! are (`specs/`, one page to believe), proves the laws that join them (`laws`, after Ford and Fulkerson 1956), and has
-//! the code through which every other crate touches a network or a flow.
+//! are (`specs/`; docs/DEFINITIONS.md tells which of these files are to be believed), proves the laws that join them
+//! (`laws`, after Ford and Fulkerson 1956), and has the code through which every other crate touches a network or a
+//! flow.
 //!
-//! A solver gets at flows by the calls of [`FlowTable`] alone. They speak of *half-arcs*: half-arc `2·i` runs along
-//! arc `i`, and half-arc `2·i + 1` runs against it, which is where flow can be taken back: the reverse arc of the
-//! residual network. Each look and each push is one step, and the table counts its steps for contracts: the count takes
-//! no bytes, and no running program can read it.
+//! A solver gets at flows only by the calls of [`FlowTable`]. They speak of *half-arcs*: half-arc `2·i` runs along arc
+//! `i`, and half-arc `2·i + 1` against it, where flow can be taken back; textbooks call it the reverse arc of the
+//! residual network. Each look and each push is one step. The table counts its steps for contracts alone: the count
+//! takes no bytes, and no running program can read it.
 #![tactic(auto)]
 
 pub mod laws;

@@ -23,8 +23,7 @@ pub struct Arc {
 #[derive(Clone, Copy, Debug, PartialEq, Eq)]
 pub struct OutOfMemory;
 
-/// Nodes 1 to `nodes()`, and a list of arcs between them: parallel arcs, opposite arcs and self-loops may be among
-/// them.
+/// Nodes 1 to `nodes()`, and a list of arcs between them, which may be parallel, opposite or self-loops.
 ///
 /// A network has [`FEWEST_NODES`] to [`MOST_NODES`] nodes and at most [`MOST_ARCS_BOTH_WAYS`] arcs. So a sum of
 /// capacities is below 2^87.
@@ -145,7 +144,7 @@ fn set_units(arcs: &mut Vec<Arc>)
     }
 }
 
-/// Appends the reverse of each arc, or leaves the arcs: all the memory is asked for before the first is appended.
+/// Appends the reverse of each arc, or changes nothing: all the memory is asked for before the first is appended.
 fn append_reversed(arcs: &mut Vec<Arc>) -> Result<(), OutOfMemory>
     requires room { length arcs.old.items ≤ MOST_ARCS }
     ensures ok { OnOk result (arcs.new.items ≡ arcs.old.items ++ map reversed arcs.old.items) }

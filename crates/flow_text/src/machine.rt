@@ -1,5 +1,5 @@
-//! The machine under both readers. It cuts a text that comes in pieces into lines and has each line judged. Of a line
-//! whose end hasn't come yet it keeps the bytes so far, at most as many as a line may have; of a comment it keeps none.
+//! The machine under both readers. It cuts a text that comes in pieces into lines and has each line judged. It keeps
+//! the bytes of an unfinished line, at most as many as a line may have, and none of a comment.
 ghost use Rattle.std.specs.Prelude.{◌≡◌, ◌+◌, ◌++◌, ◌∷◌, [], List, ℕ, None, Some, Err, false, IsErrOf, IfOk, is_some, true, MatchOption};
 ghost use Rattle.flow_text.specs.Rules.{Rules, is_comment, fault_of};
 ghost use Rattle.flow_text.specs.Reading.{told, Adds, HasRead, Refuses, FeedsBy, ClosesBy, Judges, JudgesFirst, with_line, EndsLine, EndsFirst, BuffersTail, Takes, Finals, fault_from};
@@ -43,7 +43,7 @@ pub(crate) trait Judge: Drop {
         ensures { result ≡ rules.end_fault self.now };
 }
 
-/// A judge, and what has come of the line whose end hasn't come yet.
+/// A judge, and the unfinished line so far.
 #[derive(Drop)]
 pub(crate) struct Machine<J> {
     refused: Option<ReadFault>,
@@ -132,7 +132,7 @@ impl<J: Judge> Machine<J> {
         }
     }
 
-    /// Judges the line that was begun in earlier pieces, if one was, and that ends with these bytes.
+    /// Judges the line that began in earlier pieces, if one did, and that ends with these bytes.
     fn judge_rest(&mut self, tail: &[u8]) -> Result<(), Refusal>
         ensures { EndsLine J.rules J.with_record self.old tail.now self.old.count result self.new }
     {
@@ -192,7 +192,7 @@ impl<J: Judge> Machine<J> {
         }
     }
 
-    /// Keeps the last bytes of a piece, in which no line ends, for the line that they begin or continue.
+    /// Keeps the last bytes of a piece, in which no line ends, as those of an unfinished line.
     fn buffer(&mut self, tail: &[u8]) -> Result<(), Refusal>
         ensures { BuffersTail self.old tail.now result self.new }
     {

@@ -146,9 +146,8 @@ fn number_line<I: Integer>(word: &[u8], n: I) -> Line
     line
 }
 
-/// Appends a letter, two nodes and an amount, which take 45 bytes at most. A solve has a line of this form for every
-/// arc, so it is written backwards into bytes of its own, in front of the last, which is the line's end, and copied
-/// once.
+/// Appends a letter, two nodes and an amount, which take 45 bytes at most. A solve has such a line for every arc, so it
+/// is written backwards into bytes of its own, from the line's end on, and copied once.
 #[tactic(auto, using(crate::proofs::OutputLemmas::decimal_10, crate::proofs::OutputLemmas::decimal_20))]
 #[inline(always)]
 fn push_pair<const N: usize>(
@@ -198,7 +197,7 @@ fn over_line(src: u32, dst: u32, flow: u128, cap: u128) -> Line
     line
 }
 
-/// The verdict on a node that takes in other than it sends on: `unbalanced NODE IN OUT`.
+/// The verdict on a node that doesn't send on what it takes in: `unbalanced NODE IN OUT`.
 #[tactic(auto, unfolding(crate::specs::Output::line_of))]
 fn unbalanced_line(node: u32, into: u128, out: u128) -> Line
     ensures { result.items ≡ line_of "unbalanced" (node ∷ into ∷ out ∷ []) }

@@ -15,8 +15,8 @@ use std::marker::Model;
 
 /// Reads a maximum flow problem of the DIMACS format (1990) from the pieces of its text, however it is cut.
 ///
-/// Of the line that goes on it keeps at most `LONGEST_LINE` bytes, of a comment none. It keeps one arc for each arc
-/// line and at most two records for each node line. What a problem line declares takes no memory.
+/// It keeps at most `LONGEST_LINE` bytes of an unfinished line, and none of a comment; one arc for each arc line, and
+/// at most two records for each node line. What a problem line declares takes no memory.
 #[derive(Drop)]
 pub struct ProblemReader {
     machine: Machine<ProblemLines>,
@@ -46,8 +46,8 @@ impl ProblemReader {
     /// # Errors
     ///
     /// The early fault of the pieces so far, where they have one: the first fault of a line that has ended, or
-    /// `LineTooLong` of the line that goes on. Or `OutOfMemory`, where the memory for a line was refused. After an
-    /// error every later call answers the same.
+    /// `LineTooLong` of the unfinished line. Or `OutOfMemory`, where the memory for a line was refused. After an error
+    /// every later call answers the same.
     pub fn feed(&mut self, piece: &[u8]) -> Result<(), ReadFault>
         ensures fed { (b : List ℕ) → Reads self.old b → Feeds (b ++ piece.now) result self.new }
         ensures refused { (fault : ReadFault) → Refuses self.old fault → (result ≡ Err fault) × Refuses self.new fault }

@@ -67,7 +67,7 @@ pub(crate) fn number_in(
     }
 }
 
-/// SRC, DST and the number of `SRC DST NUMBER`, where a number above 64 bits has this fault.
+/// SRC, DST and the number of `SRC DST NUMBER`; `code` is the fault of a number that has more than 64 bits.
 #[tactic(auto, unfolding(crate::specs::Tests::ends_tests))]
 pub(crate) fn ends_in(
     others: Fields<'_>,

@@ -30,7 +30,7 @@ fn value_in(others: Fields<'_>) -> Result<u128, FaultCode>
     number_in(value, 0, GREATEST_VALUE, FaultCode::ValueOutOfRange)
 }
 
-/// The judge of the lines of a solution to a problem of so many nodes.
+/// The judge of the lines of a solution to a problem with a given number of nodes.
 #[derive(Drop)]
 pub(crate) struct SolutionLines {
     nodes: u32,

@@ -16,7 +16,7 @@ use std::marker::Model;
 
 /// Reads a solution of the DIMACS maximum flow format (1990) from the pieces of its text, however it is cut.
 ///
-/// Of the line that goes on it keeps at most `LONGEST_LINE` bytes, of a comment none. It keeps one record for each flow
+/// It keeps at most `LONGEST_LINE` bytes of an unfinished line, and none of a comment; and one record for each flow
 /// line.
 #[derive(Drop)]
 pub struct SolutionReader {
@@ -33,7 +33,7 @@ impl Model for SolutionReader {
 }
 
 impl SolutionReader {
-    /// A reader that has read nothing, for a problem of so many nodes. It takes no memory.
+    /// A reader that has read nothing, for a problem with this many nodes. It takes no memory.
     pub fn new(alloc: Global, nodes: u32) -> SolutionReader
         ensures { ReadsSolution nodes result [] }
     {
@@ -47,8 +47,8 @@ impl SolutionReader {
     /// # Errors
     ///
     /// The early fault of the pieces so far, where they have one: the first fault of a line that has ended, or
-    /// `LineTooLong` of the line that goes on. Or `OutOfMemory`, where the memory for a line was refused. After an
-    /// error every later call answers the same.
+    /// `LineTooLong` of the unfinished line. Or `OutOfMemory`, where the memory for a line was refused. After an error
+    /// every later call answers the same.
     pub fn feed(&mut self, piece: &[u8]) -> Result<(), ReadFault>
         ensures fed { (nodes : ℕ) (b : List ℕ) → ReadsSolution nodes self.old b
             → FeedsSolution nodes (b ++ piece.now) result self.new }

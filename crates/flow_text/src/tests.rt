@@ -83,7 +83,7 @@ const NUMBERS: [(&[u8], u128, Number); 10] = [
     (&[b'0'; 150], 0, Number::Value(0)),
 ];
 
-/// Reads a problem whose first piece is so long and whose other pieces are at most so long, and checks that a refusal
+/// Reads a problem whose first piece has a given length, and the others at most another, and checks that a refusal
 /// stays.
 pub(crate) fn read_problem(
     rt: &impl Abort,

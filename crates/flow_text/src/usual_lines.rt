@@ -1,7 +1,6 @@
 //! The usual form of an arc line and of a flow line, read in one pass: the letter, one blank, and three numbers of at
-//! most `SHORT_DIGITS` digits with one blank between them. A text that ends sooner than the longest such line is read
-//! the general way, so that no byte needs a test of its own for the text's end, and the loops over digits have a fixed
-//! length.
+//! most `SHORT_DIGITS` digits with one blank between them. A text that is shorter than the longest such line is read
+//! the general way: so no byte has to be tested for the end of the text, and the loops over digits have a fixed length.
 ghost use Rattle.std.specs.Prelude.{◌+◌, ◌-◌, ◌≤◌, length, drop, IfSome};
 ghost use Rattle.flow_text.specs.UsualLines.{IsLeading, IsNumberUntil, IsLetter, IsUsual};
 

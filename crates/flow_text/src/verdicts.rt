@@ -33,7 +33,7 @@ pub enum Verdict {
         /// What leaves the sources less what enters them; below 0 where more enters them.
         found: i128,
     },
-    /// The flow is feasible and has this value. Said only where nobody asks whether a flow of greater value exists.
+    /// The flow is feasible and has this value. Said only if it isn't asked whether a flow of greater value exists.
     Feasible(u128),
     /// The flow is feasible and has this value, but a feasible flow of greater value exists.
     NotMaximal(u128),

@@ -2,9 +2,9 @@
 //!
 //! No call on a table lowers its count: the count's field, its module and both of its functions are private to the
 //! table, and the one way to a count from another is [`Steps::after`], which is one more than a count that is lent to
-//! it. A new table begins at 0, so a caller who puts a new table in the place of an old one has lost the old one's
-//! count; who lends a table and no allocator, as a solver is lent one, rules that out. The proofs of both functions, in
-//! `proofs/tables/steps/`, are written by hand; nowhere else may a proof be, since one could claim any count.
+//! it. A new table begins at 0, so whoever replaces a table loses the old count; a solver can't, since it is lent a
+//! table and no allocator to make another with. The proofs of both functions, in `proofs/tables/steps/`, are written
+//! by hand. No other proof may be, since it could claim any count.
 ghost use Rattle.std.specs.Prelude.{◌≡◌, ℕ, ◌+◌};
 ghost use Rattle.std.specs.Borrow.{ftrue};
 

@@ -14,3 +14,4 @@ pub mod Upgrades
 pub mod GrowthLemmas
 pub mod Arrangements
 pub mod ArrangementLaws
+pub mod Exchanges

@@ -1,5 +1,5 @@
 -- `rename_ends`: the arcs passed have their new ends, and those ahead are as they were.
-use Rattle.std.proofs.Common.{◌≡◌, ◌++◌, map, take, drop, length}
+use Rattle.std.proofs.Common.{◌≡◌, ◌++◌, map, take, drop}
 use Rattle.flow_net.specs.Arrangements.{renamed}
 use Rattle.flow_net.proofs.networks.rename_ends.Given as goal
 

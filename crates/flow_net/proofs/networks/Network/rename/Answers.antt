@@ -1,7 +1,6 @@
 -- `rename`: the ends of the arcs are nodes again.
-use Rattle.std.proofs.Common.{◌≡◌, List, ℕ, length, sym, subst}
+use Rattle.std.proofs.Common.{◌≡◌, length, sym, subst}
 use Rattle.std.specs.List.{All}
-use Rattle.flow_net.specs.Limits.{IsNet, IsArcWithin}
 use Rattle.flow_net.specs.Nets.{Net, IsNode}
 use Rattle.flow_net.proofs.KeptLimits.{IsNet-renamed}
 use Rattle.flow_net.proofs.networks.Network.rename.Goals as goal

@@ -15,3 +15,4 @@ pub mod GrowthLemmas
 pub mod Arrangements
 pub mod ArrangementLaws
 pub mod Exchanges
+pub mod Namings

@@ -17,3 +17,4 @@ pub mod PrintedLines
 pub mod OptimalTexts
 pub mod TextRunLemmas
 mod CircleLemmas
+pub mod ArrangedLemmas

@@ -14,3 +14,4 @@ pub mod ArcShares
 pub mod NodeSums
 pub mod Degrees
 pub mod SolvedTexts
+pub mod ArrangedProblems

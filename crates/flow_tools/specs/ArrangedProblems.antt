@@ -1,0 +1,21 @@
+-- Problems that are arranged: their nodes under new names, their arcs in another order.
+use Rattle.std.specs.Prelude.{◌≡◌, ℕ, List, length}
+use Rattle.flow_net.specs.Nets.{Net, Instance}
+use Rattle.flow_net.specs.Arrangements.{IsArranged, all_named}
+use Rattle.flow_net.specs.Namings.{AreInverse}
+use Rattle.flow_tools.specs.declared.arranging.Lists.{Lists}
+
+-- the lists have a cell for each node, or for each arc
+pub record AreListsFor (net : Net) (lists : Lists) : Type 0 where
+  pub names : length lists.names.items ≡ net.nodes
+  pub nodes : length lists.nodes.items ≡ net.nodes
+  pub places : length lists.places.items ≡ length net.arcs
+  pub spots : length lists.spots.items ≡ length net.arcs
+
+-- the other problem has the network arranged and the terminals under their new names, as the lists tell
+pub record IsArrangedBy (p other : Instance) (lists : Lists) : Type 0 where
+  pub net : IsArranged p.net other.net lists.names.items lists.places.items
+  pub inverse : AreInverse p.net.nodes lists.names.items lists.nodes.items
+  pub sources : other.sources ≡ all_named lists.names.items p.sources
+  pub sinks : other.sinks ≡ all_named lists.names.items p.sinks
+  pub spots : length lists.spots.items ≡ length other.net.arcs

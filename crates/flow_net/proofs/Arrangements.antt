@@ -40,7 +40,7 @@ cap_over_places p f (i ∷ is) =
 arcs_in_turn : (arcs : List Arc) → map (λ i. get_or arcs i no_arc) (range_with_len 0 (length arcs)) ≡ arcs
 arcs_in_turn arcs = sym (fill_by_all (λ i. get_or arcs i no_arc) arcs (length arcs) no_arc refl (λ k l. refl))
 
-flows_in_turn : (xs : List ℕ) (n : ℕ) → length xs ≡ n → map (λ i. get_or xs i 0) (range_with_len 0 n) ≡ xs
+pub flows_in_turn : (xs : List ℕ) (n : ℕ) → length xs ≡ n → map (λ i. get_or xs i 0) (range_with_len 0 n) ≡ xs
 flows_in_turn xs n e = sym (fill_by_all (λ i. get_or xs i 0) xs n 0 e (λ k l. refl))
 
 module _ (net other : Net) (names places : List ℕ) (a : IsArranged net other names places) where

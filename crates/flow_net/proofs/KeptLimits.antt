@@ -1,11 +1,13 @@
 -- The invariant of a network is kept.
-use Rattle.std.proofs.Common.{◌≤◌, ◌++◌, length, map, arith, lit≤, length-append}
+use Rattle.std.proofs.Common.{◌≡◌, ℕ, ◌-◌, ◌≤◌, List, ◌++◌, length, map, arith, lit≤, length-append}
+use Rattle.std.specs.List.{All}
 use Rattle.std.proofs.lemmas.List.{length-map}
 use Rattle.std.proofs.lemmas.List.Elements.{All-append, All-map, All-weaker}
 use Rattle.flow_net.specs.declared.limits.TheConstants.{MOST_ARCS}
-use Rattle.flow_net.specs.Nets.{Net}
+use Rattle.flow_net.specs.Nets.{Net, IsNode}
 use Rattle.flow_net.specs.Limits.{IsNet, IsArcWithin}
 use Rattle.flow_net.specs.DerivedNets.{unit_arc, reversed}
+use Rattle.flow_net.specs.Arrangements.{named, renamed}
 
 -- capacities of 1 keep it
 pub IsNet-unit : (net : Net) → IsNet net → IsNet (record net { arcs = map unit_arc net.arcs })
@@ -48,4 +50,30 @@ IsNet-both_ways net h room =
             dst_most = w.src_most;
             cap_fits = w.cap_fits;
           }) net.arcs h.arcs_within));
+    }
+
+-- other names of the nodes keep it
+pub IsNet-renamed : (net : Net) (names : List ℕ) → IsNet net → length names ≡ net.nodes → All (IsNode net) names
+    → IsNet (record net { arcs = map (renamed names) net.arcs })
+IsNet-renamed net names h count within =
+    let same = length-map net.arcs (renamed names) in let most = h.arcs_most in
+    let name : (v : ℕ) → 1 ≤ v → v ≤ net.nodes → IsNode net (named names v) =
+    λ v least most. within (v - 1) 0 (omega arith) in
+    record {
+      nodes_least = h.nodes_least;
+      nodes_most = h.nodes_most;
+      arcs_most = omega arith;
+      arcs_within =
+          All-map (IsArcWithin net.nodes) (renamed names) net.arcs
+          (All-weaker (IsArcWithin net.nodes) (λ a. IsArcWithin net.nodes (renamed names a))
+          (λ a w.
+          let src = name a.src w.src_least w.src_most in
+          let dst = name a.dst w.dst_least w.dst_most in
+          record {
+            src_least = src.0;
+            src_most = src.1;
+            dst_least = dst.0;
+            dst_most = dst.1;
+            cap_fits = w.cap_fits;
+          }) net.arcs h.arcs_within);
     }

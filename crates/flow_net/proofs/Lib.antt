@@ -14,3 +14,5 @@ pub mod Upgrades
 pub mod GrowthLemmas
 pub mod Arrangements
 pub mod ArrangementLaws
+pub mod Exchanges
+pub mod Namings

@@ -15,3 +15,4 @@ pub mod Paths
 pub mod Laws
 pub mod Orders
 pub mod Arrangements
+pub mod Namings

@@ -11,12 +11,14 @@
 //! takes no bytes, and no running program can read it.
 #![tactic(auto)]
 
+mod arranging;
 pub mod laws;
 mod limits;
 mod networks;
 mod problems;
 mod tables;
 
+pub use arranging::{arrange, name_in_order, restore};
 pub use limits::{FEWEST_NODES, GREATEST_CAPACITY, MOST_ARCS, MOST_ARCS_BOTH_WAYS, MOST_NODES};
 pub use networks::{Arc, Network, OutOfMemory};
 pub use problems::Problem;

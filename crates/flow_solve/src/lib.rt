@@ -65,6 +65,7 @@ mod forest;
 mod growth;
 mod levels;
 mod method;
+mod naming;
 mod orphans;
 mod packing;
 mod paths;
@@ -81,6 +82,7 @@ mod waves;
 pub use growth::connectivity_by_growth;
 pub use levels::Levels;
 pub use method::{Method, work_len};
+pub use naming::{is_scattered, name_nodes};
 pub use paths::Paths;
 pub use reaching::{
     cut_nearest_sinks, cut_nearest_sources, has_augmenting_path, reach, reach_back,

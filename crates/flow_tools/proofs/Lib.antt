@@ -18,3 +18,4 @@ pub mod OptimalTexts
 pub mod CutTextLemmas
 pub mod TextRunLemmas
 mod CircleLemmas
+pub mod ArrangedLemmas

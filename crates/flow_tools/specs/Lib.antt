@@ -17,3 +17,4 @@ pub mod NodeSums
 pub mod Degrees
 pub mod SolvedTexts
 pub mod CutTexts
+pub mod ArrangedProblems

@@ -14,6 +14,7 @@
 #![tactic(auto)]
 
 mod answers;
+mod arranging;
 mod check_answers;
 mod checking;
 mod connect_answers;

@@ -72,9 +72,9 @@ fn answer<I: Input, J: Input, O: Output>(
         Err(stop) => return Err(stop),
     };
     match job {
-        Job::Solve { value_only } => answer_solve::<Levels, O>(alloc, &problem, value_only, out),
+        Job::Solve { value_only } => answer_solve::<Levels, O>(alloc, problem, value_only, out),
         Job::Cut { arcs, sink } => {
-            answer_cut::<Levels, O>(alloc, &problem, CutForm { arcs, sink }, out)
+            answer_cut::<Levels, O>(alloc, problem, CutForm { arcs, sink }, out)
         }
         Job::Connect { undirected, pair } => {
             answer_connect::<Levels, O>(alloc, problem, ConnectForm { undirected, pair }, out)

@@ -1,4 +1,4 @@
--- What `put_side` puts: the text of the cut that `find_cut` marks, whole or a beginning of it.
+-- What `put_side` puts: the text of the cut that `mark_side` marks, whole or a beginning of it.
 use Rattle.std.proofs.Common.{refl}
 use Rattle.flow_text.specs.Output.{cut_text}
 use Rattle.flow_tools.specs.Sides.{side_of}
@@ -8,15 +8,15 @@ use Rattle.flow_tools.proofs.answers.put_side.Goals as goal
 
 pub returns-in-Ok : goal.returns-in-Ok
 returns-in-Ok g c =
-    let p = c.args.problem.now in let X = side_of c.args.form.sink c.find_cut-value.new.side in
-    let put = rw c.net.ensures.net at c.in-Ok.ensures.ok in
-    puts_all (Cut c.args.form.arcs c.args.form.sink) p _ _ _ _
-    (cut_text c.args.form.arcs p.net c.find_cut-value.result X) (
+    let p = c.args.problem in let X = side_of c.args.form.sink c.mark_side-problem.new.side in
+    let value = c.mark_side-problem.result.1 in let cut = c.mark_side-problem.ensures.cut in
+    let put = rw (c.net.ensures.net, c.mark_side-problem.ensures.problem) at c.in-Ok.ensures.ok in
+    puts_all (Cut c.args.form.arcs c.args.form.sink) p _ _ _ _ (cut_text c.args.form.arcs p.net value X) (
       record {
-        value = c.find_cut-value.result;
+        value = value;
         X = X;
-        greatest = c.find_cut-value.ensures.value.greatest;
-        nearest = c.find_cut-value.ensures.nearest;
+        greatest = cut.value_is.greatest;
+        nearest = cut.nearest;
         text_is = refl;
       },
       refl,
@@ -24,15 +24,15 @@ returns-in-Ok g c =
 
 pub returns : goal.returns
 returns g c =
-    let p = c.args.problem.now in let X = side_of c.args.form.sink c.find_cut-value.new.side in
-    let put = rw c.net.ensures.net at c.in-Err.ensures.err in
-    puts_some (Cut c.args.form.arcs c.args.form.sink) p _ _ _ _
-    (cut_text c.args.form.arcs p.net c.find_cut-value.result X) (
+    let p = c.args.problem in let X = side_of c.args.form.sink c.mark_side-problem.new.side in
+    let value = c.mark_side-problem.result.1 in let cut = c.mark_side-problem.ensures.cut in
+    let put = rw (c.net.ensures.net, c.mark_side-problem.ensures.problem) at c.in-Err.ensures.err in
+    puts_some (Cut c.args.form.arcs c.args.form.sink) p _ _ _ _ (cut_text c.args.form.arcs p.net value X) (
       record {
-        value = c.find_cut-value.result;
+        value = value;
         X = X;
-        greatest = c.find_cut-value.ensures.value.greatest;
-        nearest = c.find_cut-value.ensures.nearest;
+        greatest = cut.value_is.greatest;
+        nearest = cut.nearest;
         text_is = refl;
       },
       refl,

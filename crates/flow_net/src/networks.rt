@@ -144,7 +144,7 @@ fn set_units(arcs: &mut Vec<Arc>)
     }
 }
 
-/// Appends the reverse of each arc, or changes nothing: all the memory is asked for before the first is appended.
+/// Appends the reverse of each arc, or leaves the arcs: all the memory is asked for before the first is appended.
 fn append_reversed(arcs: &mut Vec<Arc>) -> Result<(), OutOfMemory>
     requires room { length arcs.old.items ≤ MOST_ARCS }
     ensures ok { OnOk result (arcs.new.items ≡ arcs.old.items ++ map reversed arcs.old.items) }

@@ -87,7 +87,13 @@ pub(crate) fn arrange_problem(
     }
     let names = lists.names.as_slice();
     let (counts, _) = work.split_at_mut(n);
-    arrange(&mut net, names, lists.places.as_mut_slice(), lists.spots.as_mut_slice(), counts);
+    arrange(
+        &mut net,
+        names,
+        lists.places.as_mut_slice(),
+        lists.spots.as_mut_slice(),
+        counts,
+    );
     rename_all(&mut sources, names);
     rename_all(&mut sinks, names);
     Ok(Problem::new(net, sources, sinks))
@@ -104,7 +110,13 @@ pub(crate) fn restore_problem(problem: Problem, flow: &mut FlowTable, lists: &mu
 {
     let (mut net, mut sources, mut sinks) = problem.into_parts();
     let nodes = lists.nodes.as_slice();
-    restore(&mut net, flow, nodes, lists.places.as_mut_slice(), lists.spots.as_mut_slice());
+    restore(
+        &mut net,
+        flow,
+        nodes,
+        lists.places.as_mut_slice(),
+        lists.spots.as_mut_slice(),
+    );
     rename_all(&mut sources, nodes);
     rename_all(&mut sinks, nodes);
     Problem::new(net, sources, sinks)

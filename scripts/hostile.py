@@ -111,12 +111,26 @@ def run_refused(folder, words, stdin, nth, program=None):
         return int(file.read()), answer
 
 
+def chain(step):
+    """A chain of 600 nodes and arcs of capacity 7, which stand in turns of a step, and what `solve` puts for it."""
+    tails = [1 + i * step % 599 for i in range(599)]
+    head = b"p max 600 599\nn 1 s\nn 600 t\n"
+    arcs = b"".join(b"a %d %d 7\n" % (tail, tail + 1) for tail in tails)
+    return head + arcs, b"s 7\n" + b"".join(b"f %d %d 7\n" % (tail, tail + 1) for tail in tails)
+
+
 def refused_growths(folder):
     """Refuses the first, second, third .. request of a job for memory, until a run makes no further one, and then all."""
     net = os.path.join(folder, "net")
     with open(net, "wb") as file:
         file.write(NET)
+    in_order, in_order_solved = chain(1)
+    scattered, scattered_solved = chain(257)
+    made = {}
     jobs = [
+        (["solve"], in_order, (0, in_order_solved, b"")),
+        (["solve"], scattered, (0, scattered_solved, b"")),
+        (["cut", "--arcs"], scattered, (0, b"s 7\nn 1\na 1 2 7\n", b"")),
         (["solve"], NET, (0, SOLVED, b"")),
         (["cut", "--arcs"], NET, (0, b"s 5\nn 1\na 1 2 3\na 1 3 2\n", b"")),
         (["connect", "--undirected"], NET, (0, b"k 2\n", b"")),
@@ -129,12 +143,16 @@ def refused_growths(folder):
             requests, answer = run_refused(folder, words, stdin, nth)
             if requests < nth:
                 check(f"{words} with no request refused", answer == wanted, answer)
+                made[words[0], stdin] = requests
                 break
             # At the start one request is made that the program does without.
             done_without += answer == wanted
             check(f"{words} with request {nth} refused", answer == (4, b"", OUT_OF_MEMORY) or (answer == wanted and done_without == 1), answer)
         answer = run_refused(folder, words, stdin, "all")[1]
         check(f"{words} with every request refused", answer == (4, b"", OUT_OF_MEMORY), answer)
+    # A file whose arcs come in no order is arranged, for which it takes two lists of nodes and two of arcs.
+    more = made["solve", scattered] - made["solve", in_order]
+    check("a file in no order asks for four lists more", more == 4, more)
 
 
 def refused_calls(folder):

@@ -45,6 +45,8 @@ pub use streams::{Failed, Input, Output};
 pub use texts::run_on_texts;
 
 #[cfg(test)]
+mod arranging_tests;
+#[cfg(test)]
 mod check_tests;
 #[cfg(test)]
 mod connect_tests;

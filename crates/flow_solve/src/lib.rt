@@ -10,9 +10,10 @@
 //! flow can be taken back. A solver gets at flows by the looks and pushes of [`flow_net::FlowTable`] alone, and each
 //! of these is a counted step; the ends of arcs it may read freely.
 //!
-//! No call takes memory: all work is done in the first [`work_len`] cells of a slice that the caller lends. And none
-//! refuses but [`connectivity_by_growth`], which answers nothing where the steps that it may take don't suffice; its
-//! contract doesn't say that they ever do.
+//! No call takes memory: all work is done in the first [`work_len`] cells of a slice that the caller lends. Two calls
+//! may give up: [`connectivity_by_growth`] answers nothing where the steps that it may take don't suffice, and
+//! [`name_nodes`] answers false where its names fail their test. No contract says that they ever succeed; callers go
+//! another way then.
 //! A cell holds a half-arc, a place, a distance or a rank. With `n` nodes and `m` arcs there are, in this order:
 //!
 //! | Cells | What they hold |

@@ -1,5 +1,6 @@
 -- What holds of an arranged problem holds of the problem, under its own names and in its own order.
-use Rattle.std.proofs.Common.{◌≡◌, ℕ, ◌≤◌, ◌<◌, Bool, true, false, not, List, length, map, replicate, refl, sym, ◌∙◌, ap, subst, arith}
+use Rattle.std.proofs.Common.{◌≡◌, ◌↔◌, ℕ, ◌≤◌, ◌<◌, Bool, true, false, not, List, length, map, replicate}
+use Rattle.std.proofs.Common.{refl, sym, ◌∙◌, ap, subst, arith}
 use Rattle.std.specs.Prelude.{if◌then◌else◌}
 use Rattle.std.specs.List.{range_with_len}
 use Rattle.std.proofs.lemmas.List.{length-map}
@@ -10,6 +11,7 @@ use Rattle.flow_net.specs.Limits.{IsNet, IsProblem, AreTerminals}
 use Rattle.flow_net.specs.Arrangements.{IsArranged, AgreeOnAll, AgreeOnFlow, named, renamed, all_named, carried}
 use Rattle.flow_net.specs.NodeSets.{one_of}
 use Rattle.flow_net.specs.Flows.{Fits}
+use Rattle.flow_net.specs.Cuts.{IsMinimumCut}
 use Rattle.flow_net.specs.MarkedNodes.{marked}
 use Rattle.flow_net.proofs.Arrangements.{name_is_node}
 use Rattle.flow_net.proofs.MaxFlows.{greatest_is_least}
@@ -51,13 +53,13 @@ pub arranged_by : (p other : Instance) (lists : Lists) (net net' : Net) (names n
     → IsArranged net net' names places → AreInverse net.nodes names nodes
     → s' ≡ all_named names p.sources → t' ≡ all_named names p.sinks → length lists.spots.items ≡ length net'.arcs
     → IsArrangedBy p other lists
-arranged_by p other lists net net' names nodes places s' t' net_is other_is names_is nodes_is places_is a inverse s t spots =
+arranged_by p other lists net net' names nodes places s' t' n o names_is nodes_is places_is a inverse s t spots =
     record {
-      net = rw (names_is, places_is, other_is, ← net_is) a;
-      inverse = rw (names_is, nodes_is, ← net_is) inverse;
-      sources = rw (names_is, other_is) s;
-      sinks = rw (names_is, other_is) t;
-      spots = rw other_is spots;
+      net = rw (names_is, places_is, o, ← n) a;
+      inverse = rw (names_is, nodes_is, ← n) inverse;
+      sources = rw (names_is, o) s;
+      sinks = rw (names_is, o) t;
+      spots = rw o spots;
     }
 
 -- a problem again, from the parts of an arranged one under their old names
@@ -68,9 +70,13 @@ restored p other after lists net s t q a net_is s_is t_is after_is =
     let names = lists.names.items in
     let nodes = lists.nodes.items in
     let sources : s ≡ p.sources =
-    s_is ∙ ap (all_named nodes) a.sources ∙ all_named_back p.net names nodes a.inverse p.sources q.terminals.sources_within in
+    s_is
+    ∙ ap (all_named nodes) a.sources
+    ∙ all_named_back p.net names nodes a.inverse p.sources q.terminals.sources_within in
     let sinks : t ≡ p.sinks =
-    t_is ∙ ap (all_named nodes) a.sinks ∙ all_named_back p.net names nodes a.inverse p.sinks q.terminals.sinks_within in
+    t_is
+    ∙ ap (all_named nodes) a.sinks
+    ∙ all_named_back p.net names nodes a.inverse p.sinks q.terminals.sinks_within in
     let made : record { net = net; sources = s; sinks = t } ≡ p = rw (net_is, sources, sinks) refl in
     after_is ∙ made
 
@@ -104,48 +110,59 @@ module _ (p other : Instance) (lists : Lists) (r : IsNet p.net) (q : IsProblem p
       record {
         greatest = greatest;
         least =
-            greatest_is_least p.net (one_of p.sources) (one_of p.sinks) k r (terminals_apart p.net p.sources p.sinks q.terminals)
-            greatest;
+            greatest_is_least p.net (one_of p.sources) (one_of p.sinks) k r
+            (terminals_apart p.net p.sources p.sinks q.terminals) greatest;
       }
+
+  -- a solution stands for one of the problem, which carried over is it
+  pub solution_named : (value : ℕ) (ys : List ℕ) → IsSolution other value ys
+      → (xs : List ℕ) × (length xs ≡ length other.net.arcs) × (ys ≡ carried lists.places.items xs)
+      × IsSolution p value xs
+  solution_named value ys h =
+      let all = arcs_all p.net other.net lists.names.items lists.places.items a.net in
+      let from = law.all_flows ys (h.feasible.fits.count ∙ all) in
+      let xs = from.0 in
+      let agree : AgreeOnFlow p.net other.net p.sources p.sinks other.sources other.sinks xs ys =
+      subst (λ (zs : List ℕ). AgreeOnFlow p.net other.net p.sources p.sinks other.sources other.sinks xs zs)
+      (sym from.2) (law.flows xs from.1) in (
+        xs,
+        from.1 ∙ sym all,
+        from.2,
+        record {
+          value_is = value_restored value h.value_is;
+          feasible = agree.feasible.1 h.feasible;
+          valued = (agree.value value).1 h.valued;
+          no_loops = agree.loops.1 h.no_loops;
+        },
+      )
 
   -- a solution, carried back
   pub solution_restored : (value : ℕ) (ys zs : List ℕ) → IsSolution other value ys
       → ((xs : List ℕ) → length xs ≡ length other.net.arcs → ys ≡ carried lists.places.items xs → zs ≡ xs)
       → IsSolution p value zs
   solution_restored value ys zs h back =
-      let all = arcs_all p.net other.net lists.names.items lists.places.items a.net in
-      let from = law.all_flows ys (h.feasible.fits.count ∙ all) in
-      let xs = from.0 in
-      let agree : AgreeOnFlow p.net other.net p.sources p.sinks other.sources other.sinks xs ys =
-      subst (λ (zs : List ℕ). AgreeOnFlow p.net other.net p.sources p.sinks other.sources other.sinks xs zs)
-      (sym from.2) (law.flows xs from.1) in
-      let here : IsSolution p value xs =
-      record {
-        value_is = value_restored value h.value_is;
-        feasible = agree.feasible.1 h.feasible;
-        valued = (agree.value value).1 h.valued;
-        no_loops = agree.loops.1 h.no_loops;
-      } in
-      subst (IsSolution p value) (sym (back xs (from.1 ∙ sym all) from.2)) here
+      let from = solution_named value ys h in
+      subst (IsSolution p value) (sym (back from.0 from.1 from.2)) from.3
+
+  -- a node lies on one side of every minimum cut where its name does
+  held : (side : Bool) (v : ℕ) → IsNode p.net v
+      → ((Y : ℕ → Bool) → IsMinimumCut p.net (one_of p.sources) (one_of p.sinks) Y → Y v ≡ side)
+      ↔ ((Y : ℕ → Bool) → IsMinimumCut other.net (one_of other.sources) (one_of other.sinks) Y
+      → Y (named lists.names.items v) ≡ side)
+  held true v k = (law.nodes v k).source
+  held false v k = (law.nodes v k).sink
 
   -- a set of nodes is nearest where that of their names is
   nearest_restored : (side : Bool) (X Y : ℕ → Bool)
       → ((v : ℕ) → IsNode p.net v → Y (named lists.names.items v) ≡ X v)
       → IsNearest other.net (one_of other.sources) (one_of other.sinks) side Y
       → IsNearest p.net (one_of p.sources) (one_of p.sinks) side X
-  nearest_restored true X Y h n = λ v k.
+  nearest_restored side X Y h n = λ v k.
       let w = named lists.names.items v in
       let nodes = a.net.nodes in
       let at = name_is_node p.net lists.names.items a.net.naming v k in
       let there = n w (at.0, omega (arith, at.1)) in
-      let agree = (law.nodes v k).source in
-      ((λ e. agree.1 (there.0 (h v k ∙ e))), (λ e. sym (h v k) ∙ there.1 (agree.0 e)))
-  nearest_restored false X Y h n = λ v k.
-      let w = named lists.names.items v in
-      let nodes = a.net.nodes in
-      let at = name_is_node p.net lists.names.items a.net.naming v k in
-      let there = n w (at.0, omega (arith, at.1)) in
-      let agree = (law.nodes v k).sink in
+      let agree = held side v k in
       ((λ e. agree.1 (there.0 (h v k ∙ e))), (λ e. sym (h v k) ∙ there.1 (agree.0 e)))
 
   -- the marks of a cut, named back

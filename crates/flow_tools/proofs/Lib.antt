@@ -18,4 +18,5 @@ pub mod OptimalTexts
 pub mod CutTextLemmas
 pub mod TextRunLemmas
 mod CircleLemmas
+pub mod AnswerLemmas
 pub mod ArrangedLemmas

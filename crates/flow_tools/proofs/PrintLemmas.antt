@@ -56,10 +56,10 @@ module _ (p : Arc → Bool) (net : Net) (i : ℕ) (arc : Arc) where
   no_arc_line e outside = rw (← e) (line_if-false p arc_line arc outside)
 
 -- the text of the value alone
-pub value_text_is : (net : Net) (value : ℕ) (flows : List ℕ) (value_only : Bool) → value_only ≡ true
-    → line_of "s" (value ∷ []) ≡ solve_text value_only net value flows
+pub value_text_is : (net : Net) (value : ℕ) (flows : List ℕ)
+    → line_of "s" (value ∷ []) ≡ solve_text true net value flows
 unfolding solve_text
-value_text_is net value flows value_only e = rw e (sym (append-nil (line_of "s" (value ∷ []))))
+value_text_is net value flows = sym (append-nil (line_of "s" (value ∷ [])))
 
 -- a test by its opposite
 pub false_of_not : (b : Bool) → not b ≡ true → b ≡ false
@@ -73,10 +73,10 @@ true_of_not false e = sym e
 -- The whole texts, from their first line.
 module _ (net : Net) (value : ℕ) (first : List ℕ) (begun : first ≡ line_of "s" (value ∷ [])) where
   -- the value and the flows
-  pub solution_text_is : (flows : List ℕ) (value_only : Bool) → value_only ≡ false
-      → first ++ flat_map flow_line (zip net.arcs flows) ≡ solve_text value_only net value flows
+  pub solution_text_is : (flows : List ℕ)
+      → first ++ flat_map flow_line (zip net.arcs flows) ≡ solve_text false net value flows
   unfolding solve_text
-  solution_text_is flows value_only e = rw (e, begun) refl
+  solution_text_is flows = rw begun refl
 
   module _ (X : ℕ → Bool) where
     pub without_arcs_is : (arcs : Bool) → arcs ≡ false

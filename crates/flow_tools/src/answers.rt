@@ -1,5 +1,5 @@
 //! The answers to a problem: what is computed, and what is put. All memory is asked for before anything is put.
-ghost use Rattle.std.specs.Prelude.{◌≡◌, [], ◌≤◌, length, replicate, IfOk, IfSome};
+ghost use Rattle.std.specs.Prelude.{◌≡◌, ℕ, List, [], ◌≤◌, length, replicate, true, IfOk, IfSome};
 ghost use Rattle.flow_net.specs.Flows.{Fits};
 ghost use Rattle.flow_solve.specs.Bounds.{work_cells};
 ghost use Rattle.flow_tools.specs.AnswerExits.{Puts};
@@ -8,7 +8,7 @@ ghost use Rattle.flow_tools.specs.Streams.{over};
 
 use crate::arranging::{Lists, arrange_problem, make_lists, mark_nodes, restore_problem};
 use crate::jobs::{CutForm, Job, Stop};
-use crate::printing::{put_cut, put_solution};
+use crate::printing::{put_cut, put_solution, put_value};
 use crate::streams::Output;
 use flow_net::{FlowTable, OutOfMemory, Problem};
 use flow_solve::{Method, cut_nearest_sinks, cut_nearest_sources, is_scattered, work_len};
@@ -44,6 +44,9 @@ pub fn answer_solve<M: Method, O: Output>(
 ) -> Result<u8, Stop>
     ensures { Puts (Job.Solve value_only) problem [] (over (O.state out.old) (O.state out.new)) result }
 {
+    if value_only {
+        return answer_value::<M, O>(alloc, problem, out);
+    }
     let Solved {
         problem,
         value,
@@ -53,7 +56,25 @@ pub fn answer_solve<M: Method, O: Output>(
         Err(_) => return Err(Stop::OutOfMemory),
     };
     let flows = table.into_flows();
-    match put_solution(out, problem.net(), value, flows.as_slice(), value_only) {
+    match put_solution(out, problem.net(), value, flows.as_slice()) {
+        Ok(()) => Ok(0),
+        Err(_) => Err(Stop::WriteFailed),
+    }
+}
+
+/// Puts the greatest value alone.
+fn answer_value<M: Method, O: Output>(
+    alloc: Global,
+    problem: Problem,
+    out: &mut O,
+) -> Result<u8, Stop>
+    ensures { Puts (Job.Solve true) problem [] (over (O.state out.old) (O.state out.new)) result }
+{
+    let value = match find_value::<M>(alloc, problem) {
+        Ok(value) => value,
+        Err(_) => return Err(Stop::OutOfMemory),
+    };
+    match put_value(out, value) {
         Ok(()) => Ok(0),
         Err(_) => Err(Stop::WriteFailed),
     }
@@ -174,6 +195,37 @@ fn solve_arranged<M: Method>(
         problem,
         value,
         table,
+    }
+}
+
+/// Finds the greatest value. All the memory is asked for first.
+fn find_value<M: Method>(alloc: Global, problem: Problem) -> Result<u128, OutOfMemory>
+    ensures { IfOk result (λ value. (flows : List ℕ) × IsSolution problem value flows) }
+{
+    let Room { table, work, lists } = make_room(alloc, &problem)?;
+    match lists {
+        None => Ok(solve_as_it_comes::<M>(problem, table, work).value),
+        Some(lists) => Ok(value_arranged::<M>(problem, table, work, lists)),
+    }
+}
+
+/// The same, over the problem with its nodes renamed and its arcs in order. Neither it nor its flow is put back.
+fn value_arranged<M: Method>(
+    problem: Problem,
+    table: FlowTable,
+    mut work: Vec<u32>,
+    mut lists: Lists,
+) -> u128
+    requires empty { table.flows ≡ replicate (length problem.net.arcs) 0 }
+    requires cells { work_cells problem.net ≤ length work.items }
+    requires lists { AreListsFor problem.net lists }
+    ensures { (flows : List ℕ) × IsSolution problem result flows }
+{
+    // Brings the network's limits, `IsNet`, into the proof.
+    let _ = problem.net().nodes();
+    match arrange_problem(problem, &mut lists, work.as_mut_slice()) {
+        Ok(arranged) => solve_as_it_comes::<M>(arranged, table, work).value,
+        Err(problem) => solve_as_it_comes::<M>(problem, table, work).value,
     }
 }
 

@@ -2,10 +2,11 @@
 //! their lines in order, which aren't.
 ghost use Rattle.std.specs.Prelude.{◌<◌, ◌≤◌};
 
+use crate::arranging::{arrange_problem, make_lists};
 use crate::{Job, run_on_texts};
 use flow_net::{Arc, MOST_ARCS, Network};
-use flow_solve::is_scattered;
-use flow_text::arc_line;
+use flow_solve::{is_scattered, work_len};
+use flow_text::{ProblemReader, arc_line};
 use std::alloc::Global;
 use std::process::Abort;
 use std::test::Fail;
@@ -18,7 +19,8 @@ const ARCS: u32 = 9000;
 /// A step that comes to each arc once, in turns round all of them, and from one arc far away to the next.
 const FAR_STEP: u32 = 4231;
 
-/// The lines of a problem but those of its arcs. Its terminals are the first two nodes and the last two, by their names.
+/// The lines of a problem but those of its arcs. Its terminals are the first two nodes and the last two, by their
+/// names.
 const HEAD: &[u8] = b"p max 3000 9000\nn 1 s\nn 1238 s\nn 1764 t\nn 527 t\n";
 
 /// The name of a node, of which there are so many: not in order either.
@@ -43,8 +45,8 @@ fn below(seed: u64, place: u32, most: u32) -> u32
     ((mixed >> 40) % most as u64) as u32
 }
 
-/// An arc of the network that a number determines: from a node to one of the thirty after it, or, for each third arc, to
-/// one of the thirty before it, in a circle.
+/// An arc of the network that a number determines: from a node to one of the thirty after it, or, for each third arc,
+/// to one of the thirty before it, in a circle.
 fn arc_at(seed: u64, place: u32) -> Arc
     requires { place < ARCS }
     ensures src_least { 1 ≤ result.src }
@@ -88,6 +90,20 @@ fn network(alloc: Global, seed: u64, step: u32) -> Option<Network>
     Some(net)
 }
 
+/// Whether the arcs of a problem come in no order once it is arranged; nothing where no names were found for it, or
+/// without memory.
+fn is_scattered_arranged(alloc: Global, text: &[u8]) -> Option<bool> {
+    let mut reader = ProblemReader::new(alloc);
+    reader.feed(text).ok()?;
+    let problem = reader.finish().ok()?;
+    let net = problem.net();
+    let mut lists = make_lists(alloc, net).ok()?;
+    let mut work = Vec::from_elem(alloc, 0u32, work_len(net.nodes(), net.len())).ok()?;
+    let arranged = arrange_problem(problem, &mut lists, work.as_mut_slice()).ok()?;
+    let (s, t) = (arranged.sources()[0], arranged.sinks()[0]);
+    Some(is_scattered(arranged.net(), s, t))
+}
+
 /// What a job puts, or nothing where it ends with a fault or without memory.
 fn answer(alloc: Global, job: Job, problem: &[u8], solution: &[u8]) -> Option<Vec<u8>> {
     let mut out: Vec<u8> = Vec::new(alloc);
@@ -119,6 +135,19 @@ fn arcs_far_apart_are_scattered(rt: HostRuntime) -> Result<(), Fail> {
         let scattered = network(rt.alloc(), seed, FAR_STEP);
         assert!(rt; ordered.is_some_and(|net| !is_scattered(&net, 1, 1764)));
         assert!(rt; scattered.is_some_and(|net| is_scattered(&net, 1, 1764)));
+    }
+    Ok(())
+}
+
+/// An arrangement counts as an order: so its names and the places of its arcs bring something.
+#[test]
+fn arranged_problems_are_in_order(rt: HostRuntime) -> Result<(), Fail> {
+    for seed in 0..4 {
+        let text = problem_text(rt.alloc(), seed, FAR_STEP)?;
+        assert_eq!(rt;
+            is_scattered_arranged(rt.alloc(), text.as_slice()),
+            Some(false)
+        );
     }
     Ok(())
 }

@@ -1,5 +1,5 @@
 //! The text of an answer is gathered line by line, and put when there is much of it.
-ghost use Rattle.std.specs.Prelude.{◌≡◌, ◌≤◌, [], ◌∷◌, ◌++◌, length, filter};
+ghost use Rattle.std.specs.Prelude.{◌≡◌, ◌≤◌, [], ◌∷◌, ◌++◌, length, filter, false};
 ghost use Rattle.std.specs.List.{flat_map, zip};
 ghost use Rattle.flow_net.specs.Cuts.{leaves};
 ghost use Rattle.flow_text.specs.Output.{cut_text, flow_line, line_of, solve_text};
@@ -15,7 +15,18 @@ use crate::streams::{Failed, Output};
 use flow_net::{Arc, Network};
 use flow_text::solution_line;
 
-/// Puts a value, and unless it is asked for alone the flow on each arc, in order.
+/// Puts a value alone.
+///
+/// # Errors
+///
+/// `Failed` where a put failed. A beginning of the text was then taken.
+pub(crate) fn put_value<O: Output>(out: &mut O, value: u128) -> Result<(), Failed>
+    ensures { IsPut (line_of "s" (value ∷ [])) (over (O.state out.old) (O.state out.new)) result }
+{
+    put_all(out, solution_line(value).as_slice())
+}
+
+/// Puts a value and the flow on each arc, in order.
 ///
 /// # Errors
 ///
@@ -25,15 +36,11 @@ pub(crate) fn put_solution<O: Output>(
     net: &Network,
     value: u128,
     flows: &[u64],
-    value_only: bool,
 ) -> Result<(), Failed>
     requires count { length flows.now ≡ length net.now.arcs }
-    ensures { let text = solve_text value_only net.now value flows.now in
+    ensures { let text = solve_text false net.now value flows.now in
         IsPut text (over (O.state out.old) (O.state out.new)) result }
 {
-    if value_only {
-        return put_all(out, solution_line(value).as_slice());
-    }
     let mut waiting = Gathered::new();
     gather_value(&mut waiting, value);
     gather_flows(out, &mut waiting, net, flows)?;

@@ -151,9 +151,9 @@ fn swept(packed: Packed<'_>, joins: &[u32], sweep: Sweep, done: u32, node: u32) 
 {
     let n = packed.net.nodes();
     let begin = packed.first[node as usize - 1];
-    let degree = packed.first[node as usize].saturating_sub(begin);
-    let back = joins[node as usize - 1].saturating_mul(2);
-    let crossing = sweep.crossing.saturating_add(degree).saturating_sub(back);
+    let degree = packed.first[node as usize].wrapping_sub(begin);
+    let back = joins[node as usize - 1].wrapping_mul(2);
+    let crossing = sweep.crossing.wrapping_add(degree).wrapping_sub(back);
     let Sweep { least, place, .. } = sweep;
     if crossing < least && done < n {
         return Sweep {

@@ -26,6 +26,7 @@ returns-clause-solved g c =
     let solved = c.solve_as_it_comes-arranged.result in
     let same = c.solve_as_it_comes-arranged.ensures.problem in
     let limits : IsNet c.args.problem.net = rw c.net.ensures.net at c.nodes.ensures.is_net in
-    solution_restored c.args.problem c.in-Ok.arranged c.arrange_problem.new.lists limits c.net.ensures.is_problem c.in-Ok.ensures.ok
-    solved.value solved.table.flows c.restore_problem-problem.new.flow.flows c.solve_as_it_comes-arranged.ensures.solved
+    solution_restored c.args.problem c.in-Ok.arranged c.arrange_problem.new.lists limits c.net.ensures.is_problem
+    c.in-Ok.ensures.ok solved.value solved.table.flows c.restore_problem-problem.new.flow.flows
+    c.solve_as_it_comes-arranged.ensures.solved
     (rw same at c.restore_problem-problem.ensures.flows)

@@ -22,7 +22,8 @@ restore-requires-clause-once c =
 -- the problem that was arranged, whichever it is
 same_again : (c : goal.After-rename_all-2) (p after : Instance) → IsNet p.net → IsProblem p
     → IsArrangedBy p c.args.problem c.args.lists.now
-    → after ≡ record { net = c.restore.new.net; sources = c.rename_all.new.vs.items; sinks = c.rename_all-2.new.vs.items }
+    → after
+    ≡ record { net = c.restore.new.net; sources = c.rename_all.new.vs.items; sinks = c.rename_all-2.new.vs.items }
     → after ≡ p
 same_again c p after r q a after_is =
     let is = c.into_parts-net.ensures in

@@ -1,5 +1,6 @@
 //! The fields of a line, one by one, and the numbers among them.
-ghost use Rattle.std.specs.Prelude.{◌≡◌, ◌<◌, ◌≤◌, ◌^◌, [], ◌∷◌, ℕ, List, false, Some, None, ◌==◌, length, IfOk, MatchOption, MatchResult};
+ghost use Rattle.std.specs.Prelude.{◌≡◌, ◌<◌, ◌≤◌, ◌^◌, [], ◌∷◌, ℕ, List, false, Some, None, ◌==◌, length, IfOk};
+ghost use Rattle.std.specs.Prelude.{MatchOption, MatchResult};
 ghost use Rattle.flow_text.specs.Fields.{field_at};
 ghost use Rattle.flow_text.specs.Digits.{value_of};
 ghost use Rattle.flow_text.specs.Tests.{first_failed, number_tests, ends_tests};

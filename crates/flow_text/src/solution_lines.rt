@@ -1,9 +1,11 @@
 //! The judge of the lines of a solution.
-ghost use Rattle.std.specs.Prelude.{◌≡◌, ◌≤◌, [], ◌∷◌, ◌++◌, List, ℕ, Some, None, is_some, true, length, IfOk, MatchResult};
+ghost use Rattle.std.specs.Prelude.{◌≡◌, ◌≤◌, [], ◌∷◌, ◌++◌, List, ℕ, Some, None, is_some, true, length, IfOk};
+ghost use Rattle.std.specs.Prelude.{MatchResult};
 ghost use Rattle.flow_text.specs.Tests.{first_failed};
 ghost use Rattle.flow_text.specs.Solution.{value_tests, flow_tests};
 ghost use Rattle.flow_text.specs.SolutionReading.{solution_tests, so_far_of, so_far_rules, stated_in};
-ghost use Rattle.flow_text.specs.SolutionReading.{given_of, flow_of, KeepsLine, with_solution_record, written_in, written_of, IsWithinLimits};
+ghost use Rattle.flow_text.specs.SolutionReading.{given_of, flow_of, KeepsLine, with_solution_record, written_in};
+ghost use Rattle.flow_text.specs.SolutionReading.{written_of, IsWithinLimits};
 ghost use Rattle.flow_text.specs.Reading.{Judges};
 
 use crate::faults::FaultCode;
@@ -155,7 +157,7 @@ impl Judge for SolutionLines {
 
     ghost with_record = { with_solution_record };
 
-    fn judge(&mut self, letter: &[u8], others: Fields<'_>) -> Result<(), Refusal> {
+    fn judge_fields(&mut self, letter: &[u8], others: Fields<'_>) -> Result<(), Refusal> {
         if letter == b"s".as_slice() {
             self.solution_line(others)
         } else if letter == b"f".as_slice() {

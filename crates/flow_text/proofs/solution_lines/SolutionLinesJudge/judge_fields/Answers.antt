@@ -1,10 +1,10 @@
--- `judge`: the record by its letter.
+-- `judge_fields`: the record by its letter.
 use Rattle.std.proofs.Common.{sym, ◌∙◌, ◌≡◌, true, false}
 use Rattle.std.specs.Prelude.{codes}
 use Rattle.std.specs.Str.{bytes_eq}
 use Rattle.flow_text.proofs.RuleLemmas.{Judges-along}
 use Rattle.flow_text.proofs.SolutionLemmas.{of_solution, of_flow, of_unknown}
-use Rattle.flow_text.proofs.solution_lines.SolutionLinesJudge.judge.Goals as goal
+use Rattle.flow_text.proofs.solution_lines.SolutionLinesJudge.judge_fields.Goals as goal
 
 -- a solution line
 pub returns-then-eq : goal.returns-then-eq

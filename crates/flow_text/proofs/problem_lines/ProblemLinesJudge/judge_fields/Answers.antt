@@ -1,10 +1,10 @@
--- `judge`: the record by its letter.
+-- `judge_fields`: the record by its letter.
 use Rattle.std.proofs.Common.{sym, ◌∙◌, ◌≡◌, true, false}
 use Rattle.std.specs.Prelude.{codes}
 use Rattle.std.specs.Str.{bytes_eq}
 use Rattle.flow_text.proofs.RuleLemmas.{Judges-along}
 use Rattle.flow_text.proofs.ProblemLemmas.{of_problem, of_node, of_arc, of_unknown}
-use Rattle.flow_text.proofs.problem_lines.ProblemLinesJudge.judge.Goals as goal
+use Rattle.flow_text.proofs.problem_lines.ProblemLinesJudge.judge_fields.Goals as goal
 
 -- a problem line
 pub returns-then-eq : goal.returns-then-eq

@@ -13,7 +13,7 @@ ghost use Rattle.flow_text.specs.Reading.{Judges};
 use crate::faults::FaultCode;
 use crate::line_fields::Fields;
 use crate::machine::{Judge, Refusal};
-use crate::records::{ends_in, number_in, three, two};
+use crate::records::{ends_in, is_word, number_in, three, two};
 use crate::terminals::Terminals;
 use crate::usual_lines::usual_line;
 use flow_net::{Arc, FEWEST_NODES, MOST_ARCS, MOST_NODES, Network, Problem};
@@ -298,11 +298,11 @@ impl Judge for ProblemLines {
     ghost with_record = { with_problem_record };
 
     fn judge_fields(&mut self, letter: &[u8], others: Fields<'_>) -> Result<(), Refusal> {
-        if letter == b"p".as_slice() {
+        if is_word(letter, b"p") {
             self.problem_line(others)
-        } else if letter == b"n".as_slice() {
+        } else if is_word(letter, b"n") {
             self.node_line(others)
-        } else if letter == b"a".as_slice() {
+        } else if is_word(letter, b"a") {
             self.arc_line(others)
         } else {
             Err(Refusal::Code(FaultCode::UnknownLine))

@@ -12,7 +12,7 @@ use crate::faults::FaultCode;
 use crate::limits::{GREATEST_VALUE, MOST_FLOW_LINES};
 use crate::line_fields::Fields;
 use crate::machine::{Judge, Refusal};
-use crate::records::{ends_in, number_in, one};
+use crate::records::{ends_in, is_word, number_in, one};
 use crate::solutions::{FlowLine, Solution};
 use crate::usual_lines::usual_line;
 use std::alloc::Global;
@@ -158,9 +158,9 @@ impl Judge for SolutionLines {
     ghost with_record = { with_solution_record };
 
     fn judge_fields(&mut self, letter: &[u8], others: Fields<'_>) -> Result<(), Refusal> {
-        if letter == b"s".as_slice() {
+        if is_word(letter, b"s") {
             self.solution_line(others)
-        } else if letter == b"f".as_slice() {
+        } else if is_word(letter, b"f") {
             self.flow_line(others)
         } else {
             Err(Refusal::Code(FaultCode::UnknownLine))

@@ -5,9 +5,9 @@ usage: generate.py FAMILY SIZE [SEED] [--shuffle] > FILE
        generate.py FAMILY SIZE SEED --into FOLDER
 
 SIZE is a target, the number of arcs, of a network for 'connect' that of its nodes: a family picks its dimensions to
-come near it, and stays within a million nodes and four million arcs. A photograph has the size that it has. With
---shuffle the nodes are renamed and the arcs reordered at random; with --into both orders are written into files of the
-folder. Equal words give equal files. With no words it lists the families.
+come near it, and stays within the limits of a problem. A photograph has the size that it has. With --shuffle the nodes
+are renamed and the arcs reordered at random; with --into both orders are written into files of the folder. Equal words
+give equal files. With no words it lists the families.
 """
 import argparse
 import gc

@@ -29,6 +29,11 @@ def written(path, *parts):
     return path
 
 
+def two_files(folder, start, half, whole):
+    """A file with half of some text behind its start, and one with the whole; both end in a line that isn't read on."""
+    return written(folder / 'shorter', start, half, 'x\n'), written(folder / 'longer', start, whole, 'x\n')
+
+
 def read_problem(flow, folder, lines):
     """The instructions for each byte of these arc lines, of which the second half makes the difference.
 
@@ -36,24 +41,28 @@ def read_problem(flow, folder, lines):
     """
     start = f'p max {NODES} {len(lines)}\nn 1 s\nn {NODES} t\n'
     half, whole = ''.join(lines[:len(lines) // 2]), ''.join(lines)
-    shorter, longer = (written(folder / name, start, text, 'x\n') for name, text in (('shorter', half), ('longer', whole)))
-    return (instructions(folder, flow, 'solve', longer) - instructions(folder, flow, 'solve', shorter)) / (len(whole) - len(half))
+    shorter, longer = two_files(folder, start, half, whole)
+    more = instructions(folder, flow, 'solve', longer) - instructions(folder, flow, 'solve', shorter)
+    return more / (len(whole) - len(half))
 
 
 def read_solution(flow, folder, lines):
     """The same of flow lines."""
     empty = written(folder / 'empty', f'p max {NODES} 0\nn 1 s\nn {NODES} t\n')
     half, whole = ''.join(lines[:len(lines) // 2]), ''.join(lines)
-    shorter, longer = (written(folder / name, 's 1\n', text, 'x\n') for name, text in (('shorter', half), ('longer', whole)))
-    return (instructions(folder, flow, 'check', empty, longer) - instructions(folder, flow, 'check', empty, shorter)) / (len(whole) - len(half))
+    shorter, longer = two_files(folder, 's 1\n', half, whole)
+    more = instructions(folder, flow, 'check', empty, longer) - instructions(folder, flow, 'check', empty, shorter)
+    return more / (len(whole) - len(half))
 
 
 def rows(flow, folder):
     """What is counted, and the figure."""
     rand = random.Random(1)
     arcs = [(rand.randint(1, NODES), rand.randint(1, NODES), rand.randint(1, 1000000)) for _ in range(2 * ARCS)]
-    yield 'reading arc lines', read_problem(flow, folder, [f'a {tail} {head} {capacity}\n' for tail, head, capacity in arcs])
-    yield 'reading flow lines of a solution', read_solution(flow, folder, [f'f {tail} {head} {amount}\n' for tail, head, amount in arcs])
+    lines = [f'a {tail} {head} {capacity}\n' for tail, head, capacity in arcs]
+    yield 'reading arc lines', read_problem(flow, folder, lines)
+    lines = [f'f {tail} {head} {amount}\n' for tail, head, amount in arcs]
+    yield 'reading flow lines of a solution', read_solution(flow, folder, lines)
 
     # What is read the general way.
     for what, form in (
@@ -73,10 +82,11 @@ def rows(flow, folder):
     more = instructions(folder, flow, 'solve', problem) - instructions(folder, flow, 'solve', '--value', problem)
     yield 'writing flow lines', more / put
 
-    # Without arcs the cut nearest the sources has one node on its source side, and the one nearest the sinks all but one.
+    # Without arcs the cut nearest the sources has one node on its source side, the one nearest the sinks all but one.
     empty = written(folder / 'empty', f'p max {NODES} 0\nn 1 s\nn {NODES} t\n')
     nodes = len(''.join(f'n {node}\n' for node in range(2, NODES)))
-    yield 'writing node lines', (instructions(folder, flow, 'cut', '--sink', empty) - instructions(folder, flow, 'cut', empty)) / nodes
+    more = instructions(folder, flow, 'cut', '--sink', empty) - instructions(folder, flow, 'cut', empty)
+    yield 'writing node lines', more / nodes
 
     # The arcs into the sink are the narrower ones, so that they are the cut.
     wide = [(1, node, 2000000) for node in range(2, NODES)]
@@ -84,10 +94,12 @@ def rows(flow, folder):
     problem = written(folder / 'wide', f'p max {NODES} {2 * len(wide)}\nn 1 s\nn {NODES} t\n',
                       ''.join(f'a {tail} {head} {capacity}\n' for tail, head, capacity in wide + narrow))
     leaving = len(''.join(f'a {tail} {head} {capacity}\n' for tail, head, capacity in narrow))
-    yield 'writing arc lines', (instructions(folder, flow, 'cut', '--arcs', problem) - instructions(folder, flow, 'cut', problem)) / leaving
+    more = instructions(folder, flow, 'cut', '--arcs', problem) - instructions(folder, flow, 'cut', problem)
+    yield 'writing arc lines', more / leaving
 
     # One arc, whose capacity is the value, of 1 and of 19 digits. All else, the files' names too, has as many bytes.
-    short, long = (written(folder / f'value-of-{len(str(value)):02d}', f'p max 2 1\nn 1 s\nn 2 t\na 1 2 {value:019d}\n') for value in (1, 10 ** 18))
+    short, long = (written(folder / f'value-of-{digits:02d}',
+                           f'p max 2 1\nn 1 s\nn 2 t\na 1 2 {10 ** (digits - 1):019d}\n') for digits in (1, 19))
     more = instructions(folder, flow, 'solve', '--value', long) - instructions(folder, flow, 'solve', '--value', short)
     yield 'writing the digits of a value', more / 18
 

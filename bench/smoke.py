@@ -119,7 +119,8 @@ def families(flow, folder):
 
 def within_limits():
     """A problem beyond the limits of the format is refused."""
-    for what, problem in (('nodes', (1000001, 0, 1, [])), ('arcs', (2, 0, 1, range(4000001)))):
+    for what, problem in (('nodes', (generate.NODES + 1, 0, 1, [])),
+                          ('arcs', (2, 0, 1, range(generate.ARCS + 1)))):
         generate.FAMILIES['beyond'] = lambda rand, size, problem=problem: problem
         try:
             holds(f'too many {what} are refused', not generate.made('beyond', 1, 1))

@@ -3,9 +3,9 @@
 
 Usage: hostile.py FLOW GROWTHS [PROBLEMS [SEED]]
 
-FLOW is the built `flow`, GROWTHS the built `growths`, which makes single calls of the library. So many mutated PROBLEMS are
-tried (1,500, about a minute), from SEED. Each check that fails is told in a line; the last line counts them. It needs `cc`,
-for the allocator that refuses requests.
+FLOW is the built `flow`, GROWTHS the built `growths`, which makes single calls of the library. So many mutated
+PROBLEMS are tried (1,500, about a minute), from SEED. Each check that fails is told in a line; the last line counts
+them. It needs `cc`, for the allocator that refuses requests.
 """
 
 import os
@@ -25,10 +25,18 @@ REFUSED_BEFORE = b"out of memory before"
 READ_FAILED = b"flow: read failed\n"
 WRITE_FAILED = b"flow: write failed\n"
 
+# What a mutation puts into a text: lines, and numbers within a line.
+LINES = [b"c note", b"", b"   ", b" c", b"x", b"p max 2 0", b"n 1 s", b"n 2 t", b"s 1", b"f 1 2 1",
+         b"a 1 2 18446744073709551616", b"c" + b"y" * 300, b" " * 201]
+NUMBERS = [0, 1, 2, 9, 10**6, 2**32, 2**64 - 1, 2**64, 10**30]
+
+# What is asked of each mutated problem besides `solve`.
+JOBS = ["solve --value", "cut --arcs", "cut --sink --arcs", "connect", "connect --undirected", "connect --pair"]
+
 REFUSING_ALLOCATOR = r"""
-/* An allocator put before the C library's (LD_PRELOAD). It counts the requests for memory of a program, refuses the one
- * whose number REFUSE_NTH gives, or all where that is `all`, and at the end writes the count to the file that REFUSE_LOG
- * names. */
+/* An allocator put before the C library's (LD_PRELOAD). It counts the requests for memory of a program, refuses the
+ * one whose number REFUSE_NTH gives, or all where that is `all`, and at the end writes the count to the file that
+ * REFUSE_LOG names. */
 #define _GNU_SOURCE
 #include <dlfcn.h>
 #include <errno.h>
@@ -99,14 +107,16 @@ def check(what, holds, detail=""):
 def run(words, stdin=b"", env=None, limit=None, seconds=60, program=None):
     """Runs `flow` or another program, and answers its status, output and message."""
     before = (lambda: resource.setrlimit(resource.RLIMIT_AS, (limit, limit))) if limit else None
-    done = subprocess.run([program or PROGRAM] + words, input=stdin, capture_output=True, env=env, timeout=seconds, preexec_fn=before)
+    done = subprocess.run(
+        [program or PROGRAM] + words, input=stdin, capture_output=True, env=env, timeout=seconds, preexec_fn=before)
     return done.returncode, done.stdout, done.stderr
 
 
 def run_refused(folder, words, stdin, nth, program=None):
-    """Runs a program whose request with this number is refused, or all are, and answers how many it made and its answer."""
+    """Runs a program whose request with this number is refused, or all are. Answers how many it made, and its answer."""
     log = os.path.join(folder, "requests")
-    answer = run(words, stdin, dict(os.environ, LD_PRELOAD=ALLOCATOR, REFUSE_NTH=str(nth), REFUSE_LOG=log), program=program)
+    env = dict(os.environ, LD_PRELOAD=ALLOCATOR, REFUSE_NTH=str(nth), REFUSE_LOG=log)
+    answer = run(words, stdin, env, program=program)
     with open(log) as file:
         return int(file.read()), answer
 
@@ -120,7 +130,7 @@ def chain(step):
 
 
 def refused_growths(folder):
-    """Refuses the first, second, third .. request of a job for memory, until a run makes no further one, and then all."""
+    """Refuses each request of a job for memory in turn, until a run makes no further one, and then all."""
     net = os.path.join(folder, "net")
     with open(net, "wb") as file:
         file.write(NET)
@@ -147,7 +157,8 @@ def refused_growths(folder):
                 break
             # At the start one request is made that the program does without.
             done_without += answer == wanted
-            check(f"{words} with request {nth} refused", answer == (4, b"", OUT_OF_MEMORY) or (answer == wanted and done_without == 1), answer)
+            holds = answer == (4, b"", OUT_OF_MEMORY) or (answer == wanted and done_without == 1)
+            check(f"{words} with request {nth} refused", holds, answer)
         answer = run_refused(folder, words, stdin, "all")[1]
         check(f"{words} with every request refused", answer == (4, b"", OUT_OF_MEMORY), answer)
     # A file whose arcs come in no order is arranged, for which it takes two lists of nodes and two of arcs.
@@ -210,7 +221,8 @@ def devices(folder):
 
     def ends(what, line, status, message, out=b""):
         done = shell(line)
-        check(what, (done.returncode, done.stdout, done.stderr) == (status, out, message), (done.returncode, done.stdout[:60], done.stderr))
+        holds = (done.returncode, done.stdout, done.stderr) == (status, out, message)
+        check(what, holds, (done.returncode, done.stdout[:60], done.stderr))
 
     ends("a full device", '"$0" solve "$1" > /dev/full', 4, WRITE_FAILED)
     ends("a full device for help", '"$0" --help > /dev/full', 4, WRITE_FAILED)
@@ -226,7 +238,8 @@ def devices(folder):
     with open(big, "w") as file:
         file.write("p max 2 300000\nn 1 s\nn 2 t\n" + "a 1 2 1\n" * 300000)
     done = shell(f'"$0" solve {big} | head -c 5; echo "${{PIPESTATUS[0]}}"')
-    check("a reader that goes away", (done.stdout, done.stderr) == (b"s 3004\n", WRITE_FAILED), (done.stdout, done.stderr))
+    told = done.stdout, done.stderr
+    check("a reader that goes away", told == (b"s 3004\n", WRITE_FAILED), told)
 
 
 def mutated(random_numbers, text):
@@ -244,7 +257,7 @@ def mutated(random_numbers, text):
             other = random_numbers.randrange(len(lines))
             lines[at], lines[other] = lines[other], lines[at]
         elif kind == 3:
-            lines.insert(at, random_numbers.choice([b"c note", b"", b"   ", b" c", b"x", b"p max 2 0", b"n 1 s", b"n 2 t", b"s 1", b"f 1 2 1", b"a 1 2 18446744073709551616", b"c" + b"y" * 300, b" " * 201]))
+            lines.insert(at, random_numbers.choice(LINES))
         else:
             line = bytearray(lines[at])
             place = random_numbers.randrange(len(line) + 1)
@@ -255,7 +268,7 @@ def mutated(random_numbers, text):
             elif kind == 6 and line:
                 line[min(place, len(line) - 1)] = random_numbers.randrange(256)
             elif kind == 7:
-                line[place:place] = str(random_numbers.choice([0, 1, 2, 9, 10**6, 2**32, 2**64 - 1, 2**64, 10**30])).encode()
+                line[place:place] = b"%d" % random_numbers.choice(NUMBERS)
             elif kind == 8:
                 line = bytearray(line.replace(b" ", random_numbers.choice([b"\t", b"\r", b"  ", b"\x0b"]), 1))
             lines[at] = bytes(line)
@@ -275,7 +288,8 @@ def problem(random_numbers):
     greatest = random_numbers.choice([1, 3, 100, 2**64 - 1])
     lines = [f"p max {nodes} {arcs}"]
     lines += [f"n {v} s" for v in order[:sources]] + [f"n {v} t" for v in order[sources : sources + sinks]]
-    lines += [f"a {random_numbers.randrange(1, nodes + 1)} {random_numbers.randrange(1, nodes + 1)} {random_numbers.randrange(greatest + 1)}" for _ in range(arcs)]
+    pick = random_numbers.randrange
+    lines += [f"a {pick(1, nodes + 1)} {pick(1, nodes + 1)} {pick(greatest + 1)}" for _ in range(arcs)]
     return "\n".join(lines).encode() + b"\n"
 
 
@@ -285,7 +299,8 @@ def is_well_ended(answer):
     if status in (0, 1):
         return message == b"" and out.endswith(b"\n")
     if status == 3:
-        return out == b"" and message.startswith((b"flow: line ", b"flow: solution line ")) and message.count(b"\n") == 1
+        told = message.startswith((b"flow: line ", b"flow: solution line ")) and message.count(b"\n") == 1
+        return out == b"" and told
     return False
 
 
@@ -299,17 +314,19 @@ def fuzz(folder, problems, seed):
             file.write(text)
         solved = run(["solve", net])
         answers = {"solve": solved}
-        for words in (["solve", "--value", net], ["cut", "--arcs", net], ["cut", "--sink", "--arcs", net], ["connect", net], ["connect", "--undirected", net], ["connect", "--pair", net]):
-            answers[" ".join(words[:-1])] = run(words)
+        for job in JOBS:
+            answers[job] = run([*job.split(), net])
         for job, answer in answers.items():
             check(f"{job} ends well", is_well_ended(answer), (text, answer))
-            check(f"{job} judges the file as solve does", (answer[0], answer[2]) == (solved[0], solved[2]), (text, answer, solved))
+            same = (answer[0], answer[2]) == (solved[0], solved[2])
+            check(f"{job} judges the file as solve does", same, (text, answer, solved))
         if solved[0] == 0:
             value = solved[1].split(b"\n")[0][2:]
             for job in ("cut --arcs", "cut --sink --arcs"):
                 lines = answers[job][1].split(b"\n")
                 total = sum(int(line.split()[3]) for line in lines if line.startswith(b"a "))
-                check(f"the arcs of {job} add up to the value", lines[0] == b"s " + value and total == int(value), (text, answers[job]))
+                holds = lines[0] == b"s " + value and total == int(value)
+                check(f"the arcs of {job} add up to the value", holds, (text, answers[job]))
             with open(solution, "wb") as file:
                 file.write(solved[1])
             verdict = run(["check", net, solution])

@@ -15,10 +15,11 @@ from collections import Counter
 from concurrent.futures import ThreadPoolExecutor
 from pathlib import Path
 
-SMALL, CAP, VALUE = 9, 2**64 - 1, 4000000 * (2**64 - 1)
-NUMBERS = [0, 2, 9, 200, 10**6, 10**6 + 1, 4 * 10**6 + 1, CAP, CAP + 1, VALUE, VALUE + 1, 10**30]
+SMALL, LINE, NODES, ARCS, CAP = 9, 200, 1_000_000, 4_000_000, 2**64 - 1
+VALUE = 4_000_000 * CAP
+NUMBERS = [0, 2, 9, LINE, NODES, NODES + 1, ARCS + 1, CAP, CAP + 1, VALUE, VALUE + 1, 10**30]
 LINES = [b"c note", b" \t\r", b" c", b"p max 2 0", b"p min 2 0", b"n 1 s", b"n 1 1", b"s 1", b"f 1 2 1", b"a 1 1 5",
-         b"c" + b"y" * 300, b" " * 200, b" " * 201, b"a 1 2 " + b"0" * 190 + b"1", b"a 1 2"]
+         b"c" + b"y" * 300, b" " * LINE, b" " * (LINE + 1), b"a 1 2 " + b"0" * 190 + b"1", b"a 1 2"]
 JOBS = [["solve"], ["solve", "--value"], ["cut"], ["cut", "--arcs"], ["cut", "--arcs", "--sink"], ["connect"],
         ["connect", "--undirected"], ["connect", "--pair"], ["connect", "--pair", "--undirected"]]
 
@@ -33,7 +34,7 @@ def records(text):
     lines = text.split(b"\n")
     lines = lines if lines[-1] else lines[:-1]
     for number, line in enumerate(lines, 1):
-        fail_if(line[:1] != b"c" and len(line) > 200, number, "line too long")
+        fail_if(line[:1] != b"c" and len(line) > LINE, number, "line too long")
         fields = [field for field in line.replace(b"\t", b" ").replace(b"\r", b" ").split(b" ") if field]
         if fields and line[:1] != b"c":
             yield number, fields
@@ -62,8 +63,8 @@ def read_problem(text):
             fail_if(size, number, "second problem line")
             fail_if(len(fields) != 4, number, "wrong number of fields")
             fail_if(fields[1] != b"max", number, "problem is not max")
-            size = (number_of(fields[2], 2, 10**6, number, "number of nodes out of range"),
-                    number_of(fields[3], 0, 4 * 10**6, number, "number of arcs out of range"))
+            size = (number_of(fields[2], 2, NODES, number, "number of nodes out of range"),
+                    number_of(fields[3], 0, ARCS, number, "number of arcs out of range"))
             continue
         fail_if(not size, number, "problem line missing")
         if fields[0] == b"n":

@@ -19,7 +19,7 @@ Capacities may be whole numbers, floats, Fractions and Decimals. `flow` reads wh
 brought to a common denominator first, exactly, and the problem that is solved is the one given. Where all
 capacities are whole, so are all answers; where one is a float, each answer is the nearest float; else it is a
 Fraction. A capacity that is too great for one line becomes several parallel arcs. What is then beyond the limits of
-`flow` (1,000,000 nodes, 4,000,000 arcs) raises NetworkXError.
+`flow` raises NetworkXError.
 """
 
 import math

@@ -9,7 +9,7 @@ use Rattle.flow_net.specs.declared.networks.Arc.{Arc}
 use Rattle.flow_net.specs.Nets.{Net, IsNode}
 use Rattle.flow_net.specs.Limits.{IsNet}
 use Rattle.flow_net.specs.DerivedNets.{unit, unit_arc, reversed, both_ways}
-use Rattle.flow_net.specs.NodeSets.{just}
+use Rattle.flow_net.specs.NodeSets.{just, IsLeastOver}
 use Rattle.flow_net.specs.Flows.{IsGreatest}
 use Rattle.flow_net.specs.Cuts.{cap_over, leaves, IsCut, capacity}
 use Rattle.flow_net.specs.LeastCuts.{IsLeastCapacity}
@@ -52,39 +52,44 @@ pub leaving-both_ways : (net : Net) (X : ℕ → Bool) → leaving (both_ways ne
 leaving-both_ways net X =
     sum_by-append (λ b. cond (leaves X b) 1 0) net.arcs (map reversed net.arcs) ∙ crossing_sum X net.arcs
 
+-- a set is proper by the nodes of its network alone
+proper_in : (net other : Net) (X : ℕ → Bool) → net.nodes ≡ other.nodes → IsProper net X → IsProper other X
+proper_in net other X same p = record {
+  inside = rw (← same) p.inside;
+  outside = rw (← same) p.outside;
+}
+
+-- the least is the same over sets of the same kind by counts that agree
+least_agrees : (K L : (ℕ → Bool) → Type 0) (f g : (ℕ → Bool) → ℕ) (k : ℕ) → ((X : ℕ → Bool) → K X → L X)
+    → ((X : ℕ → Bool) → L X → K X) → ((X : ℕ → Bool) → f X ≡ g X) → IsLeastOver K f k → IsLeastOver L g k
+least_agrees K L f g k to from e c = record {
+  reached = (c.reached.0, to c.reached.0 c.reached.1, sym (e c.reached.0) ∙ c.reached.2);
+  least = λ X p. omega (arith, c.least X (from X p), e X);
+}
+
+-- the same of proper sets, in two networks of the same nodes
+least_proper : (net other : Net) (f g : (ℕ → Bool) → ℕ) (k : ℕ) → net.nodes ≡ other.nodes
+    → ((X : ℕ → Bool) → f X ≡ g X) → IsLeastOver (IsProper net) f k → IsLeastOver (IsProper other) g k
+least_proper net other f g k same =
+    least_agrees (IsProper net) (IsProper other) f g k (λ X. proper_in net other X same)
+    (λ X. proper_in other net X (sym same))
+
+-- the same of the cuts of a pair
+least_cut : (s t : ℕ → Bool) (f g : (ℕ → Bool) → ℕ) (k : ℕ) → ((X : ℕ → Bool) → f X ≡ g X)
+    → IsLeastOver (IsCut s t) f k → IsLeastOver (IsCut s t) g k
+least_cut s t f g k = least_agrees (IsCut s t) (IsCut s t) f g k (λ X c. c) (λ X c. c)
+
 pub undirected : (net : Net) (k : ℕ) → IsConnectivity (both_ways net) k ↔ IsUndirectedConnectivity net k
 undirected net k = (
-  (λ c. record {
-    reached = (
-      c.reached.0,
-      record { inside = c.reached.1.inside; outside = c.reached.1.outside },
-      sym (leaving-both_ways net c.reached.0) ∙ c.reached.2,
-    );
-    least = λ X p.
-        omega (arith, c.least X (record { inside = p.inside; outside = p.outside }), leaving-both_ways net X);
-  }),
-  λ c. record {
-    reached = (
-      c.reached.0,
-      record { inside = c.reached.1.inside; outside = c.reached.1.outside },
-      leaving-both_ways net c.reached.0 ∙ c.reached.2,
-    );
-    least = λ X p.
-        omega (arith, c.least X (record { inside = p.inside; outside = p.outside }), leaving-both_ways net X);
-  },
+  least_proper (both_ways net) net (leaving (both_ways net)) (crossing net) k refl (leaving-both_ways net),
+  least_proper net (both_ways net) (crossing net) (leaving (both_ways net)) k refl (λ X. sym (leaving-both_ways net X)),
 )
 
 pub undirected_pair : (net : Net) (s t : ℕ → Bool) (k : ℕ)
     → IsPairConnectivity (both_ways net) s t k ↔ IsUndirectedPairConnectivity net s t k
 undirected_pair net s t k = (
-  (λ c. record {
-    reached = (c.reached.0, c.reached.1, sym (leaving-both_ways net c.reached.0) ∙ c.reached.2);
-    least = λ X p. omega (arith, c.least X p, leaving-both_ways net X);
-  }),
-  λ c. record {
-    reached = (c.reached.0, c.reached.1, leaving-both_ways net c.reached.0 ∙ c.reached.2);
-    least = λ X p. omega (arith, c.least X p, leaving-both_ways net X);
-  },
+  least_cut s t (leaving (both_ways net)) (crossing net) k (leaving-both_ways net),
+  least_cut s t (crossing net) (leaving (both_ways net)) k (λ X. sym (leaving-both_ways net X)),
 )
 
 -- the number of arcs that leave a set has nothing to do with capacities
@@ -102,21 +107,11 @@ leaving-unit net X = count_by_unit X net.arcs
 
 -- so the connectivity is that of the network of unit capacities
 pub connectivity_of_unit : (net : Net) (k : ℕ) → IsConnectivity (unit net) k → IsConnectivity net k
-connectivity_of_unit net k c = record {
-  reached = (
-    c.reached.0,
-    record { inside = c.reached.1.inside; outside = c.reached.1.outside },
-    sym (leaving-unit net c.reached.0) ∙ c.reached.2,
-  );
-  least = λ X p. omega (arith, c.least X (record { inside = p.inside; outside = p.outside }), leaving-unit net X);
-}
+connectivity_of_unit net k = least_proper (unit net) net (leaving (unit net)) (leaving net) k refl (leaving-unit net)
 
 pub pair_of_unit : (net : Net) (s t : ℕ → Bool) (k : ℕ) → IsPairConnectivity (unit net) s t k
     → IsPairConnectivity net s t k
-pair_of_unit net s t k c = record {
-  reached = (c.reached.0, c.reached.1, sym (leaving-unit net c.reached.0) ∙ c.reached.2);
-  least = λ X p. omega (arith, c.least X p, leaving-unit net X);
-}
+pair_of_unit net s t k = least_cut s t (leaving (unit net)) (leaving net) k (leaving-unit net)
 
 -- a set that holds one node and not another is a cut of the two
 pub cut_of_two : (X : ℕ → Bool) (u v : ℕ) → X u ≡ true → X v ≡ false → IsCut (just u) (just v) X
@@ -128,10 +123,7 @@ cut_of_two X u v i o = record {
 -- what one solve of the unit network says of a pair
 pub pair_by_solve : (net : Net) (s t : ℕ → Bool) (k : ℕ) → IsLeastCapacity (unit net) s t k
     → IsPairConnectivity net s t k
-pair_by_solve net s t k l = record {
-  reached = (l.reached.0, l.reached.1, sym (capacity-unit net l.reached.0) ∙ l.reached.2);
-  least = λ Y c. omega (arith, l.least Y c, capacity-unit net Y);
-}
+pair_by_solve net s t k = least_cut s t (capacity (unit net)) (leaving net) k (capacity-unit net)
 
 pub just_self : (v : ℕ) → just v v ≡ true
 just_self v = eq-eqb v v refl
@@ -149,10 +141,8 @@ pub pair_by_flow : (net : Net) (s t : ℕ → Bool) (k : ℕ) → IsNet net → 
     → IsGreatest (unit net) s t k ↔ IsPairConnectivity net s t k
 pair_by_flow net s t k n a = (
   (λ g. pair_by_solve net s t k (greatest_is_least (unit net) s t k (IsNet-unit net n) a g)),
-  λ p. least_is_greatest (unit net) s t k (IsNet-unit net n) a (record {
-    reached = (p.reached.0, p.reached.1, capacity-unit net p.reached.0 ∙ p.reached.2);
-    least = λ Y c. omega (arith, p.least Y c, capacity-unit net Y);
-  }),
+  λ p. least_is_greatest (unit net) s t k (IsNet-unit net n) a
+      (least_cut s t (leaving net) (capacity (unit net)) k (λ X. sym (capacity-unit net X)) p),
 )
 
 -- each pair of two nodes has a connectivity

@@ -218,8 +218,8 @@ connected_by_growth net order k n o = (
   },
 )
 
--- the arcs with exactly one end in a set are those with exactly one end outside
-count_by_agree : (p q : Arc → Bool) (arcs : List Arc) → ((a : Arc) → p a ≡ q a) → count_by p arcs ≡ count_by q arcs
+-- as many arcs pass a test as pass one that agrees with it
+pub count_by_agree : (p q : Arc → Bool) (arcs : List Arc) → ((a : Arc) → p a ≡ q a) → count_by p arcs ≡ count_by q arcs
 count_by_agree p q [] e = refl
 count_by_agree p q (a ∷ arcs) e =
     rw (
@@ -229,6 +229,7 @@ count_by_agree p q (a ∷ arcs) e =
       count_by_agree p q arcs e,
     ) refl
 
+-- the arcs with exactly one end in a set are those with exactly one end outside
 pub leaving_turned : (net : Net) (X : ℕ → Bool) → leaving (both_ways net) (λ v. not (X v)) ≡ leaving (both_ways net) X
 leaving_turned net X =
     leaving-both_ways net (λ v. not (X v))

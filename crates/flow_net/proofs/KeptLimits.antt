@@ -3,30 +3,40 @@ use Rattle.std.proofs.Common.{◌≡◌, ℕ, ◌-◌, ◌≤◌, List, ◌++◌
 use Rattle.std.specs.List.{All}
 use Rattle.std.proofs.lemmas.List.{length-map}
 use Rattle.std.proofs.lemmas.List.Elements.{All-append, All-map, All-weaker}
+use Rattle.flow_net.specs.declared.networks.Arc.{Arc}
 use Rattle.flow_net.specs.declared.limits.TheConstants.{MOST_ARCS}
 use Rattle.flow_net.specs.Nets.{Net, IsNode}
 use Rattle.flow_net.specs.Limits.{IsNet, IsArcWithin}
 use Rattle.flow_net.specs.DerivedNets.{unit_arc, reversed}
 use Rattle.flow_net.specs.Arrangements.{named, renamed}
 
--- capacities of 1 keep it
-pub IsNet-unit : (net : Net) → IsNet net → IsNet (record net { arcs = map unit_arc net.arcs })
-IsNet-unit net h = let same = length-map net.arcs unit_arc in let most = h.arcs_most in record {
+-- what is done to each arc keeps all arcs within the limits, where it keeps each
+arcs-map : (n : ℕ) (f : Arc → Arc) (arcs : List Arc) → ((a : Arc) → IsArcWithin n a → IsArcWithin n (f a))
+    → All (IsArcWithin n) arcs → All (IsArcWithin n) (map f arcs)
+arcs-map n f arcs keeps h =
+    All-map (IsArcWithin n) f arcs (All-weaker (IsArcWithin n) (λ a. IsArcWithin n (f a)) keeps arcs h)
+
+-- and so it keeps the network's
+IsNet-map : (net : Net) (f : Arc → Arc) → IsNet net
+    → ((a : Arc) → IsArcWithin net.nodes a → IsArcWithin net.nodes (f a)) → IsNet (record net { arcs = map f net.arcs })
+IsNet-map net f h keeps = let same = length-map net.arcs f in let most = h.arcs_most in record {
   nodes_least = h.nodes_least;
   nodes_most = h.nodes_most;
   arcs_most = omega arith;
-  arcs_within =
-      All-map (IsArcWithin net.nodes) unit_arc net.arcs
-      (All-weaker (IsArcWithin net.nodes) (λ a. IsArcWithin net.nodes (unit_arc a))
-      (λ a w.
-      record {
-        src_least = w.src_least;
-        src_most = w.src_most;
-        dst_least = w.dst_least;
-        dst_most = w.dst_most;
-        cap_fits = lit≤ tt;
-      }) net.arcs h.arcs_within);
+  arcs_within = arcs-map net.nodes f net.arcs keeps h.arcs_within;
 }
+
+-- capacities of 1 keep it
+pub IsNet-unit : (net : Net) → IsNet net → IsNet (record net { arcs = map unit_arc net.arcs })
+IsNet-unit net h =
+    IsNet-map net unit_arc h (λ a w.
+    record {
+      src_least = w.src_least;
+      src_most = w.src_most;
+      dst_least = w.dst_least;
+      dst_most = w.dst_most;
+      cap_fits = lit≤ tt;
+    })
 
 -- the reversed arcs keep it, where there is room
 pub IsNet-both_ways : (net : Net) → IsNet net → length net.arcs ≤ MOST_ARCS
@@ -40,40 +50,29 @@ IsNet-both_ways net h room =
       arcs_most = omega arith;
       arcs_within =
           All-append (IsArcWithin net.nodes) net.arcs (map reversed net.arcs) h.arcs_within
-          (All-map (IsArcWithin net.nodes) reversed net.arcs
-          (All-weaker (IsArcWithin net.nodes) (λ a. IsArcWithin net.nodes (reversed a))
-          (λ a w.
+          (arcs-map net.nodes reversed net.arcs (λ a w.
           record {
             src_least = w.dst_least;
             src_most = w.dst_most;
             dst_least = w.src_least;
             dst_most = w.src_most;
             cap_fits = w.cap_fits;
-          }) net.arcs h.arcs_within));
+          }) h.arcs_within);
     }
 
 -- other names of the nodes keep it
 pub IsNet-renamed : (net : Net) (names : List ℕ) → IsNet net → length names ≡ net.nodes → All (IsNode net) names
     → IsNet (record net { arcs = map (renamed names) net.arcs })
 IsNet-renamed net names h count within =
-    let same = length-map net.arcs (renamed names) in let most = h.arcs_most in
     let name : (v : ℕ) → 1 ≤ v → v ≤ net.nodes → IsNode net (named names v) =
     λ v least most. within (v - 1) 0 (omega arith) in
+    IsNet-map net (renamed names) h (λ a w.
+    let src = name a.src w.src_least w.src_most in
+    let dst = name a.dst w.dst_least w.dst_most in
     record {
-      nodes_least = h.nodes_least;
-      nodes_most = h.nodes_most;
-      arcs_most = omega arith;
-      arcs_within =
-          All-map (IsArcWithin net.nodes) (renamed names) net.arcs
-          (All-weaker (IsArcWithin net.nodes) (λ a. IsArcWithin net.nodes (renamed names a))
-          (λ a w.
-          let src = name a.src w.src_least w.src_most in
-          let dst = name a.dst w.dst_least w.dst_most in
-          record {
-            src_least = src.0;
-            src_most = src.1;
-            dst_least = dst.0;
-            dst_most = dst.1;
-            cap_fits = w.cap_fits;
-          }) net.arcs h.arcs_within);
-    }
+      src_least = src.0;
+      src_most = src.1;
+      dst_least = dst.0;
+      dst_most = dst.1;
+      cap_fits = w.cap_fits;
+    })

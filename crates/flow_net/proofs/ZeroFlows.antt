@@ -14,7 +14,8 @@ use Rattle.flow_net.proofs.Zips.{fits_from_zip, AllZip-at}
 zero_step : (b : Bool) (m : ℕ) → m ≡ 0 → cond b 0 0 + m ≡ 0
 zero_step b m e = grind arith
 
-flow_over_zeros : (p : Arc → Bool) (arcs : List Arc) → flow_over p arcs (replicate (length arcs) 0) ≡ 0
+-- a flow of zeros over any arcs
+pub flow_over_zeros : (p : Arc → Bool) (arcs : List Arc) → flow_over p arcs (replicate (length arcs) 0) ≡ 0
 flow_over_zeros p [] = refl
 flow_over_zeros p (a ∷ arcs) = zero_step (p a) _ (flow_over_zeros p arcs)
 

@@ -9,7 +9,8 @@ use Rattle.flow_net.specs.Flows.{out_of, into, IsFeasible, HasValue, IsGreatest}
 use Rattle.flow_net.specs.Cuts.{IsCut, capacity, IsMinimumCut}
 use Rattle.flow_net.specs.LeastSides.{IsInLeastSourceSide, IsInLeastSinkSide}
 use Rattle.flow_net.specs.LeastCuts.{IsLeastCapacity}
-use Rattle.flow_net.specs.LeastCuts.{IsConnectivity, IsUndirectedConnectivity, IsPairConnectivity, IsUndirectedPairConnectivity}
+use Rattle.flow_net.specs.LeastCuts.{IsConnectivity, IsUndirectedConnectivity, IsPairConnectivity}
+use Rattle.flow_net.specs.LeastCuts.{IsUndirectedPairConnectivity}
 use Rattle.flow_net.specs.Residual.{IsClosed, IsReachable, IsReaching}
 use Rattle.flow_net.specs.Paths.{IsPath, HasRoom, IsApart, push_all, IsMoreBy}
 

@@ -1,5 +1,6 @@
 -- The residual network (Ford and Fulkerson 1956), by half-arcs: half-arc 2·i runs along arc i, and 2·i + 1 against it.
-use Rattle.std.specs.Prelude.{ℕ, ◌+◌, ◌-◌, ◌*◌, ◌/◌, ◌%◌, ◌≤◌, ◌<◌, Bool, List, length, slice_index, slice_set, IsTrue, IsFalse, ◌==◌, if◌then◌else◌}
+use Rattle.std.specs.Prelude.{ℕ, ◌+◌, ◌-◌, ◌*◌, ◌/◌, ◌%◌, ◌≤◌, ◌<◌, Bool, List, length, slice_index, slice_set, IsTrue}
+use Rattle.std.specs.Prelude.{IsFalse, ◌==◌, if◌then◌else◌}
 use Rattle.flow_net.specs.declared.networks.Arc.{Arc}
 use Rattle.flow_net.specs.Nets.{Net, arc_at}
 

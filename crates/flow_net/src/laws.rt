@@ -1,7 +1,9 @@
 //! The laws of maximum flows and minimum cuts. Each is the contract of a function that computes nothing.
 ghost use Rattle.flow_net.specs.Orders.{ConnectivityByGrowth, SameEitherWay};
 ghost use Rattle.flow_net.specs.Arrangements.{SameArranged};
-ghost use Rattle.flow_net.specs.Laws.{WeakDuality, ClosedCut, MaxFlowMinCut, LeastSourceSide, LeastSinkSide, AugmentingPath, PairByFlow, ConnectivityByPairs, UndirectedByBothWays, SingleUpgrade};
+ghost use Rattle.flow_net.specs.Laws.{WeakDuality, ClosedCut, MaxFlowMinCut, LeastSourceSide, LeastSinkSide};
+ghost use Rattle.flow_net.specs.Laws.{AugmentingPath, PairByFlow, ConnectivityByPairs, UndirectedByBothWays};
+ghost use Rattle.flow_net.specs.Laws.{SingleUpgrade};
 
 /// No feasible flow's value passes a cut's capacity (Ford and Fulkerson 1956).
 pub fn weak_duality()

@@ -1,5 +1,6 @@
 //! Networks: a number of nodes and a list of arcs.
-ghost use Rattle.std.specs.Prelude.{◌≡◌, ◌+◌, ◌*◌, ◌<◌, ◌≤◌, ◌↔◌, [], ◌∷◌, ◌++◌, length, map, slice_get, IsTrue, OnOk, OnErr};
+ghost use Rattle.std.specs.Prelude.{◌≡◌, ◌+◌, ◌*◌, ◌<◌, ◌≤◌, ◌↔◌, [], ◌∷◌, ◌++◌, length, map, slice_get, IsTrue, OnOk};
+ghost use Rattle.std.specs.Prelude.{OnErr};
 ghost use Rattle.std.specs.List.{All, swap};
 ghost use Rattle.flow_net.specs.Nets.{Net, IsNode, arc_at};
 ghost use Rattle.flow_net.specs.Limits.{IsNet, IsArcWithin};

@@ -36,7 +36,7 @@ use Rattle.flow_text.specs.declared.faults.FaultCode.TheVariants.{SecondSolution
 use Rattle.flow_text.specs.declared.faults.FaultCode.TheVariants.{TooManyFlowLines, NodesOutOfRange, ArcsOutOfRange}
 use Rattle.flow_text.specs.declared.faults.FaultCode.TheVariants.{NodeOutOfRange, CapacityOutOfRange, FlowOutOfRange}
 use Rattle.flow_text.specs.declared.faults.FaultCode.TheVariants.{ValueOutOfRange}
-use Rattle.flow_text.proofs.KindLemmas.{none_from}
+use Rattle.flow_text.proofs.KindLemmas.{none_from, is_not_other}
 use Rattle.flow_text.proofs.ProblemLemmas.{Adds-problem, of_problem, of_node, of_arc, of_unknown}
 use Rattle.flow_text.proofs.SolutionLemmas.{Adds-solution, of_solution, of_flow, of_unknown as of_unknown_solution}
 use Rattle.flow_text.proofs.SolutionLemmas.{whole-same}
@@ -102,10 +102,6 @@ sized k fields h p =
       distinct = λ i j lt high same. absurd (omega arith);
     })
 
-s_not_t : (letter : List ℕ) → bytes_eq letter (codes "s") ≡ true → bytes_eq letter (codes "t") ≡ false
-s_not_t [] is = refl
-s_not_t (c ∷ cs) is = grind (arith, common_steps)
-
 -- a node line
 marked : (n m : ℕ) (marks : Marks) (arcs : List Arc) (fields : List (List ℕ))
     → first_failed (mark_tests n marks fields) ≡ None → Inside n m marks arcs
@@ -121,7 +117,7 @@ marked n m marks arcs fields h p =
     let new = passed taken AlreadyTerminal None letter.1 in
     let is : InNodes n (node_of fields) = (node.from, node.to) in
     elim (cases_Bool (bytes_eq (field_at fields 2) (codes "s"))) [
-      | inl s ↦ rw (s, s_not_t (field_at fields 2) s) (record {
+      | inl s ↦ rw (s, is_not_other (field_at fields 2) (codes "s") (codes "t") s refl) (record {
         nodes_least = p.nodes_least;
         nodes_most = p.nodes_most;
         declared_most = p.declared_most;

@@ -61,10 +61,13 @@ number_of-above field limit some digits h = grind (arith, common_steps)
 pub fits-more : (i v d : ℕ) → d ≤ 9 → v < 10 ^ i → v * 10 + d < 10 ^ (i + 1)
 fits-more i v d nine h = rw (add-one, pow-suc 10 i) (omega arith)
 
-pub fits-nineteen : (i v : ℕ) → i ≤ 19 → v < 10 ^ i → v < 10000000000000000000
+-- behind fewer than nineteen digits one more has room in 64 bits
+pub fits-nineteen : (i v : ℕ) → i < 19 → v < 10 ^ i → v * 10 + 9 < 10000000000000000000
 fits-nineteen i v h fits =
     let ten : 0 < 10 = omega arith in
-    let le : 10 ^ i ≤ 10 ^ 19 = pow-le-pow_right ten h in
+    let count : i + 1 ≤ 19 = omega arith in
+    let le : 10 ^ (i + 1) ≤ 10 ^ 19 = pow-le-pow_right ten count in
+    let more = fits-more i v 9 (omega arith) fits in
     omega arith
 
 pub AreDigits-all : (field : List ℕ) (i : ℕ) → length field ≤ i → AreDigits field i → all_ascii_digits field ≡ true

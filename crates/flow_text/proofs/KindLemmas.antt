@@ -4,17 +4,24 @@ use Rattle.std.proofs.Common.{Option, Some, None, inl, inr, is_some, map, filter
 use Rattle.std.proofs.Common.{append-nil}
 use Rattle.std.specs.List.{find, slice_split, onto_first}
 use Rattle.std.specs.Option.{option_map, option_or}
+use Rattle.std.specs.Str.{bytes_eq}
 use Rattle.std.proofs.lemmas.Bool.{cases_Bool, true≢false}
 use Rattle.std.proofs.lemmas.Grind.{common_steps}
 use Rattle.std.proofs.lemmas.List.{map-append}
 use Rattle.std.proofs.lemmas.List.Folds.{find-append}
 use Rattle.std.proofs.lemmas.List.Elements.{filter-append}
 use Rattle.std.proofs.lemmas.List.Splits.{slice_split-cons_no}
+use Rattle.std.proofs.lemmas.Slice.Eq.{bytes_eq-Decides}
 use Rattle.flow_text.specs.Fields.{fields_of}
 use Rattle.flow_text.specs.LineParts.{has_bytes}
 use Rattle.flow_text.specs.LineParts.{is_blank}
 use Rattle.flow_text.specs.Rules.{is_comment, names}
 use Rattle.flow_text.proofs.RuleLemmas.{has_some}
+
+-- a field that is one word is no other
+pub is_not_other : (field word other : List ℕ) → bytes_eq field word ≡ true → bytes_eq word other ≡ false
+    → bytes_eq field other ≡ false
+is_not_other field word other is apart = rw ((bytes_eq-Decides field word).0 is) apart
 
 pub none_from : {A : Type 0} (o : Option A) → is_some o ≡ false → o ≡ None
 none_from None h = refl

@@ -27,6 +27,7 @@ use Rattle.flow_text.specs.declared.faults.FaultCode.{FaultCode}
 use Rattle.flow_text.specs.declared.faults.FaultCode.TheVariants.{UnknownLine, CapacityOutOfRange}
 use Rattle.flow_text.specs.UsualLines.{IsUsual}
 use Rattle.flow_text.proofs.KindLemmas.{none_from, has_field, comment_is_none, kind_is_plain, first-push, list-push}
+use Rattle.flow_text.proofs.KindLemmas.{is_not_other}
 use Rattle.flow_text.proofs.RuleLemmas.{of_fields, record-fine, has_some}
 use Rattle.flow_text.proofs.UsualLemmas.{ends-pass}
 
@@ -50,31 +51,23 @@ IsKept-mark net declared marks node false k is = record {
       (All-cons (IsNode net) node [] is (search std_rules));
 }
 
--- a line has one kind at most
-p_not_n : (kind : List ℕ) → bytes_eq kind (codes "p") ≡ true → bytes_eq kind (codes "n") ≡ false
-p_not_n [] is = refl
-p_not_n (c ∷ cs) is = grind (arith, common_steps)
-
-p_not_a : (kind : List ℕ) → bytes_eq kind (codes "p") ≡ true → bytes_eq kind (codes "a") ≡ false
-p_not_a [] is = refl
-p_not_a (c ∷ cs) is = grind (arith, common_steps)
-
-n_not_a : (kind : List ℕ) → bytes_eq kind (codes "n") ≡ true → bytes_eq kind (codes "a") ≡ false
-n_not_a [] is = refl
-n_not_a (c ∷ cs) is = grind (arith, common_steps)
-
 pub of_problem : (k : Known) (kind : List ℕ) (others : List (List ℕ)) → bytes_eq kind (codes "p") ≡ true
     → (problem_record_fault k (kind ∷ others) ≡ first_failed (problem_tests k (kind ∷ others)))
     × (with_problem_record k (kind ∷ others) ≡ record k { size = Some (size_of (kind ∷ others)) })
 unfolding problem_record_fault with_problem_record
-of_problem k kind others is = (simp is, simp (is, p_not_n kind is, p_not_a kind is))
+of_problem k kind others is =
+    let n = is_not_other kind (codes "p") (codes "n") is refl in
+    let a = is_not_other kind (codes "p") (codes "a") is refl in
+    (simp is, simp (is, n, a))
 
 pub of_node : (k : Known) (kind : List ℕ) (others : List (List ℕ)) → bytes_eq kind (codes "p") ≡ false
     → bytes_eq kind (codes "n") ≡ true
     → (problem_record_fault k (kind ∷ others) ≡ first_failed (node_tests k (kind ∷ others)))
     × (with_problem_record k (kind ∷ others) ≡ with_terminal k (kind ∷ others))
 unfolding problem_record_fault with_problem_record
-of_node k kind others p is = (simp (p, is), simp (p, is, n_not_a kind is))
+of_node k kind others p is =
+    let a = is_not_other kind (codes "n") (codes "a") is refl in
+    (simp (p, is), simp (p, is, a))
 
 pub of_arc : (k : Known) (kind : List ℕ) (others : List (List ℕ)) → bytes_eq kind (codes "p") ≡ false
     → bytes_eq kind (codes "n") ≡ false → bytes_eq kind (codes "a") ≡ true

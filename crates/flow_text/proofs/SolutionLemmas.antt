@@ -28,18 +28,14 @@ use Rattle.flow_text.specs.UsualLines.{IsUsual}
 use Rattle.flow_text.proofs.RuleLemmas.{of_fields, record-fine, has_some}
 use Rattle.flow_text.proofs.UsualLemmas.{ends-pass}
 use Rattle.flow_text.proofs.KindLemmas.{none_from, has_field, comment_is_none, kind_is_plain, first-push, list-push}
+use Rattle.flow_text.proofs.KindLemmas.{is_not_other}
 use Rattle.flow_text.specs.declared.limits.TheConstants.{MOST_FLOW_LINES}
-
--- a line has one kind at most
-s_not_f : (kind : List ℕ) → bytes_eq kind (codes "s") ≡ true → bytes_eq kind (codes "f") ≡ false
-s_not_f [] is = refl
-s_not_f (c ∷ cs) is = grind (arith, common_steps)
 
 pub of_solution : (k : SolutionSoFar) (kind : List ℕ) (others : List (List ℕ)) → bytes_eq kind (codes "s") ≡ true
     → (solution_record_fault k.nodes (stated_in k) (kind ∷ others) ≡ first_failed (solution_tests k (kind ∷ others)))
     × (with_solution_record k (kind ∷ others) ≡ record k { value = Some (given_of (kind ∷ others)) })
 unfolding solution_record_fault with_solution_record
-of_solution k kind others is = (simp is, simp (is, s_not_f kind is))
+of_solution k kind others is = (simp is, simp (is, is_not_other kind (codes "s") (codes "f") is refl))
 
 pub of_flow : (k : SolutionSoFar) (kind : List ℕ) (others : List (List ℕ)) → bytes_eq kind (codes "s") ≡ false
     → bytes_eq kind (codes "f") ≡ true

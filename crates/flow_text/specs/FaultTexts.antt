@@ -1,7 +1,14 @@
 -- The words of each fault.
 use Rattle.std.specs.Prelude.{ℕ, List, codes}
 use Rattle.flow_text.specs.declared.faults.FaultCode.{FaultCode}
-use Rattle.flow_text.specs.declared.faults.FaultCode.TheVariants.{LineTooLong, UnknownLine, WrongFields, BadNumber, SecondProblemLine, ProblemLineMissing, NotMax, NodesOutOfRange, ArcsOutOfRange, NodeLineAfterArcLine, NodeOutOfRange, NotTerminal, TerminalsMissing, TooManyArcs, CapacityOutOfRange, TooFewArcs, AlreadyTerminal, SecondSolutionLine, SolutionLineMissing, TooManyFlowLines, FlowOutOfRange, ValueOutOfRange}
+use Rattle.flow_text.specs.declared.faults.FaultCode.TheVariants.{LineTooLong, UnknownLine, WrongFields, BadNumber}
+use Rattle.flow_text.specs.declared.faults.FaultCode.TheVariants.{SecondProblemLine, ProblemLineMissing, NotMax}
+use Rattle.flow_text.specs.declared.faults.FaultCode.TheVariants.{NodesOutOfRange, ArcsOutOfRange, NodeLineAfterArcLine}
+use Rattle.flow_text.specs.declared.faults.FaultCode.TheVariants.{NodeOutOfRange, NotTerminal, TerminalsMissing}
+use Rattle.flow_text.specs.declared.faults.FaultCode.TheVariants.{TooManyArcs, CapacityOutOfRange, TooFewArcs}
+use Rattle.flow_text.specs.declared.faults.FaultCode.TheVariants.{AlreadyTerminal, SecondSolutionLine}
+use Rattle.flow_text.specs.declared.faults.FaultCode.TheVariants.{SolutionLineMissing, TooManyFlowLines, FlowOutOfRange}
+use Rattle.flow_text.specs.declared.faults.FaultCode.TheVariants.{ValueOutOfRange}
 
 -- what is said of a fault, in ASCII bytes
 abbrev pub fault_text : FaultCode → List ℕ

@@ -1,5 +1,6 @@
 -- The parts of a text between the bytes 10, and what a text is joined of.
-use Rattle.std.specs.Prelude.{◌≡◌, ℕ, ◌-◌, Bool, false, ◌==◌, ◌||◌, List, [], ◌∷◌, ◌++◌, length, take, nat_lt, slice_index_or}
+use Rattle.std.specs.Prelude.{◌≡◌, ℕ, ◌-◌, Bool, false, ◌==◌, ◌||◌, List, [], ◌∷◌, ◌++◌, length, take, nat_lt}
+use Rattle.std.specs.Prelude.{slice_index_or}
 use Rattle.std.specs.List.{All}
 
 -- whether a byte ends a line

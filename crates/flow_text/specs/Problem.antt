@@ -1,5 +1,6 @@
 -- Problem files of the DIMACS format (1990): which fault a text has, or which problem it is.
-use Rattle.std.specs.Prelude.{ℕ, Bool, not, ◌&&◌, ◌||◌, ◌==◌, nat_lt, nat_le, List, [], ◌∷◌, ◌++◌, length, map, filter, Option, Some, is_some, Result, Ok, Err, if◌then◌else◌, codes}
+use Rattle.std.specs.Prelude.{ℕ, Bool, not, ◌&&◌, ◌||◌, ◌==◌, nat_lt, nat_le, List, [], ◌∷◌, ◌++◌, length, map, filter}
+use Rattle.std.specs.Prelude.{Option, Some, is_some, Result, Ok, Err, if◌then◌else◌, codes}
 use Rattle.std.specs.List.{find}
 use Rattle.std.specs.Option.{option_map, option_map_or, unwrap_or}
 use Rattle.std.specs.Str.{bytes_eq}
@@ -12,7 +13,11 @@ use Rattle.flow_text.specs.Digits.{number_at}
 use Rattle.flow_text.specs.Tests.{first_failed, number_tests, ends_tests}
 use Rattle.flow_text.specs.Rules.{Rules, names, early_fault, whole_fault}
 use Rattle.flow_text.specs.declared.faults.FaultCode.{FaultCode}
-use Rattle.flow_text.specs.declared.faults.FaultCode.TheVariants.{UnknownLine, WrongFields, SecondProblemLine, ProblemLineMissing, NotMax, NodesOutOfRange, ArcsOutOfRange, NodeOutOfRange, NodeLineAfterArcLine, NotTerminal, TerminalsMissing, AlreadyTerminal, TooManyArcs, CapacityOutOfRange, TooFewArcs}
+use Rattle.flow_text.specs.declared.faults.FaultCode.TheVariants.{UnknownLine, WrongFields, SecondProblemLine}
+use Rattle.flow_text.specs.declared.faults.FaultCode.TheVariants.{ProblemLineMissing, NotMax, NodesOutOfRange}
+use Rattle.flow_text.specs.declared.faults.FaultCode.TheVariants.{ArcsOutOfRange, NodeOutOfRange, NodeLineAfterArcLine}
+use Rattle.flow_text.specs.declared.faults.FaultCode.TheVariants.{NotTerminal, TerminalsMissing, AlreadyTerminal}
+use Rattle.flow_text.specs.declared.faults.FaultCode.TheVariants.{TooManyArcs, CapacityOutOfRange, TooFewArcs}
 use Rattle.flow_net.specs.declared.limits.TheConstants.{MOST_ARCS, MOST_NODES, FEWEST_NODES}
 
 -- the fields of a node line with this letter in the third

@@ -1,5 +1,6 @@
 -- Solution files of the DIMACS format (1990): which fault a text has, or which value and flow lines it gives.
-use Rattle.std.specs.Prelude.{ℕ, Bool, not, ◌==◌, nat_le, List, ◌∷◌, length, map, filter, Option, None, Some, is_some, Result, Ok, Err, if◌then◌else◌, codes}
+use Rattle.std.specs.Prelude.{ℕ, Bool, not, ◌==◌, nat_le, List, ◌∷◌, length, map, filter, Option, None, Some, is_some}
+use Rattle.std.specs.Prelude.{Result, Ok, Err, if◌then◌else◌, codes}
 use Rattle.std.specs.List.{find}
 use Rattle.std.specs.Option.{option_map, option_map_or, unwrap_or}
 use Rattle.flow_text.specs.Lines.{lines}
@@ -8,7 +9,9 @@ use Rattle.flow_text.specs.Digits.{number_at}
 use Rattle.flow_text.specs.Tests.{first_failed, number_tests, ends_tests}
 use Rattle.flow_text.specs.Rules.{Rules, names, early_fault, whole_fault}
 use Rattle.flow_text.specs.declared.faults.FaultCode.{FaultCode}
-use Rattle.flow_text.specs.declared.faults.FaultCode.TheVariants.{UnknownLine, WrongFields, SecondSolutionLine, SolutionLineMissing, TooManyFlowLines, FlowOutOfRange, ValueOutOfRange}
+use Rattle.flow_text.specs.declared.faults.FaultCode.TheVariants.{UnknownLine, WrongFields, SecondSolutionLine}
+use Rattle.flow_text.specs.declared.faults.FaultCode.TheVariants.{SolutionLineMissing, TooManyFlowLines, FlowOutOfRange}
+use Rattle.flow_text.specs.declared.faults.FaultCode.TheVariants.{ValueOutOfRange}
 use Rattle.flow_text.specs.declared.solutions.FlowLine.{FlowLine}
 use Rattle.flow_text.specs.declared.limits.TheConstants.{GREATEST_VALUE, MOST_FLOW_LINES}
 

@@ -1,11 +1,13 @@
 -- What the reader of a solution keeps and answers.
-use Rattle.std.specs.Prelude.{◌≡◌, ℕ, Bool, true, false, ◌≤◌, ◌<◌, ◌^◌, ◌++◌, List, [], ◌∷◌, length, Option, Some, None, is_some, Result, Ok, Err, codes, if◌then◌else◌}
+use Rattle.std.specs.Prelude.{◌≡◌, ℕ, Bool, true, false, ◌≤◌, ◌<◌, ◌^◌, ◌++◌, List, [], ◌∷◌, length, Option, Some, None}
+use Rattle.std.specs.Prelude.{is_some, Result, Ok, Err, codes, if◌then◌else◌}
 use Rattle.std.specs.List.{All}
 use Rattle.std.specs.Option.{unwrap_or}
 use Rattle.flow_text.specs.Fields.{field_at}
 use Rattle.flow_text.specs.Digits.{value_of}
 use Rattle.flow_text.specs.Rules.{Rules, names}
-use Rattle.flow_text.specs.Solution.{Stated, stated_of, value_tests, solution_record_fault, solution_end_fault, early_solution}
+use Rattle.flow_text.specs.Solution.{Stated, stated_of, value_tests, solution_record_fault, solution_end_fault}
+use Rattle.flow_text.specs.Solution.{early_solution}
 use Rattle.flow_text.specs.declared.faults.FaultCode.TheVariants.{SecondSolutionLine}
 use Rattle.flow_text.specs.Reading.{State, HasRead, Tells, Refuses, AnswersAs}
 use Rattle.flow_text.specs.declared.faults.FaultCode.{FaultCode}

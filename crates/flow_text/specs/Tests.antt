@@ -1,5 +1,6 @@
 -- Tests in an order: the first that fails decides. A test is whether it fails, with the fault that it tells.
-use Rattle.std.specs.Prelude.{ℕ, Bool, not, ◌&&◌, ◌||◌, ◌==◌, nat_lt, List, [], ◌∷◌, ◌++◌, length, Option, None, Some, if◌then◌else◌}
+use Rattle.std.specs.Prelude.{ℕ, Bool, not, ◌&&◌, ◌||◌, ◌==◌, nat_lt, List, [], ◌∷◌, ◌++◌, length, Option, None, Some}
+use Rattle.std.specs.Prelude.{if◌then◌else◌}
 use Rattle.flow_text.specs.Fields.{field_at}
 use Rattle.flow_text.specs.Digits.{value_of}
 use Rattle.std.specs.Str.{all_ascii_digits}

@@ -4,9 +4,6 @@ ghost use Rattle.flow_text.specs.FaultTexts.{fault_text};
 
 use thiserror::Error;
 
-#[cfg(test)]
-mod tests;
-
 /// What is wrong with a line of a problem file or of a solution file, or with its end.
 ///
 /// Each variant says when it is told. Of several faults a reader tells the one of the least line, and in that line the
@@ -28,9 +25,9 @@ pub enum FaultCode {
     ProblemLineMissing,
     /// The second field of a `p` line isn't `max`.
     NotMax,
-    /// A `p` line declares fewer than 2 nodes or more than 1,000,000.
+    /// A `p` line declares fewer nodes than `FEWEST_NODES`, or more than `MOST_NODES`.
     NodesOutOfRange,
-    /// A `p` line declares more than 4,000,000 arcs.
+    /// A `p` line declares more arcs than `MOST_ARCS`.
     ArcsOutOfRange,
     /// A node line stands after an arc line.
     NodeLineAfterArcLine,
@@ -42,7 +39,7 @@ pub enum FaultCode {
     TerminalsMissing,
     /// An arc line stands after as many arc lines as the `p` line declares.
     TooManyArcs,
-    /// A capacity is greater than 18,446,744,073,709,551,615.
+    /// A capacity is greater than `GREATEST_CAPACITY`.
     CapacityOutOfRange,
     /// A problem ends with fewer arc lines than its `p` line declares.
     TooFewArcs,
@@ -52,11 +49,11 @@ pub enum FaultCode {
     SecondSolutionLine,
     /// A flow line stands before any `s` line, or a solution ends without one.
     SolutionLineMissing,
-    /// A flow line stands after 4,000,000 flow lines.
+    /// A flow line stands after `MOST_FLOW_LINES` flow lines.
     TooManyFlowLines,
-    /// The flow of a flow line is greater than 18,446,744,073,709,551,615.
+    /// The flow of a flow line is greater than `GREATEST_CAPACITY`.
     FlowOutOfRange,
-    /// The value of an `s` line is greater than 73,786,976,294,838,206,460,000,000.
+    /// The value of an `s` line is greater than `GREATEST_VALUE`.
     ValueOutOfRange,
 }
 

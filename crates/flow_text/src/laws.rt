@@ -1,5 +1,6 @@
 //! The laws of the texts. Each function computes nothing: its contract is the law.
-ghost use Rattle.flow_text.specs.TextLaws.{LinesAreCut, LinesAreCutOneWay, EarlyFaultStays, EarlySolutionFaultStays, AcceptedProblemIsWithin, AcceptedSolutionIsWithin};
+ghost use Rattle.flow_text.specs.TextLaws.{LinesAreCut, LinesAreCutOneWay, EarlyFaultStays, EarlySolutionFaultStays};
+ghost use Rattle.flow_text.specs.TextLaws.{AcceptedProblemIsWithin, AcceptedSolutionIsWithin};
 
 /// Each text is cut into lines and a rest that hold no byte 10.
 pub fn lines_are_cut()

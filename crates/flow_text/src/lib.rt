@@ -38,6 +38,4 @@ pub use solutions::{FlowLine, Solution};
 pub use verdicts::Verdict;
 
 #[cfg(test)]
-mod reading_tests;
-#[cfg(test)]
 mod tests;

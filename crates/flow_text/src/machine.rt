@@ -1,8 +1,10 @@
 //! The machine under both readers. It cuts a text that comes in pieces into lines and has each line judged. It keeps
 //! the bytes of an unfinished line, at most as many as a line may have, and none of a comment.
-ghost use Rattle.std.specs.Prelude.{◌≡◌, ◌+◌, ◌++◌, ◌∷◌, [], List, ℕ, None, Some, Err, false, IsErrOf, IfOk, is_some, true, MatchOption};
+ghost use Rattle.std.specs.Prelude.{◌≡◌, ◌+◌, ◌++◌, ◌∷◌, [], List, ℕ, None, Some, Err, false, IsErrOf, IfOk, is_some};
+ghost use Rattle.std.specs.Prelude.{true, MatchOption};
 ghost use Rattle.flow_text.specs.Rules.{Rules, is_comment, fault_of};
-ghost use Rattle.flow_text.specs.Reading.{told, Adds, HasRead, Refuses, FeedsBy, ClosesBy, Judges, JudgesFirst, with_line, EndsLine, EndsFirst, BuffersTail, Takes, Finals, fault_from};
+ghost use Rattle.flow_text.specs.Reading.{told, Adds, HasRead, Refuses, FeedsBy, ClosesBy, Judges, JudgesFirst};
+ghost use Rattle.flow_text.specs.Reading.{with_line, EndsLine, EndsFirst, BuffersTail, Takes, Finals, fault_from};
 ghost use Rattle.flow_text.specs.declared.faults.ReadFault.{ReadFault};
 
 use crate::faults::{FaultCode, ReadFault};
@@ -29,12 +31,12 @@ pub(crate) trait Judge: Drop {
     ghost with_record: { Self → List (List ℕ) → Self };
 
     /// Judges the fields of the next line, and keeps what they say.
-    fn judge(&mut self, letter: &[u8], others: Fields<'_>) -> Result<(), Refusal>
+    fn judge_fields(&mut self, letter: &[u8], others: Fields<'_>) -> Result<(), Refusal>
         ensures { Judges (rules.record_fault self.old (letter.now ∷ others.entry))
             (with_record self.old (letter.now ∷ others.entry)) result self.new };
 
     /// Judges the first line of a text in one pass and keeps what it says, where it has the usual form and no fault,
-    /// and answers the place of its byte 10. Any other line is left to `judge`.
+    /// and answers the place of its byte 10. Any other line is left to `judge_fields`.
     fn judge_usual(&mut self, text: &[u8]) -> Result<Option<usize>, Refusal>
         ensures { JudgesFirst rules with_record self.old text.now result self.new };
 
@@ -115,7 +117,7 @@ fn judge_line<J: Judge>(judge: &mut J, line: &[u8]) -> Result<(), Refusal>
     let Some(letter) = others.next() else {
         return Ok(());
     };
-    judge.judge(letter, others)
+    judge.judge_fields(letter, others)
 }
 
 impl<J: Judge> Machine<J> {

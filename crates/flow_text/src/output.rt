@@ -13,9 +13,6 @@ use arrayvec::ArrayVec;
 use flow_net::Arc;
 use itoa::{Buffer, Integer, write_digits};
 
-#[cfg(test)]
-mod tests;
-
 /// No line is longer than this, in bytes.
 pub const MOST_LINE_BYTES: usize = 128;
 

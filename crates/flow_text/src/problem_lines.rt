@@ -1,16 +1,19 @@
 //! The judge of the lines of a problem.
-ghost use Rattle.std.specs.Prelude.{◌≡◌, ◌≤◌, [], ◌∷◌, ◌++◌, List, ℕ, Some, None, true, false, length, IfOk, IfSome, MatchOption, MatchResult};
+ghost use Rattle.std.specs.Prelude.{◌≡◌, ◌≤◌, [], ◌∷◌, ◌++◌, List, ℕ, Some, None, true, false, length, IfOk, IfSome};
+ghost use Rattle.std.specs.Prelude.{MatchOption, MatchResult};
 ghost use Rattle.flow_text.specs.Tests.{first_failed};
 ghost use Rattle.flow_text.specs.Terminals.{is_marked, with_mark};
-ghost use Rattle.flow_text.specs.Problem.{Known, known_of, size_tests, node_tests, arc_tests, end_tests, problem_rules, instance_of};
+ghost use Rattle.flow_text.specs.Problem.{Known, known_of, size_tests, node_tests, arc_tests, end_tests, problem_rules};
+ghost use Rattle.flow_text.specs.Problem.{instance_of};
 ghost use Rattle.flow_text.specs.ProblemReading.{problem_tests, mark_tests};
-ghost use Rattle.flow_text.specs.ProblemReading.{size_of, node_of, arc_of, KeepsArc, known_with, with_node, with_terminal, with_problem_record, known_net};
+ghost use Rattle.flow_text.specs.ProblemReading.{size_of, node_of, arc_of, KeepsArc, known_with, with_node};
+ghost use Rattle.flow_text.specs.ProblemReading.{with_terminal, with_problem_record, known_net};
 ghost use Rattle.flow_text.specs.Reading.{Judges};
 
 use crate::faults::FaultCode;
 use crate::line_fields::Fields;
 use crate::machine::{Judge, Refusal};
-use crate::records::{ends_in, number_in, three, two};
+use crate::records::{ends_in, is_word, number_in, three, two};
 use crate::terminals::Terminals;
 use crate::usual_lines::usual_line;
 use flow_net::{Arc, FEWEST_NODES, MOST_ARCS, MOST_NODES, Network, Problem};
@@ -294,12 +297,12 @@ impl Judge for ProblemLines {
 
     ghost with_record = { with_problem_record };
 
-    fn judge(&mut self, letter: &[u8], others: Fields<'_>) -> Result<(), Refusal> {
-        if letter == b"p".as_slice() {
+    fn judge_fields(&mut self, letter: &[u8], others: Fields<'_>) -> Result<(), Refusal> {
+        if is_word(letter, b"p") {
             self.problem_line(others)
-        } else if letter == b"n".as_slice() {
+        } else if is_word(letter, b"n") {
             self.node_line(others)
-        } else if letter == b"a".as_slice() {
+        } else if is_word(letter, b"a") {
             self.arc_line(others)
         } else {
             Err(Refusal::Code(FaultCode::UnknownLine))

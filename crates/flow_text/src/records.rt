@@ -1,5 +1,7 @@
 //! The fields of a line, one by one, and the numbers among them.
-ghost use Rattle.std.specs.Prelude.{◌≡◌, ◌<◌, ◌≤◌, ◌^◌, [], ◌∷◌, ℕ, List, false, Some, None, ◌==◌, length, IfOk, MatchOption, MatchResult};
+ghost use Rattle.std.specs.Prelude.{◌≡◌, ◌<◌, ◌≤◌, ◌^◌, [], ◌∷◌, ℕ, List, false, Some, None, ◌==◌, length, IfOk};
+ghost use Rattle.std.specs.Prelude.{MatchOption, MatchResult};
+ghost use Rattle.std.specs.Str.{bytes_eq};
 ghost use Rattle.flow_text.specs.Fields.{field_at};
 ghost use Rattle.flow_text.specs.Digits.{value_of};
 ghost use Rattle.flow_text.specs.Tests.{first_failed, number_tests, ends_tests};
@@ -9,6 +11,14 @@ use crate::line_fields::Fields;
 use crate::numbers::Number;
 use crate::scan::number;
 use flow_net::GREATEST_CAPACITY;
+
+/// Whether a field is a word.
+#[inline(always)]
+pub(crate) fn is_word(field: &[u8], word: &[u8]) -> bool
+    ensures { result ≡ bytes_eq field.now word.now }
+{
+    field == word
+}
 
 /// The three fields that are left, if there are as many.
 pub(crate) fn three<'a>(mut fields: Fields<'a>) -> Option<(&'a [u8], &'a [u8], &'a [u8])>

@@ -1,16 +1,18 @@
 //! The judge of the lines of a solution.
-ghost use Rattle.std.specs.Prelude.{◌≡◌, ◌≤◌, [], ◌∷◌, ◌++◌, List, ℕ, Some, None, is_some, true, length, IfOk, MatchResult};
+ghost use Rattle.std.specs.Prelude.{◌≡◌, ◌≤◌, [], ◌∷◌, ◌++◌, List, ℕ, Some, None, is_some, true, length, IfOk};
+ghost use Rattle.std.specs.Prelude.{MatchResult};
 ghost use Rattle.flow_text.specs.Tests.{first_failed};
 ghost use Rattle.flow_text.specs.Solution.{value_tests, flow_tests};
 ghost use Rattle.flow_text.specs.SolutionReading.{solution_tests, so_far_of, so_far_rules, stated_in};
-ghost use Rattle.flow_text.specs.SolutionReading.{given_of, flow_of, KeepsLine, with_solution_record, written_in, written_of, IsWithinLimits};
+ghost use Rattle.flow_text.specs.SolutionReading.{given_of, flow_of, KeepsLine, with_solution_record, written_in};
+ghost use Rattle.flow_text.specs.SolutionReading.{written_of, IsWithinLimits};
 ghost use Rattle.flow_text.specs.Reading.{Judges};
 
 use crate::faults::FaultCode;
 use crate::limits::{GREATEST_VALUE, MOST_FLOW_LINES};
 use crate::line_fields::Fields;
 use crate::machine::{Judge, Refusal};
-use crate::records::{ends_in, number_in, one};
+use crate::records::{ends_in, is_word, number_in, one};
 use crate::solutions::{FlowLine, Solution};
 use crate::usual_lines::usual_line;
 use std::alloc::Global;
@@ -155,10 +157,10 @@ impl Judge for SolutionLines {
 
     ghost with_record = { with_solution_record };
 
-    fn judge(&mut self, letter: &[u8], others: Fields<'_>) -> Result<(), Refusal> {
-        if letter == b"s".as_slice() {
+    fn judge_fields(&mut self, letter: &[u8], others: Fields<'_>) -> Result<(), Refusal> {
+        if is_word(letter, b"s") {
             self.solution_line(others)
-        } else if letter == b"f".as_slice() {
+        } else if is_word(letter, b"f") {
             self.flow_line(others)
         } else {
             Err(Refusal::Code(FaultCode::UnknownLine))

@@ -3,7 +3,8 @@ ghost use Rattle.std.specs.Prelude.{◌≡◌, ◌++◌, [], List, ℕ, Some, No
 ghost use Rattle.flow_text.specs.Lines.{ended};
 ghost use Rattle.flow_text.specs.Solution.{stated_of, solution};
 ghost use Rattle.flow_text.specs.Reading.{Refuses};
-ghost use Rattle.flow_text.specs.SolutionReading.{ReadsSolution, FeedsSolution, FinishesSolution, IsWithinLimits, written_in, lent_lines};
+ghost use Rattle.flow_text.specs.SolutionReading.{ReadsSolution, FeedsSolution, FinishesSolution, IsWithinLimits};
+ghost use Rattle.flow_text.specs.SolutionReading.{written_in, lent_lines};
 ghost use Rattle.flow_text.specs.declared.faults.ReadFault.{ReadFault};
 
 use crate::faults::ReadFault;

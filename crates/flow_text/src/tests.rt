@@ -1,6 +1,10 @@
 //! Texts that are refused, and the fields and numbers of a line.
 ghost use Rattle.std.specs.Prelude.{◌<◌};
 
+mod faults;
+mod output;
+mod reading;
+
 use super::*;
 use flow_net::Problem;
 use std::alloc::Global;
@@ -85,7 +89,7 @@ const NUMBERS: [(&[u8], u128, Number); 10] = [
 
 /// Reads a problem whose first piece has a given length, and the others at most another, and checks that a refusal
 /// stays.
-pub(crate) fn read_problem(
+fn read_problem(
     rt: &impl Abort,
     alloc: Global,
     text: &[u8],
@@ -112,7 +116,7 @@ pub(crate) fn read_problem(
 }
 
 /// The same of a solution to a problem of two nodes.
-pub(crate) fn read_solution(
+fn read_solution(
     rt: &impl Abort,
     alloc: Global,
     text: &[u8],

@@ -23,7 +23,7 @@ returns-in_default g c =
 -- any other line: the fault of its record
 pub returns : goal.returns
 returns g c =
-    Judges-along _ _ _ _ _ c.judge.result
+    Judges-along _ _ _ _ _ c.judge_fields.result
     (of_fields g.J.Judge.rules g.J.Judge.with_record _ _ _ _
     (sym c.begins_comment.ensures ∙ c.if-begins_comment.false) c.if-line-gt-LONGEST_LINE.false
-    (sym c.fields-others.ensures ∙ c.in-Some.ensures.steps)) c.judge.ensures
+    (sym c.fields-others.ensures ∙ c.in-Some.ensures.steps)) c.judge_fields.ensures

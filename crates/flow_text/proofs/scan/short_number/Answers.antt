@@ -1,5 +1,5 @@
 -- `short_number`: nineteen digits fit into 64 bits.
-use Rattle.std.proofs.Common.{arith, sym, ◌∙◌, ◌<◌, ◌+◌, ◌*◌, get_or, ap}
+use Rattle.std.proofs.Common.{arith, sym, ◌∙◌, get_or, ap}
 use Rattle.flow_text.proofs.DigitLemmas.{AreDigits-all, digit-le, AreDigits-more, Makes-more, fits-more, fits-nineteen}
 use Rattle.flow_text.proofs.DigitLemmas.{number_of-value, Makes-all}
 use Rattle.flow_text.specs.declared.numbers.Number.TheVariants.{Value}
@@ -8,16 +8,12 @@ use Rattle.flow_text.proofs.scan.short_number.Goals as goal
 -- no step overflows
 pub overflow_mul-value : goal.overflow_mul-value
 overflow_mul-value c =
-    let more : c.loop-byte.value * 10 + 9 < 10000000000000000000 =
-    fits-nineteen (c.loop-byte.byte-index + 1) _ (omega arith)
-    (fits-more _ _ 9 (omega arith) c.loop-byte.invariant.fits) in
+    let more = fits-nineteen c.loop-byte.byte-index c.loop-byte.value (omega arith) c.loop-byte.invariant.fits in
     omega arith
 
 pub overflow_add-value : goal.overflow_add-value
 overflow_add-value c =
-    let more : c.loop-byte.value * 10 + 9 < 10000000000000000000 =
-    fits-nineteen (c.loop-byte.byte-index + 1) _ (omega arith)
-    (fits-more _ _ 9 (omega arith) c.loop-byte.invariant.fits) in
+    let more = fits-nineteen c.loop-byte.byte-index c.loop-byte.value (omega arith) c.loop-byte.invariant.fits in
     let nine = digit-le (get_or c.args.field.now c.loop-byte.byte-index 0) (grind arith) in omega arith
 
 -- one more digit

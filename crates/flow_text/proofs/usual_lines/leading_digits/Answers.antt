@@ -1,6 +1,6 @@
 -- `leading_digits`: digits from the start on, at most nineteen, make the value.
 use Rattle.std.proofs.Common.{arith, ◌<◌, ◌≤◌, ◌≡◌, ◌+◌, ◌-◌, ◌*◌, get_or, drop, subst}
-use Rattle.flow_text.proofs.DigitLemmas.{fits-more, fits-nineteen, less_zero, is_digit-less_zero, less_zero-digit}
+use Rattle.flow_text.proofs.DigitLemmas.{fits-nineteen, less_zero, is_digit-less_zero, less_zero-digit}
 use Rattle.flow_text.specs.UsualLines.{IsLeading}
 use Rattle.flow_text.proofs.UsualLemmas.{IsLeading-none, IsLeading-at}
 use Rattle.flow_text.proofs.usual_lines.leading_digits.Goals as goal
@@ -15,16 +15,12 @@ loop-i-init c =
 -- no step overflows
 pub overflow_mul-value : goal.overflow_mul-value
 overflow_mul-value c =
-    let more : c.loop-i.value * 10 + 9 < 10000000000000000000 =
-    fits-nineteen (c.loop-i.i - c.args.start + 1) _ (omega arith)
-    (fits-more _ _ 9 (omega arith) c.loop-i.invariant.fits) in
+    let more = fits-nineteen (c.loop-i.i - c.args.start) c.loop-i.value (omega arith) c.loop-i.invariant.fits in
     omega arith
 
 pub overflow_add-value : goal.overflow_add-value
 overflow_add-value c =
-    let more : c.loop-i.value * 10 + 9 < 10000000000000000000 =
-    fits-nineteen (c.loop-i.i - c.args.start + 1) _ (omega arith)
-    (fits-more _ _ 9 (omega arith) c.loop-i.invariant.fits) in
+    let more = fits-nineteen (c.loop-i.i - c.args.start) c.loop-i.value (omega arith) c.loop-i.invariant.fits in
     omega arith
 
 -- one more digit: a byte less '0' that is at most 9

@@ -1,7 +1,8 @@
 -- `finish`: no fault, and the solution that the lines say; or the machine's fault.
 use Rattle.std.proofs.Common.{ap, sym, subst, ◌∙◌, ◌≡◌, ℕ}
 use Rattle.flow_text.specs.Solution.{solution}
-use Rattle.flow_text.specs.SolutionReading.{Written, written_of, SolutionSoFar, so_far_of, stated_in, IsWithinLimits, written_in}
+use Rattle.flow_text.specs.SolutionReading.{Written, written_of, SolutionSoFar, so_far_of, stated_in, IsWithinLimits}
+use Rattle.flow_text.specs.SolutionReading.{written_in}
 use Rattle.flow_text.proofs.EndLemmas.{accepted-fine, accepted-fault}
 use Rattle.flow_text.proofs.SolutionLemmas.{Adds-solution, whole-same}
 use Rattle.flow_text.proofs.solution_reader.SolutionReader.finish.Goals as goal

@@ -1,4 +1,5 @@
-use crate::FaultCode;
+//! The words of each fault.
+use super::*;
 
 /// The words of the faults of a problem.
 const PROBLEM_WORDS: [(FaultCode, &str); 17] = [

@@ -2,10 +2,6 @@
 ghost use Rattle.std.specs.Prelude.{◌<◌};
 
 use super::*;
-use crate::tests::{read_problem, read_solution};
-use std::alloc::Global;
-use std::process::Abort;
-use std::test::Fail;
 
 /// Problems of two nodes without arcs, whose source is node 1 and whose sink is node 2.
 const PROBLEMS: [&str; 4] = [

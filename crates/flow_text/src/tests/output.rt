@@ -1,7 +1,5 @@
-use crate::output::{
-    Line, arc_line, connect_line, fault_line, flow_line, node_line, solution_line, verdict_line,
-};
-use crate::{FaultCode, Verdict};
+//! The bytes of each output line, with small numbers and with the greatest.
+use super::*;
 use flow_net::Arc;
 
 fn is(line: &Line, text: &str) -> bool {

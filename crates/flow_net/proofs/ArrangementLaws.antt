@@ -24,7 +24,7 @@ use Rattle.flow_net.proofs.NodeLists.{terminals_apart}
 use Rattle.flow_net.proofs.MaxFlows.{greatest_is_least, least_is_greatest}
 
 -- a test of the ends of arcs
-ends_agree : (p q : Arc → Bool) (net : Net) → IsNet net → ((b : Arc) → IsArcWithin net.nodes b → p b ≡ q b)
+pub ends_agree : (p q : Arc → Bool) (net : Net) → IsNet net → ((b : Arc) → IsArcWithin net.nodes b → p b ≡ q b)
     → AllByRecursion (λ b. p b ≡ q b) net.arcs
 ends_agree p q net r h =
     recursion_from_All (λ b. p b ≡ q b) net.arcs
@@ -137,7 +137,7 @@ module _ (net other : Net) (names places : List ℕ) (a : IsArranged net other n
 
     -- ---- cuts
 
-    named_cut : (X Y : ℕ → Bool) → ((v : ℕ) → IsNode net v → Y (named names v) ≡ X v) → IsCut (one_of s) (one_of t) X
+    pub named_cut : (X Y : ℕ → Bool) → ((v : ℕ) → IsNode net v → Y (named names v) ≡ X v) → IsCut (one_of s) (one_of t) X
         → IsCut (one_of (all_named names s)) (one_of (all_named names t)) Y
     named_cut X Y h c = record {
       sources = λ w i.
@@ -148,7 +148,7 @@ module _ (net other : Net) (names places : List ℕ) (a : IsArranged net other n
           ap Y (sym v.2) ∙ h v.0 (node_among net t v.0 ends.sinks_within v.1) ∙ c.sinks v.0 v.1;
     }
 
-    unnamed_cut : (X Y : ℕ → Bool) → ((v : ℕ) → IsNode net v → Y (named names v) ≡ X v)
+    pub unnamed_cut : (X Y : ℕ → Bool) → ((v : ℕ) → IsNode net v → Y (named names v) ≡ X v)
         → IsCut (one_of (all_named names s)) (one_of (all_named names t)) Y → IsCut (one_of s) (one_of t) X
     unnamed_cut X Y h c = record {
       sources = λ v i.

@@ -37,7 +37,7 @@ cap_over_places p f (i ∷ is) =
     ∙ sym (sum_by-cons (λ j. cond (p (f j)) (f j).cap 0) i is)
 
 -- each place in turn gives the list again
-arcs_in_turn : (arcs : List Arc) → map (λ i. get_or arcs i no_arc) (range_with_len 0 (length arcs)) ≡ arcs
+pub arcs_in_turn : (arcs : List Arc) → map (λ i. get_or arcs i no_arc) (range_with_len 0 (length arcs)) ≡ arcs
 arcs_in_turn arcs = sym (fill_by_all (λ i. get_or arcs i no_arc) arcs (length arcs) no_arc refl (λ k l. refl))
 
 pub flows_in_turn : (xs : List ℕ) (n : ℕ) → length xs ≡ n → map (λ i. get_or xs i 0) (range_with_len 0 n) ≡ xs

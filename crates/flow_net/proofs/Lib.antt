@@ -14,5 +14,6 @@ pub mod Upgrades
 pub mod GrowthLemmas
 pub mod Arrangements
 pub mod ArrangementLaws
+pub mod ArrangedCounts
 pub mod Exchanges
 pub mod Namings

@@ -30,7 +30,7 @@ STARTS = [
 ]
 
 # The contract that stands above these, of which the page tells how many lines it takes more.
-CLOSED = [("crates/flow_tools/src/texts.rt", "pub fn run_on_texts", "\n{")]
+CLOSED = [("crates/flow_tools/src/running/texts.rt", "pub fn run_on_texts", "\n{")]
 
 # A name, with what stands before and behind its dots: a run of characters between blanks and brackets.
 WORD = re.compile(r"[^\s(){}\[\];:,]+")

@@ -4,16 +4,20 @@ ghost use Rattle.flow_net.specs.NodeSets.{one_of};
 ghost use Rattle.flow_net.specs.Flows.{Fits, IsFeasible};
 ghost use Rattle.flow_net.specs.GreatestFlows.{HasGreatestValue};
 ghost use Rattle.flow_text.specs.SolutionReading.{IsWithinLimits, written_in};
-ghost use Rattle.flow_tools.specs.SolutionFlows.{pair_flow, pair_cap};
-ghost use Rattle.flow_tools.specs.FeasibleSolutions.{IsFeasibleSolution, is_of_feasible};
-ghost use Rattle.flow_tools.specs.Verdicts.{IsVerdict, IsRight, IsWithinCapacities};
-ghost use Rattle.flow_tools.specs.ArcShares.{Carries, HasLessValue};
+ghost use Rattle.flow_tools.specs.checking.SolutionFlows.{pair_flow, pair_cap};
+ghost use Rattle.flow_tools.specs.checking.FeasibleSolutions.{IsFeasibleSolution, is_of_feasible};
+ghost use Rattle.flow_tools.specs.checking.Verdicts.{IsVerdict, IsRight, IsWithinCapacities};
+ghost use Rattle.flow_tools.specs.checking.ArcShares.{Carries, HasLessValue};
 
-use crate::node_flows::{first_unbalanced, node_flows, outflow_of_sources};
-use crate::sharing::{Shared, share_out};
+pub(crate) mod answers;
+mod node_flows;
+mod sharing;
+
 use flow_net::{FlowTable, Network, OutOfMemory, Problem};
 use flow_solve::{has_augmenting_path, work_len};
 use flow_text::{FlowLine, Solution, Verdict};
+use node_flows::{first_unbalanced, node_flows, outflow_of_sources};
+use sharing::{Shared, share_out};
 use std::alloc::Global;
 
 /// A pair's flow: the sum of the flows of its lines.

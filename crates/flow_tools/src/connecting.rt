@@ -9,7 +9,9 @@ ghost use Rattle.flow_net.specs.Flows.{Fits};
 ghost use Rattle.flow_net.specs.Connectivity.{leaving, IsProper};
 ghost use Rattle.flow_net.specs.LeastCuts.{IsConnectivity, IsPairConnectivity};
 ghost use Rattle.flow_solve.specs.Bounds.{work_cells};
-ghost use Rattle.flow_tools.specs.Degrees.{AreDegrees, next_node};
+ghost use Rattle.flow_tools.specs.connecting.Degrees.{AreDegrees, next_node};
+
+pub(crate) mod answers;
 
 use flow_net::{FlowTable, Network};
 use flow_solve::{Method, connectivity_by_growth, work_len};

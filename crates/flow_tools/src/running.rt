@@ -1,18 +1,23 @@
 //! The run of a job over its streams.
 ghost use Rattle.std.specs.Prelude.{◌≡◌, Err};
-ghost use Rattle.flow_tools.specs.AnswerExits.{IsTold, Runs};
-ghost use Rattle.flow_tools.specs.Exits.{EndsWith, ending};
-ghost use Rattle.flow_tools.specs.Streams.{over};
+ghost use Rattle.flow_tools.specs.running.AnswerExits.{IsTold, Runs};
+ghost use Rattle.flow_tools.specs.running.Exits.{EndsWith, ending};
+ghost use Rattle.flow_tools.specs.streams.Streams.{over};
 
-use crate::answers::{answer_cut, answer_solve};
-use crate::check_answers::answer_check;
-use crate::connect_answers::answer_connect;
-use crate::jobs::{ConnectForm, CutForm, Job, Stop};
-use crate::reading::{Role, read_all};
-use crate::sending::put_all;
+pub(crate) mod jobs;
+mod readers;
+pub(crate) mod reading;
+pub(crate) mod texts;
+
+use crate::checking::answers::answer_check;
+use crate::connecting::answers::answer_connect;
+use crate::solving::answers::{answer_cut, answer_solve};
+use crate::streams::sending::put_all;
 use crate::streams::{Input, Output};
 use flow_solve::Levels;
 use flow_text::{ProblemReader, fault_line};
+use jobs::{ConnectForm, CutForm, Job, Stop};
+use reading::{Role, read_all};
 use std::alloc::Global;
 
 /// Runs a job: reads the problem, puts the answer to `out`, and answers the status of the run. Where there is no

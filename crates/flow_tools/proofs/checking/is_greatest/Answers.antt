@@ -2,7 +2,7 @@
 use Rattle.std.proofs.Common.{subst}
 use Rattle.std.proofs.lemmas.Bool.{both_ways, not-false}
 use Rattle.flow_net.specs.Limits.{IsNet}
-use Rattle.flow_tools.proofs.Judging.{less_value}
+use Rattle.flow_tools.proofs.checking.Judging.{less_value}
 use Rattle.flow_tools.proofs.checking.is_greatest.Goals as goal
 
 pub returns-clause-less : goal.returns-clause-less

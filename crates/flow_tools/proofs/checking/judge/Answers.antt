@@ -3,8 +3,8 @@
 use Rattle.std.proofs.Common.{Bool, subst, refl, MatchOption}
 use Rattle.flow_net.specs.NodeSets.{one_of}
 use Rattle.flow_text.specs.SolutionReading.{written_in}
-use Rattle.flow_tools.specs.Verdicts.{IsRight, IsVerdict}
-use Rattle.flow_tools.proofs.Judging.{carried_within, carried_value, carried_feasible, greatest_value}
+use Rattle.flow_tools.specs.checking.Verdicts.{IsRight, IsVerdict}
+use Rattle.flow_tools.proofs.checking.Judging.{carried_within, carried_value, carried_feasible, greatest_value}
 use Rattle.flow_tools.proofs.checking.judge.Goals as goal
 
 pub wrong_sum-requires-clause-within : goal.wrong_sum-requires-clause-within

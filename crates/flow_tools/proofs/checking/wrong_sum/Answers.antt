@@ -5,11 +5,11 @@ use Rattle.std.proofs.lemmas.Grind.{get_or_default_zero}
 use Rattle.flow_net.specs.Nets.{Net}
 use Rattle.flow_net.specs.NodeSets.{one_of}
 use Rattle.flow_text.specs.declared.solutions.FlowLine.{FlowLine}
-use Rattle.flow_tools.specs.NodeSums.{AreNodeFlows, IsCellOf}
-use Rattle.flow_tools.specs.Verdicts.{IsBalanced}
-use Rattle.flow_tools.specs.FirstFaults.{IsFirstUnbalanced}
-use Rattle.flow_tools.proofs.LineSums.{line_flow-most}
-use Rattle.flow_tools.proofs.NodeSumLemmas.{cell_into, cell_out, sources_into, sources_out}
+use Rattle.flow_tools.specs.checking.NodeSums.{AreNodeFlows, IsCellOf}
+use Rattle.flow_tools.specs.checking.Verdicts.{IsBalanced}
+use Rattle.flow_tools.specs.checking.FirstFaults.{IsFirstUnbalanced}
+use Rattle.flow_tools.proofs.checking.LineSums.{line_flow-most}
+use Rattle.flow_tools.proofs.checking.NodeSumLemmas.{cell_into, cell_out, sources_into, sources_out}
 use Rattle.flow_tools.proofs.checking.wrong_sum.Goals as goal
 
 read : (n m : ℕ) (xs ys : List FlowLine) (into out : List ℕ) → n ≡ m → xs ≡ ys → AreNodeFlows n xs into out

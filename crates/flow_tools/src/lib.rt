@@ -13,6 +13,7 @@
 //! the page `specs/running/TextRuns.antt`: this is the call for a program of your own.
 #![tactic(auto)]
 
+mod cells;
 mod checking;
 mod connecting;
 mod laws;

@@ -16,7 +16,7 @@ use crate::streams::sending::put_all;
 use crate::streams::{Input, Output};
 use flow_solve::Levels;
 use flow_text::{ProblemReader, fault_line};
-use jobs::{ConnectForm, CutForm, Job, Stop};
+use jobs::{Job, Stop};
 use reading::{Role, read_all};
 use std::alloc::Global;
 
@@ -78,11 +78,9 @@ fn answer<I: Input, J: Input, O: Output>(
     };
     match job {
         Job::Solve { value_only } => answer_solve::<Levels, O>(alloc, problem, value_only, out),
-        Job::Cut { arcs, sink } => {
-            answer_cut::<Levels, O>(alloc, problem, CutForm { arcs, sink }, out)
-        }
+        Job::Cut { arcs, sink } => { answer_cut::<Levels, O>(alloc, problem, arcs, sink, out) }
         Job::Connect { undirected, pair } => {
-            answer_connect::<Levels, O>(alloc, problem, ConnectForm { undirected, pair }, out)
+            answer_connect::<Levels, O>(alloc, problem, undirected, pair, out)
         }
         Job::Check { feasible_only } => {
             answer_check(alloc, &problem, feasible_only, solution, out)

@@ -1,17 +1,20 @@
 -- What the flow lines add up to at each node, and at the sources.
-use Rattle.std.proofs.Common.{◌≡◌, ◌≢◌, ℕ, zero, suc, ◌+◌, ◌-◌, ◌≤◌, ◌<◌, Bool, true, false, cond, eqb, ◌||◌, List, []}
+use Rattle.std.proofs.Common.{◌≡◌, ◌≢◌, ℕ, zero, suc, ◌+◌, ◌-◌, ◌^◌, ◌≤◌, ◌<◌, Bool, true, false, cond, eqb, ◌||◌, List}
+use Rattle.std.proofs.Common.{[]}
 use Rattle.std.proofs.Common.{◌∷◌, ◌++◌, length, get_or, set, take, refl, ◌∙◌, sym, ap, subst, inl, inr, add-one}
 use Rattle.std.proofs.Common.{eq-eqb, sum_by, get_or-set_same, get_or-set_other, length-take, length-append, Option}
 use Rattle.std.proofs.Common.{Some, None, MatchOption, arith}
 use Rattle.std.specs.List.{All}
-use Rattle.std.proofs.lemmas.Bool.{cases_eq, ne_eqb, eqb-true, or_left, or_right, or_cases}
+use Rattle.std.proofs.lemmas.Bool.{cases_eq, ne_eqb, eqb-true, or_left, or_right}
 use Rattle.std.proofs.lemmas.List.{get_or_default, get_or_append_left}
-use Rattle.std.proofs.lemmas.List.Elements.{All-take, All-tail, All-head}
+use Rattle.std.proofs.lemmas.List.Elements.{All-take}
 use Rattle.std.proofs.lemmas.List.Sums.{sum_by-cons}
-use Rattle.flow_net.specs.Nets.{Instance, IsNode}
+use Rattle.flow_net.specs.Nets.{Instance}
 use Rattle.flow_net.specs.Limits.{IsProblem, AreDistinct}
 use Rattle.flow_net.specs.NodeSets.{one_of, just}
 use Rattle.flow_net.specs.MarkedNodes.{marked}
+use Rattle.flow_net.proofs.Arrangements.{node_among}
+use Rattle.flow_net.proofs.NodeLists.{one_of-here, one_of-other}
 use Rattle.flow_text.specs.SolutionReading.{IsLineWithin}
 use Rattle.flow_text.specs.declared.solutions.FlowLine.{FlowLine}
 use Rattle.flow_text.specs.declared.limits.TheConstants.{MOST_FLOW_LINES, GREATEST_VALUE}
@@ -24,19 +27,6 @@ use Rattle.flow_tools.specs.checking.NodeSums.{IsCellOf, at_node, AreNodeFlows, 
 use Rattle.flow_tools.proofs.checking.LineSums.{line_flow-most, line_flow-cons, line_flow_agree}
 
 -- ---- marks
-
--- a list with one node more has this node, and of any other what it had before
-one_of-here : (ws : List ℕ) (k : ℕ) → k < length ws → one_of (take (suc k) ws) (get_or ws k 0) ≡ true
-one_of-here [] k l = absurd (omega arith)
-one_of-here (w ∷ ws) zero l = or_left (eqb w w) (one_of (take 0 ws) w) (eq-eqb w w refl)
-one_of-here (w ∷ ws) (suc k) l =
-    or_right (eqb w (get_or ws k 0)) (one_of (take (suc k) ws) (get_or ws k 0)) (one_of-here ws k (omega arith))
-
-one_of-other : (ws : List ℕ) (k v : ℕ) → k < length ws → v ≢ get_or ws k 0
-    → one_of (take (suc k) ws) v ≡ one_of (take k ws) v
-one_of-other [] k v l n = absurd (omega arith)
-one_of-other (w ∷ ws) zero v l n = grind (arith, ne_eqb w v)
-one_of-other (w ∷ ws) (suc k) v l n = let old = one_of-other ws k v (omega arith) n in cc
 
 -- a cell that is set marks its node, and leaves the other marks as they were
 marked-same : (cells : List Bool) (v : ℕ) → 1 ≤ v → v ≤ length cells → marked (set cells (v - 1) true) v ≡ true
@@ -110,49 +100,28 @@ apart_step : (ws : List ℕ) (w v : ℕ) → one_of ws w ≡ false → eqb w v �
 apart_step ws w v n e = subst (λ z. one_of ws z ≡ false) (eqb-true w v e) n
 
 -- a test of equality, either way round
-turned : (w v : ℕ) → eqb w v ≡ just w v
+pub turned : (w v : ℕ) → eqb w v ≡ just w v
 turned w v = elim (cases_eq w v) [
   | inl e ↦ eq-eqb w v e ∙ sym (eq-eqb v w (sym e))
   | inr n ↦ ne_eqb w v n ∙ sym (ne_eqb v w (λ e. n (sym e)))
 ]
 
--- what leaves the nodes of a list, none twice
-pub out_of_all : (lines : List FlowLine) (f : ℕ → ℕ) (ws : List ℕ)
-    → ((v : ℕ) → one_of ws v ≡ true → f v ≡ lines_out_of (just v) lines) → AreDistinct ws
-    → sum_by f ws ≡ lines_out_of (one_of ws) lines
-out_of_all lines f [] h d = sym (no_flow lines)
-out_of_all lines f (w ∷ ws) h d =
+-- what begins, or ends, at the nodes of a list, none twice: `at` picks one of a line's two nodes
+pub sum_of_all : (at : ℕ → ℕ → ℕ) (lines : List FlowLine) (f : ℕ → ℕ) (ws : List ℕ)
+    → ((v : ℕ) → one_of ws v ≡ true → f v ≡ line_flow (λ a b. just v (at a b)) lines) → AreDistinct ws
+    → sum_by f ws ≡ line_flow (λ a b. one_of ws (at a b)) lines
+sum_of_all at lines f [] h d = sym (no_flow lines)
+sum_of_all at lines f (w ∷ ws) h d =
     let none : one_of ws w ≡ false = not_one_of ws w (λ j l. d 0 (suc j) (omega arith) (omega arith)) in
-    let rest = out_of_all lines f ws (λ v e. h v (or_right (eqb w v) (one_of ws v) e))
+    let rest = sum_of_all at lines f ws (λ v e. h v (or_right (eqb w v) (one_of ws v) e))
     (λ i j l k. d (suc i) (suc j) (omega arith) (omega arith)) in
-    let both = union_flow (λ u v. eqb w u) (λ u v. one_of ws u) lines (λ u v e. apart_step ws w u none e) in
+    let both = union_flow (λ a b. eqb w (at a b)) (λ a b. one_of ws (at a b)) lines
+    (λ a b e. apart_step ws w (at a b) none e) in
     let here = h w (or_left (eqb w w) (one_of ws w) (eq-eqb w w refl)) in
-    let same = line_flow_agree (λ u v. eqb w u) (λ u v. just w u) lines (λ u v. turned w u) in
-    omega (arith, sum_by-cons f w ws, rest, both, here, same)
-
--- what enters the nodes of a list, none twice
-pub into_all : (lines : List FlowLine) (f : ℕ → ℕ) (ws : List ℕ)
-    → ((v : ℕ) → one_of ws v ≡ true → f v ≡ lines_into (just v) lines) → AreDistinct ws
-    → sum_by f ws ≡ lines_into (one_of ws) lines
-into_all lines f [] h d = sym (no_flow lines)
-into_all lines f (w ∷ ws) h d =
-    let none : one_of ws w ≡ false = not_one_of ws w (λ j l. d 0 (suc j) (omega arith) (omega arith)) in
-    let rest = into_all lines f ws (λ v e. h v (or_right (eqb w v) (one_of ws v) e))
-    (λ i j l k. d (suc i) (suc j) (omega arith) (omega arith)) in
-    let both = union_flow (λ u v. eqb w v) (λ u v. one_of ws v) lines (λ u v e. apart_step ws w v none e) in
-    let here = h w (or_left (eqb w w) (one_of ws w) (eq-eqb w w refl)) in
-    let same = line_flow_agree (λ u v. eqb w v) (λ u v. just w v) lines (λ u v. turned w v) in
+    let same = line_flow_agree (λ a b. eqb w (at a b)) (λ a b. just w (at a b)) lines (λ a b. turned w (at a b)) in
     omega (arith, sum_by-cons f w ws, rest, both, here, same)
 
 -- ---- the sources
-
--- what holds of each node of a list holds of a node that is one of it
-one_of-all : (P : ℕ → Type 0) (ws : List ℕ) (v : ℕ) → All P ws → one_of ws v ≡ true → P v
-one_of-all P [] v h e = cc
-one_of-all P (w ∷ ws) v h e = elim (or_cases (eqb w v) (one_of ws v) e) [
-  | inl here ↦ subst P (eqb-true w v here) (All-head P w ws h)
-  | inr later ↦ one_of-all P ws v (All-tail P w ws h) later
-]
 
 -- a beginning of a list without repetition has none
 distinct_front : (xs ys : List ℕ) → AreDistinct (xs ++ ys) → AreDistinct xs
@@ -177,16 +146,29 @@ cell_out nodes lines into out v f at =
 pub sources_out : (p : Instance) (lines : List FlowLine) (into out : List ℕ) → IsProblem p
     → AreNodeFlows p.net.nodes lines into out → sum_by (at_node out) p.sources ≡ lines_out_of (one_of p.sources) lines
 sources_out p lines into out t f =
-    out_of_all lines (at_node out) p.sources (λ v e. cell_out p.net.nodes lines into out v f
-    (one_of-all (IsNode p.net) p.sources v t.terminals.sources_within e))
-    (distinct_front p.sources p.sinks t.terminals.distinct)
+    sum_of_all (λ a b. a) lines (at_node out) p.sources (λ v e. cell_out p.net.nodes lines into out v f
+    (node_among p.net p.sources v t.terminals.sources_within e)) (distinct_front p.sources p.sinks t.terminals.distinct)
 
 pub sources_into : (p : Instance) (lines : List FlowLine) (into out : List ℕ) → IsProblem p
     → AreNodeFlows p.net.nodes lines into out → sum_by (at_node into) p.sources ≡ lines_into (one_of p.sources) lines
 sources_into p lines into out t f =
-    into_all lines (at_node into) p.sources (λ v e. cell_into p.net.nodes lines into out v f
-    (one_of-all (IsNode p.net) p.sources v t.terminals.sources_within e))
-    (distinct_front p.sources p.sinks t.terminals.distinct)
+    sum_of_all (λ a b. b) lines (at_node into) p.sources (λ v e. cell_into p.net.nodes lines into out v f
+    (node_among p.net p.sources v t.terminals.sources_within e)) (distinct_front p.sources p.sinks t.terminals.distinct)
+
+-- which have room in a signed number
+pub sources_fit : (p : Instance) (lines : List FlowLine) (into out : List ℕ) → IsProblem p
+    → AreNodeFlows p.net.nodes lines into out → All (IsLineWithin p.net.nodes) lines
+    → length lines ≤ MOST_FLOW_LINES
+    → (sum_by (at_node into) p.sources < 2 ^ 127) × (sum_by (at_node out) p.sources < 2 ^ 127)
+sources_fit p lines into out t f w few = (
+  omega (
+    arith,
+    sources_into p lines into out t f,
+    line_flow-most (λ u v. one_of p.sources v) p.net.nodes lines w,
+    few,
+  ),
+  omega (arith, sources_out p lines into out t f, line_flow-most (λ u v. one_of p.sources u) p.net.nodes lines w, few),
+)
 
 -- ---- the balance at the nodes
 

@@ -1,6 +1,6 @@
 -- What enters and what leaves a node, as sums of what the pairs of nodes carry.
 use Rattle.std.proofs.Common.{◌≡◌, ℕ, zero, suc, ◌+◌, ◌≤◌, ◌<◌, ◌↔◌, Bool, true, false, cond, eqb, ◌&&◌, List, [], ◌∷◌}
-use Rattle.std.proofs.Common.{refl, ◌∙◌, sym, inl, inr, eq-eqb, Result, Ok, Err, IfOk, arith}
+use Rattle.std.proofs.Common.{refl, ◌∙◌, sym, ap, inl, inr, eq-eqb, Result, Ok, Err, IfOk, arith}
 use Rattle.std.specs.List.{AllByRecursion}
 use Rattle.std.proofs.lemmas.Bool.{cases_eq, ne_eqb}
 use Rattle.std.proofs.lemmas.List.Elements.{recursion_from_All}
@@ -9,7 +9,7 @@ use Rattle.flow_net.specs.declared.networks.OutOfMemory.{OutOfMemory}
 use Rattle.flow_net.specs.Nets.{Instance}
 use Rattle.flow_net.specs.Limits.{IsNet, IsArcWithin}
 use Rattle.flow_net.specs.NodeSets.{just}
-use Rattle.flow_net.specs.Flows.{flow_over, out_of, into, Fits}
+use Rattle.flow_net.specs.Flows.{flow_over, into, Fits}
 use Rattle.flow_net.proofs.Zips.{zip_from_fits}
 use Rattle.flow_net.proofs.Cuts.{flow_over-le-cap_over}
 use Rattle.flow_text.specs.SolutionReading.{Written}
@@ -18,13 +18,15 @@ use Rattle.flow_text.specs.declared.solutions.FlowLine.{FlowLine}
 use Rattle.flow_text.specs.declared.verdicts.Verdict.{Verdict}
 use Rattle.flow_text.specs.declared.verdicts.Verdict.TheVariants.{Over, Unbalanced, Value, Feasible, NotMaximal}
 use Rattle.flow_text.specs.declared.verdicts.Verdict.TheVariants.{Optimal}
-use Rattle.flow_tools.specs.checking.SolutionFlows.{pair_flow, lines_into, lines_out_of}
+use Rattle.flow_tools.specs.checking.SolutionFlows.{pair_flow}
 use Rattle.flow_tools.specs.checking.ArcShares.{is_pair}
 use Rattle.flow_tools.specs.checking.FeasibleSolutions.{IsFeasibleSolution, is_of_feasible}
 use Rattle.flow_tools.specs.checking.Verdicts.{IsWithinCapacities, IsBalanced, IsVerdict}
 use Rattle.flow_tools.specs.checking.FirstFaults.{IsFirstOver}
 use Rattle.flow_tools.specs.checking.ArcShares.{Carries}
+use Rattle.flow_tools.specs.checking.LineFlows.{line_flow}
 use Rattle.flow_tools.proofs.checking.LineSums.{line_flow-cons}
+use Rattle.flow_tools.proofs.checking.NodeSumLemmas.{turned}
 use Rattle.flow_tools.proofs.checking.Judging.{carried_feasible}
 
 -- the sum over the nodes 1 to n
@@ -68,107 +70,59 @@ sum_to_point (suc n) w x l h = elim (cases_eq (suc n) w) [
   | inr d ↦ else_at (eqb (suc n) w) _ x x (ne_eqb (suc n) w d) (sum_to_point n w x l (omega arith))
 ]
 
--- a test of both nodes where one is known
-both_yes : (b c : Bool) (x : ℕ) → c ≡ true → cond (b && c) x 0 ≡ cond b x 0
-both_yes b c x e = grind arith
+-- an amount at one node w alone, if at all
+point_if : (n w x : ℕ) (b : Bool) (f : ℕ → Bool) → 1 ≤ w → w ≤ n → ((u : ℕ) → f u ≡ (b && eqb u w))
+    → sum_to n (λ u. cond (f u) x 0) ≡ cond b x 0
+point_if n w x true f l h e =
+    sum_to_agree n (λ u. cond (f u) x 0) (λ u. cond (eqb u w) x 0) (λ u. ap (λ c. cond c x 0) (e u))
+    ∙ sum_to_point n w x l h
+point_if n w x false f l h e =
+    sum_to_agree n (λ u. cond (f u) x 0) (λ u. 0) (λ u. ap (λ c. cond c x 0) (e u)) ∙ sum_to_zero n
 
-both_no : (b c : Bool) (x : ℕ) → c ≡ false → cond (b && c) x 0 ≡ 0
-both_no b c x e = grind arith
+-- of the tests P w, for the nodes w, exactly one passes where Q does, and none where it doesn't
+abbrev Parts : ℕ → (ℕ → ℕ → ℕ → Bool) → (ℕ → ℕ → Bool) → Type 0
+Parts n P Q = (s t x : ℕ) → 1 ≤ s → s ≤ n → 1 ≤ t → t ≤ n → sum_to n (λ w. cond (P w s t) x 0) ≡ cond (Q s t) x 0
 
-first_yes : (b c : Bool) (x : ℕ) → b ≡ true → cond (b && c) x 0 ≡ cond c x 0
-first_yes b c x e = grind arith
+-- so the pairs that end at v part what ends at v, and the pairs that begin at u what begins at u
+into_parts : (n v : ℕ) → Parts n (λ u. is_pair u v) (λ s t. just v t)
+into_parts n v s t x l h k m =
+    point_if n s x (just v t) (λ u. is_pair u v s t) l h
+    (λ u. swap (eqb u s) (eqb v t) ∙ ap (λ c. c && eqb u s) (turned v t))
+  where
+    swap : (b c : Bool) → (b && c) ≡ (c && b)
+    swap b c = grind arith
 
-first_no : (b c : Bool) (x : ℕ) → b ≡ false → cond (b && c) x 0 ≡ 0
-first_no b c x e = grind arith
+out_parts : (n u : ℕ) → Parts n (λ v. is_pair u v) (λ s t. just u s)
+out_parts n u s t x l h k m =
+    point_if n t x (just u s) (λ v. is_pair u v s t) k m (λ v. ap (λ c. c && eqb v t) (turned u s))
 
--- an amount where its test is known
-cond_yes : (b : Bool) (x : ℕ) → b ≡ true → cond b x 0 ≡ x
-cond_yes b x e = grind arith
+module _ (n : ℕ) (P : ℕ → ℕ → ℕ → Bool) (Q : ℕ → ℕ → Bool) (parts : Parts n P Q) where
+  -- what the lines say where Q passes is the sum of what they say by the parts
+  lines_sum : (lines : List FlowLine) → AllByRecursion (IsLineWithin n) lines
+      → line_flow Q lines ≡ sum_to n (λ w. line_flow (P w) lines)
+  lines_sum [] h = sym (sum_to_zero n)
+  lines_sum (x ∷ lines) h =
+      line_flow-cons Q x lines ∙ omega (
+        arith,
+        parts x.src x.dst x.flow h.0.src_least h.0.src_most h.0.dst_least h.0.dst_most,
+        lines_sum lines h.1,
+        sum_to_add n (λ w. cond (P w x.src x.dst) x.flow 0) (λ w. line_flow (P w) lines),
+        sum_to_agree n (λ w. line_flow (P w) (x ∷ lines))
+            (λ w. cond (P w x.src x.dst) x.flow 0 + line_flow (P w) lines) (λ w. line_flow-cons (P w) x lines),
+      )
 
-cond_no : (b : Bool) (x : ℕ) → b ≡ false → cond b x 0 ≡ 0
-cond_no b x e = grind arith
-
--- of the pairs that end, that begin at v, one has the amount
-into_point : (n v s t x : ℕ) → 1 ≤ s → s ≤ n → sum_to n (λ u. cond (is_pair u v s t) x 0) ≡ cond (eqb t v) x 0
-into_point n v s t x l h = elim (cases_eq t v) [
-  | inl e ↦
-      sum_to_agree n (λ u. cond (is_pair u v s t) x 0) (λ u. cond (eqb u s) x 0)
-      (λ u. both_yes (eqb u s) (eqb v t) x (eq-eqb v t (sym e))) ∙ sum_to_point n s x l h
-      ∙ sym (cond_yes (eqb t v) x (eq-eqb t v e))
-  | inr d ↦
-      sum_to_agree n (λ u. cond (is_pair u v s t) x 0) (λ u. 0)
-      (λ u. both_no (eqb u s) (eqb v t) x (ne_eqb v t (λ e. d (sym e)))) ∙ sum_to_zero n
-      ∙ sym (cond_no (eqb t v) x (ne_eqb t v d))
-]
-
--- and of the pairs that begin, that end at v
-out_point : (n u s t x : ℕ) → 1 ≤ t → t ≤ n → sum_to n (λ v. cond (is_pair u v s t) x 0) ≡ cond (eqb s u) x 0
-out_point n u s t x l h = elim (cases_eq s u) [
-  | inl e ↦
-      sum_to_agree n (λ v. cond (is_pair u v s t) x 0) (λ v. cond (eqb v t) x 0)
-      (λ v. first_yes (eqb u s) (eqb v t) x (eq-eqb u s (sym e))) ∙ sum_to_point n t x l h
-      ∙ sym (cond_yes (eqb s u) x (eq-eqb s u e))
-  | inr d ↦
-      sum_to_agree n (λ v. cond (is_pair u v s t) x 0) (λ v. 0)
-      (λ v. first_no (eqb u s) (eqb v t) x (ne_eqb u s (λ e. d (sym e)))) ∙ sum_to_zero n
-      ∙ sym (cond_no (eqb s u) x (ne_eqb s u d))
-]
-
--- what the lines bring into a node is the sum of what they say of the pairs that end there
-lines_into_sum : (n v : ℕ) (lines : List FlowLine) → AllByRecursion (IsLineWithin n) lines
-    → lines_into (just v) lines ≡ sum_to n (λ u. pair_flow lines u v)
-lines_into_sum n v [] h = sym (sum_to_zero n)
-lines_into_sum n v (x ∷ lines) h =
-    line_flow-cons (λ a b. just v b) x lines ∙ omega (
-      arith,
-      into_point n v x.src x.dst x.flow h.0.src_least h.0.src_most,
-      lines_into_sum n v lines h.1,
-      sum_to_add n (λ u. cond (is_pair u v x.src x.dst) x.flow 0) (λ u. pair_flow lines u v),
-      sum_to_agree n (λ u. pair_flow (x ∷ lines) u v)
-          (λ u. cond (is_pair u v x.src x.dst) x.flow 0 + pair_flow lines u v)
-          (λ u. line_flow-cons (is_pair u v) x lines),
-    )
-
--- what they take out of a node is the sum of what they say of the pairs that begin there
-lines_out_sum : (n u : ℕ) (lines : List FlowLine) → AllByRecursion (IsLineWithin n) lines
-    → lines_out_of (just u) lines ≡ sum_to n (λ v. pair_flow lines u v)
-lines_out_sum n u [] h = sym (sum_to_zero n)
-lines_out_sum n u (x ∷ lines) h =
-    line_flow-cons (λ a b. just u a) x lines ∙ omega (
-      arith,
-      out_point n u x.src x.dst x.flow h.0.dst_least h.0.dst_most,
-      lines_out_sum n u lines h.1,
-      sum_to_add n (λ v. cond (is_pair u v x.src x.dst) x.flow 0) (λ v. pair_flow lines u v),
-      sum_to_agree n (λ v. pair_flow (x ∷ lines) u v)
-          (λ v. cond (is_pair u v x.src x.dst) x.flow 0 + pair_flow lines u v)
-          (λ v. line_flow-cons (is_pair u v) x lines),
-    )
-
--- and so it is with a flow on the arcs
-into_sum : (n v : ℕ) (arcs : List Arc) (xs : List ℕ) → AllByRecursion (IsArcWithin n) arcs
-    → into (just v) arcs xs ≡ sum_to n (λ u. flow_over (λ a. is_pair u v a.src a.dst) arcs xs)
-into_sum n v [] xs h = sym (sum_to_zero n)
-into_sum n v (a ∷ arcs) [] h = sym (sum_to_zero n)
-into_sum n v (a ∷ arcs) (x ∷ xs) h =
-    omega (
-      arith,
-      into_point n v a.src a.dst x h.0.src_least h.0.src_most,
-      into_sum n v arcs xs h.1,
-      sum_to_add n (λ u. cond (is_pair u v a.src a.dst) x 0) (λ u. flow_over (λ b. is_pair u v b.src b.dst) arcs xs),
-    )
-
--- and out of a node
-out_sum : (n u : ℕ) (arcs : List Arc) (xs : List ℕ) → AllByRecursion (IsArcWithin n) arcs
-    → out_of (just u) arcs xs ≡ sum_to n (λ v. flow_over (λ a. is_pair u v a.src a.dst) arcs xs)
-out_sum n u [] xs h = sym (sum_to_zero n)
-out_sum n u (a ∷ arcs) [] h = sym (sum_to_zero n)
-out_sum n u (a ∷ arcs) (x ∷ xs) h =
-    omega (
-      arith,
-      out_point n u a.src a.dst x h.0.dst_least h.0.dst_most,
-      out_sum n u arcs xs h.1,
-      sum_to_add n (λ v. cond (is_pair u v a.src a.dst) x 0) (λ v. flow_over (λ b. is_pair u v b.src b.dst) arcs xs),
-    )
+  -- and so it is with a flow on the arcs
+  arcs_sum : (arcs : List Arc) (xs : List ℕ) → AllByRecursion (IsArcWithin n) arcs
+      → flow_over (λ a. Q a.src a.dst) arcs xs ≡ sum_to n (λ w. flow_over (λ a. P w a.src a.dst) arcs xs)
+  arcs_sum [] xs h = sym (sum_to_zero n)
+  arcs_sum (a ∷ arcs) [] h = sym (sum_to_zero n)
+  arcs_sum (a ∷ arcs) (x ∷ xs) h =
+      omega (
+        arith,
+        parts a.src a.dst x h.0.src_least h.0.src_most h.0.dst_least h.0.dst_most,
+        arcs_sum arcs xs h.1,
+        sum_to_add n (λ w. cond (P w a.src a.dst) x 0) (λ w. flow_over (λ b. P w b.src b.dst) arcs xs),
+      )
 
 -- ---- solutions that some feasible flow carries
 
@@ -187,12 +141,14 @@ pub feasible_balanced : (p : Instance) (w : Written) → IsNet p.net → IsWithi
 feasible_balanced p w n l s v at =
     let arcs = recursion_from_All (IsArcWithin p.net.nodes) p.net.arcs n.arcs_within in
     let lines = recursion_from_All (IsLineWithin p.net.nodes) w.lines l.lines_within in
+    let ends : ℕ → ℕ → ℕ → Bool = λ u. is_pair u v in
+    let begins : ℕ → ℕ → ℕ → Bool = λ u. is_pair v u in
     omega (
       arith,
-      lines_into_sum p.net.nodes v w.lines lines,
-      lines_out_sum p.net.nodes v w.lines lines,
-      into_sum p.net.nodes v p.net.arcs s.0 arcs,
-      out_sum p.net.nodes v p.net.arcs s.0 arcs,
+      lines_sum p.net.nodes ends (λ a b. just v b) (into_parts p.net.nodes v) w.lines lines,
+      lines_sum p.net.nodes begins (λ a b. just v a) (out_parts p.net.nodes v) w.lines lines,
+      arcs_sum p.net.nodes ends (λ a b. just v b) (into_parts p.net.nodes v) p.net.arcs s.0 arcs,
+      arcs_sum p.net.nodes begins (λ a b. just v a) (out_parts p.net.nodes v) p.net.arcs s.0 arcs,
       sum_to_agree p.net.nodes (λ u. flow_over (λ a. is_pair u v a.src a.dst) p.net.arcs s.0)
           (λ u. pair_flow w.lines u v) (λ u. s.2 u v),
       sum_to_agree p.net.nodes (λ u. flow_over (λ a. is_pair v u a.src a.dst) p.net.arcs s.0)

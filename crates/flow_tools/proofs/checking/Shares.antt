@@ -21,10 +21,12 @@ use Rattle.flow_tools.specs.checking.LineFlows.{line_flow}
 use Rattle.flow_tools.specs.checking.ArcShares.{is_pair}
 use Rattle.flow_tools.specs.checking.FirstFaults.{IsFirstOver}
 use Rattle.flow_tools.specs.checking.ArcShares.{IsBefore}
-use Rattle.flow_tools.specs.checking.ArcShares.{pair_rank, place_rank, line_rank, place_of, AreArcPlaces, AreOrderedArcs}
+use Rattle.flow_tools.specs.checking.ArcShares.{pair_rank, place_rank, line_rank, place_of, AreArcPlaces}
+use Rattle.flow_tools.specs.checking.ArcShares.{AreOrderedArcs}
 use Rattle.flow_tools.specs.checking.ArcShares.{arc_flow, Carries, HasMore, IsFull, ArePassed}
 use Rattle.flow_tools.specs.declared.checking.sharing.ArcPlace.{ArcPlace}
-use Rattle.flow_tools.proofs.checking.LineSums.{line_flow_more, line_flow-take-drop, line_flow_none, line_flow-IsPermutation}
+use Rattle.flow_tools.proofs.checking.LineSums.{line_flow_more, line_flow-take-drop, line_flow_none}
+use Rattle.flow_tools.proofs.checking.LineSums.{line_flow-IsPermutation}
 use Rattle.flow_tools.proofs.checking.ArcSums.{full_over, set_more, more_twice, more_none}
 
 -- ---- places in order

@@ -1,13 +1,13 @@
 -- Connectivity by solves: degrees, pairs of nodes, and the least over all.
-use Rattle.std.proofs.Common.{◌≡◌, ◌≢◌, ℕ, ◌+◌, ◌-◌, ◌≤◌, ◌<◌, ◌⊎◌, Bool, true, false, not, ◌&&◌, cond, eqb, List, []}
+use Rattle.std.proofs.Common.{◌≡◌, ◌≢◌, ℕ, ◌+◌, ◌-◌, ◌≤◌, ◌<◌, ◌⊎◌, Bool, true, false, not, ◌&&◌, eqb, List, []}
 use Rattle.std.proofs.Common.{◌∷◌, length, map, take, set, get_or, min, refl, ◌∙◌, sym, ap, subst, inl, inr, eq-eqb}
 use Rattle.std.proofs.Common.{get_or-set_same, get_or-set_other, length-take, arith}
 use Rattle.std.specs.Prelude.{slice_index}
 use Rattle.std.proofs.Math.Nat.{min-eq_left, min-eq_right}
 use Rattle.std.specs.List.{All, AllByRecursion, count_by}
 use Rattle.std.proofs.lemmas.Bool.{cases_eq, cases_lt, ne_eqb}
-use Rattle.std.proofs.lemmas.List.Elements.{recursion_from_All}
-use Rattle.std.proofs.lemmas.List.Sums.{count_by-le-length, count_by_more_no, count_by_more_yes, sum_by-cons}
+use Rattle.std.proofs.lemmas.List.Elements.{recursion_from_All, filter_agree}
+use Rattle.std.proofs.lemmas.List.Sums.{count_by-le-length, count_by_more_no, count_by_more_yes, length-filter}
 use Rattle.flow_net.specs.declared.networks.Arc.{Arc}
 use Rattle.flow_net.specs.Nets.{Net, IsNode}
 use Rattle.flow_net.specs.Arcs.{no_arc}
@@ -215,21 +215,14 @@ others_are_proper net v n at =
       outside = (v, at.0, at.1, (let e = just_self v in rw e refl));
     }
 
--- tests that agree count the same
-count_by_agree : (p q : Arc → Bool) (arcs : List Arc) → ((a : Arc) → p a ≡ q a) → count_by p arcs ≡ count_by q arcs
-count_by_agree p q [] e = refl
-count_by_agree p q (a ∷ arcs) e =
-    rw (
-      sum_by-cons (λ b. cond (p b) 1 0) a arcs,
-      sum_by-cons (λ b. cond (q b) 1 0) a arcs,
-      e a,
-      count_by_agree p q arcs e,
-    ) refl
-
 -- what leaves all but a node enters the node
 pub leaving_others : (net : Net) (v : ℕ) → leaving net (λ w. not (just v w)) ≡ count_by (enters (just v)) net.arcs
 leaving_others net v =
-    count_by_agree (leaves (λ w. not (just v w))) (enters (just v)) net.arcs (λ a. turned (just v a.src) (just v a.dst))
+    let p : Arc → Bool = leaves (λ w. not (just v w)) in
+    let q : Arc → Bool = enters (just v) in
+    sym (length-filter p net.arcs)
+    ∙ ap length (filter_agree p q (λ a. turned (just v a.src) (just v a.dst)) net.arcs)
+    ∙ length-filter q net.arcs
   where
     turned : (p q : Bool) → (not p && not (not q)) ≡ (q && not p)
     turned true true = refl

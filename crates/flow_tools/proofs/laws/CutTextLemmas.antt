@@ -1,9 +1,7 @@
 -- The laws of printed cuts. A set that is nearest the sources or the sinks is closed for a greatest flow, since every
 -- minimum cut is: so it is a minimum cut.
 use Rattle.std.proofs.Common.{true≢false, ◌≡◌, ℕ, Bool, true, false, not, List, refl, sym, subst, ◌∙◌, inl, inr, arith}
-use Rattle.std.specs.List.{All}
 use Rattle.std.proofs.lemmas.Bool.{cases_Bool}
-use Rattle.std.proofs.lemmas.List.Elements.{All-get_or}
 use Rattle.flow_net.specs.Nets.{Net, IsNode}
 use Rattle.flow_net.specs.Limits.{IsNet}
 use Rattle.flow_net.specs.NodeSets.{one_of}
@@ -11,18 +9,14 @@ use Rattle.flow_net.specs.Flows.{IsFeasible, HasValue}
 use Rattle.flow_net.specs.Cuts.{IsCut, capacity, IsMinimumCut}
 use Rattle.flow_net.specs.LeastCuts.{IsLeastCapacity}
 use Rattle.flow_net.specs.Residual.{IsClosed, tail_of, head_of}
+use Rattle.flow_net.proofs.Arrangements.{node_among}
 use Rattle.flow_net.proofs.Cuts.{value_closed, closed_minimum, strong_duality}
 use Rattle.flow_net.proofs.MaxFlows.{greatest_is_least}
-use Rattle.flow_net.proofs.NodeLists.{place_in, terminals_apart}
+use Rattle.flow_net.proofs.NodeLists.{terminals_apart}
 use Rattle.flow_net.proofs.Zips.{head_is_node, tail_is_node}
 use Rattle.flow_text.proofs.AcceptedLemmas.{accepted_problem}
 use Rattle.flow_tools.specs.running.Answers.{IsNearest}
 use Rattle.flow_tools.specs.laws.CutTexts.{GreatestIsLeast, PrintedCutIsMinimum}
-
--- a terminal is a node
-node_in : (net : Net) (ws : List ℕ) (v : ℕ) → All (IsNode net) ws → one_of ws v ≡ true → IsNode net v
-node_in net ws v all is =
-    let p = place_in ws v is in subst (IsNode net) p.2 (All-get_or (IsNode net) ws p.0 0 p.1 all)
 
 turned : (b c : Bool) → (b ≡ true → c ≡ true) → c ≡ false → b ≡ false
 turned true c f e = absurd (true≢false (sym (f refl) ∙ e))
@@ -100,5 +94,5 @@ printed_minimum b p arcs sink text said cut =
     let here = cut.greatest.reached in
     nearest_minimum p.net (one_of p.sources) (one_of p.sinks) cut.value here.0 within.0 here.1 here.2
     (greatest_least b p cut.value said cut.greatest).least
-    (λ v i. node_in p.net p.sources v within.1.terminals.sources_within i)
-    (λ v i. node_in p.net p.sinks v within.1.terminals.sinks_within i) (not sink) cut.X cut.nearest
+    (λ v i. node_among p.net p.sources v within.1.terminals.sources_within i)
+    (λ v i. node_among p.net p.sinks v within.1.terminals.sinks_within i) (not sink) cut.X cut.nearest

@@ -81,7 +81,8 @@ module _ (job : Job) (b b_rest q q_rest : List ℕ) where
     ran_refused status refused run = (run.o, run.e, run.put_o, run.put_e, at run.end run.exit) where
       at : (end : Result ℕ Stop) → EndsAt job source given out run.p run.q run.o end
           → RunsOn job b q run.o run.e (Err refused)
-      at (Ok s) h = inr (run.o, s, answers run.p run.q run.o s run.delivered_p run.delivered_q h.1, ([], sym (append-nil run.o)))
+      at (Ok s) h =
+          inr (run.o, s, answers run.p run.q run.o s run.delivered_p run.delivered_q h.1, ([], sym (append-nil run.o)))
       at (Err (Fault false line code)) h = inl h.3
       at (Err (Fault true line code)) h = inl h.2
       at (Err ReadFailed) h = inl h.1
@@ -105,7 +106,11 @@ module _ (job : Job) (b b_rest q q_rest : List ℕ) where
           at : (end : Result ℕ Stop) → EndsAt job source given out run.p run.q run.o end → run.e ≡ (ending end).0
               → status ≡ (ending end).1 → RunsOn job b q run.o run.e (Ok status)
           at (Ok s) h told is =
-              inl (subst (λ k. Answers job b q run.o k) (sym is) (answers run.p run.q run.o s run.delivered_p run.delivered_q h.1), told)
+              inl (
+                subst (λ k. Answers job b q run.o k) (sym is)
+                    (answers run.p run.q run.o s run.delivered_p run.delivered_q h.1),
+                told,
+              )
           at (Err (Fault false line code)) h told is =
               inr (inl (line, code, problem_fault run.p (line, code) stays run.delivered_p h.5, told), h.3, is)
           at (Err (Fault true line code)) h told is =

@@ -1,5 +1,5 @@
 -- Which line is the next.
-use Rattle.std.proofs.Common.{◌≡◌, ◌+◌, ◌<◌, ℕ, Bool, true, false, not, List, [], ◌∷◌, ◌++◌, length, filter, get_or}
+use Rattle.std.proofs.Common.{◌≡◌, ◌+◌, ◌<◌, ℕ, Bool, true, false, List, [], ◌∷◌, ◌++◌, length, filter, get_or}
 use Rattle.std.proofs.Common.{slice_index, refl, sym, append-nil, ◌∙◌, arith, Option}
 use Rattle.std.specs.List.{flat_map, zip, range_with_len}
 use Rattle.std.proofs.lemmas.Slice.Zip.{get_or-zip, length-zip}
@@ -60,15 +60,6 @@ pub value_text_is : (net : Net) (value : ℕ) (flows : List ℕ) (value_only : B
     → line_of "s" (value ∷ []) ≡ solve_text value_only net value flows
 unfolding solve_text
 value_text_is net value flows value_only e = rw e (sym (append-nil (line_of "s" (value ∷ []))))
-
--- a test by its opposite
-pub false_of_not : (b : Bool) → not b ≡ true → b ≡ false
-false_of_not true e = sym e
-false_of_not false e = refl
-
-pub true_of_not : (b : Bool) → not b ≡ false → b ≡ true
-true_of_not true e = refl
-true_of_not false e = sym e
 
 -- The whole texts, from their first line.
 module _ (net : Net) (value : ℕ) (first : List ℕ) (begun : first ≡ line_of "s" (value ∷ [])) where

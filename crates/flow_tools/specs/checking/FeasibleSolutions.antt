@@ -5,7 +5,8 @@ use Rattle.flow_net.specs.NodeSets.{one_of}
 use Rattle.flow_net.specs.Flows.{flow_over, IsFeasible}
 use Rattle.flow_text.specs.declared.solutions.FlowLine.{FlowLine}
 use Rattle.flow_text.specs.declared.verdicts.Verdict.{Verdict}
-use Rattle.flow_text.specs.declared.verdicts.Verdict.TheVariants.{Over, Unbalanced, Value, Feasible, NotMaximal, Optimal}
+use Rattle.flow_text.specs.declared.verdicts.Verdict.TheVariants.{Over, Unbalanced, Value, Feasible, NotMaximal}
+use Rattle.flow_text.specs.declared.verdicts.Verdict.TheVariants.{Optimal}
 use Rattle.flow_tools.specs.checking.SolutionFlows.{pair_flow}
 use Rattle.flow_tools.specs.checking.ArcShares.{is_pair}
 

@@ -1,5 +1,6 @@
 -- What the flow lines of a solution add up to at each node, in cells: cell v - 1 for node v.
-use Rattle.std.specs.Prelude.{◌≡◌, ◌≢◌, ℕ, ◌+◌, ◌-◌, ◌<◌, ◌≤◌, Bool, List, length, slice_index, slice_index_or, true, false}
+use Rattle.std.specs.Prelude.{◌≡◌, ◌≢◌, ℕ, ◌+◌, ◌-◌, ◌<◌, ◌≤◌, Bool, List, length, slice_index, slice_index_or, true}
+use Rattle.std.specs.Prelude.{false}
 use Rattle.flow_net.specs.NodeSets.{just}
 use Rattle.flow_text.specs.declared.solutions.FlowLine.{FlowLine}
 use Rattle.flow_tools.specs.checking.SolutionFlows.{lines_into, lines_out_of}

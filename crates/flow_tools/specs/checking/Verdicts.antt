@@ -5,7 +5,8 @@ use Rattle.flow_net.specs.NodeSets.{one_of, just}
 use Rattle.flow_net.specs.Flows.{IsGreatest}
 use Rattle.flow_text.specs.declared.solutions.FlowLine.{FlowLine}
 use Rattle.flow_text.specs.declared.verdicts.Verdict.{Verdict}
-use Rattle.flow_text.specs.declared.verdicts.Verdict.TheVariants.{Over, Unbalanced, Value, Feasible, NotMaximal, Optimal}
+use Rattle.flow_text.specs.declared.verdicts.Verdict.TheVariants.{Over, Unbalanced, Value, Feasible, NotMaximal}
+use Rattle.flow_text.specs.declared.verdicts.Verdict.TheVariants.{Optimal}
 use Rattle.flow_tools.specs.checking.SolutionFlows.{pair_flow, pair_cap, lines_out_of, lines_into, net_outflow}
 
 -- a node that is neither source nor sink

@@ -9,7 +9,8 @@ use Rattle.flow_tools.specs.running.OnePass.{IsOnePass}
 use Rattle.flow_tools.specs.declared.running.reading.Role.{Role}
 use Rattle.flow_tools.specs.declared.running.reading.Role.TheVariants.{Problem, Solution}
 use Rattle.flow_tools.specs.declared.running.jobs.Stop.{Stop}
-use Rattle.flow_tools.specs.declared.running.jobs.Stop.TheVariants.{Fault as StopFault, ReadFailed, WriteFailed, OutOfMemory as StopOutOfMemory}
+use Rattle.flow_tools.specs.declared.running.jobs.Stop.TheVariants.{Fault as StopFault, ReadFailed, WriteFailed}
+use Rattle.flow_tools.specs.declared.running.jobs.Stop.TheVariants.{OutOfMemory as StopOutOfMemory}
 
 -- what a reader answers to the next piece: the text goes on without a fault, or has that one however it goes on
 abbrev pub FeedsOn : Option (ℕ × FaultCode) → Type 0 → Result (Unit {0}) ReadFault → Type 0

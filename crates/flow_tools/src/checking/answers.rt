@@ -7,7 +7,7 @@ ghost use Rattle.flow_tools.specs.running.AnswerExits.{Puts, Checks};
 ghost use Rattle.flow_tools.specs.streams.Streams.{over};
 
 use crate::checking::check;
-use crate::running::jobs::{Job, Stop};
+use crate::running::jobs::{Job, Stop, ended};
 use crate::running::reading::{Role, read_all};
 use crate::streams::sending::put_all;
 use crate::streams::{Input, Output};
@@ -37,14 +37,9 @@ fn put_verdict<O: Output>(
     ensures { (q : List ℕ) → solution q problem.now.net.nodes ≡ Ok (written.now.value, written.now.lines.items)
         → Puts (Job.Check feasible_only) problem.now q (over (O.state out.old) (O.state out.new)) result }
 {
-    let verdict = match check(alloc, problem, written, feasible_only) {
-        Ok(verdict) => verdict,
-        Err(_) => return Err(Stop::OutOfMemory),
-    };
-    match put_all(out, verdict_line(&verdict).as_slice()) {
-        Ok(()) => Ok(status_of_verdict(&verdict)),
-        Err(_) => Err(Stop::WriteFailed),
-    }
+    let verdict = check(alloc, problem, written, feasible_only)?;
+    let put = put_all(out, verdict_line(&verdict).as_slice());
+    ended(put, status_of_verdict(&verdict))
 }
 
 /// Reads a solution of a problem, and puts the verdict on it.

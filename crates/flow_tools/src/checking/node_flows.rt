@@ -1,5 +1,6 @@
 //! What the flow lines of a solution add up to at each node.
-ghost use Rattle.std.specs.Prelude.{◌≡◌, ℕ, ◌+◌, ◌-◌, ◌<◌, ◌≤◌, ◌^◌, ◌||◌, List, length, slice_index, slice_set, sum_by, replicate, IfOk, MatchOption};
+ghost use Rattle.std.specs.Prelude.{◌≡◌, ℕ, ◌+◌, ◌-◌, ◌<◌, ◌≤◌, ◌^◌, ◌||◌, List, length, slice_index, slice_set};
+ghost use Rattle.std.specs.Prelude.{sum_by, replicate, IfOk, MatchOption};
 ghost use Rattle.std.specs.List.{All};
 ghost use Rattle.flow_net.specs.declared.limits.TheConstants.{MOST_NODES};
 ghost use Rattle.flow_net.specs.NodeSets.{one_of};
@@ -10,8 +11,10 @@ ghost use Rattle.flow_text.specs.declared.solutions.FlowLine.{FlowLine};
 ghost use Rattle.flow_tools.specs.checking.SolutionFlows.{net_outflow};
 ghost use Rattle.flow_tools.specs.checking.Verdicts.{IsBalanced};
 ghost use Rattle.flow_tools.specs.checking.FirstFaults.{IsFirstUnbalanced};
-ghost use Rattle.flow_tools.specs.checking.NodeSums.{IsCellOf, AreNodeFlows, HaveTallied, at_node, IsFirstUnequal, AreEqualUnless};
+ghost use Rattle.flow_tools.specs.checking.NodeSums.{IsCellOf, AreNodeFlows, HaveTallied, at_node, IsFirstUnequal};
+ghost use Rattle.flow_tools.specs.checking.NodeSums.{AreEqualUnless};
 
+use crate::cells::filled;
 use flow_net::{OutOfMemory, Problem};
 use flow_text::FlowLine;
 use std::alloc::Global;
@@ -57,12 +60,8 @@ pub(crate) fn node_flows(
     requires within { All (IsLineWithin nodes) lines.now }
     ensures { IfOk result (λ flows. AreNodeFlows nodes lines.now flows.into.items flows.out.items) }
 {
-    let Ok(mut into) = Vec::from_elem(alloc, 0u128, nodes as usize) else {
-        return Err(OutOfMemory);
-    };
-    let Ok(mut out) = Vec::from_elem(alloc, 0u128, nodes as usize) else {
-        return Err(OutOfMemory);
-    };
+    let mut into = filled(alloc, 0u128, nodes as usize)?;
+    let mut out = filled(alloc, 0u128, nodes as usize)?;
     tally(lines, into.as_mut_slice(), out.as_mut_slice());
     Ok(NodeFlows { into, out })
 }
@@ -84,9 +83,7 @@ fn terminals(alloc: Global, problem: &Problem) -> Result<Vec<bool>, OutOfMemory>
     ensures marked { IfOk result (λ cells. (v : ℕ) → marked cells.items v
         ≡ (one_of problem.now.sources v || one_of problem.now.sinks v)) }
 {
-    let Ok(mut cells) = Vec::from_elem(alloc, false, problem.net().nodes() as usize) else {
-        return Err(OutOfMemory);
-    };
+    let mut cells = filled(alloc, false, problem.net().nodes() as usize)?;
     mark(cells.as_mut_slice(), problem.sources());
     mark(cells.as_mut_slice(), problem.sinks());
     Ok(cells)

@@ -3,7 +3,8 @@
 //! A solution speaks of pairs of nodes, a flow of arcs. The arcs and the lines are brought into the order of their
 //! pairs, and then each line's flow is put on the arcs of its pair, the next where one is full. So a flow comes out
 //! that carries what the lines say of every pair, or the first line whose pair has no room left.
-ghost use Rattle.std.specs.Prelude.{◌≡◌, ℕ, [], ◌+◌, ◌-◌, ◌*◌, ◌<◌, ◌≤◌, ◌^◌, length, slice_index, slice_set, IfOk, MatchOption};
+ghost use Rattle.std.specs.Prelude.{◌≡◌, ℕ, [], ◌+◌, ◌-◌, ◌*◌, ◌<◌, ◌≤◌, ◌^◌, length, slice_index, slice_set, IfOk};
+ghost use Rattle.std.specs.Prelude.{MatchOption};
 ghost use Rattle.std.specs.List.{All};
 ghost use Rattle.std.specs.List.Sorted.{IsNonDecreasingBy, IsPermutation};
 ghost use Rattle.flow_net.specs.Nets.{Net};
@@ -14,7 +15,8 @@ ghost use Rattle.flow_text.specs.declared.solutions.FlowLine.{FlowLine};
 ghost use Rattle.flow_tools.specs.checking.SolutionFlows.{pair_cap};
 ghost use Rattle.flow_tools.specs.checking.ArcShares.{is_pair};
 ghost use Rattle.flow_tools.specs.checking.FirstFaults.{IsFirstOver};
-ghost use Rattle.flow_tools.specs.checking.ArcShares.{pair_rank, line_rank, place_of, AreArcPlaces, AreOrderedArcs, arc_flow, Carries, HasMore, IsFull, ArePassed, IsSharedOut};
+ghost use Rattle.flow_tools.specs.checking.ArcShares.{pair_rank, line_rank, place_of, AreArcPlaces, AreOrderedArcs};
+ghost use Rattle.flow_tools.specs.checking.ArcShares.{arc_flow, Carries, HasMore, IsFull, ArePassed, IsSharedOut};
 
 use flow_net::{FlowTable, Network, OutOfMemory};
 use flow_text::FlowLine;

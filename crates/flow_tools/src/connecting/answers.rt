@@ -9,12 +9,13 @@ ghost use Rattle.flow_net.specs.LeastCuts.{IsConnectivity, IsPairConnectivity};
 ghost use Rattle.flow_tools.specs.running.AnswerExits.{Puts};
 ghost use Rattle.flow_tools.specs.streams.Streams.{over};
 
+use crate::cells::work_for;
 use crate::connecting::connectivity;
-use crate::running::jobs::{ConnectForm, Job, Stop};
+use crate::running::jobs::{Job, Stop, ended};
 use crate::streams::Output;
 use crate::streams::sending::put_all;
 use flow_net::{FlowTable, Network, OutOfMemory, Problem};
-use flow_solve::{Method, work_len};
+use flow_solve::Method;
 use flow_text::connect_line;
 use std::alloc::Global;
 
@@ -44,10 +45,7 @@ fn solve_connectivity<M: Method>(
     ensures whole { pair ≡ false → IfOk result (λ value. IsConnectivity net.now value) }
 {
     let mut table = FlowTable::new(alloc, net)?;
-    let mut work = match Vec::from_elem(alloc, 0u32, work_len(net.nodes(), net.len())) {
-        Ok(work) => work,
-        Err(_) => return Err(OutOfMemory),
-    };
+    let mut work = work_for(alloc, net)?;
     Ok(connectivity::<M>(net, pair, s, t, &mut table, work.as_mut_slice()))
 }
 
@@ -55,23 +53,14 @@ fn solve_connectivity<M: Method>(
 pub(crate) fn answer_connect<M: Method, O: Output>(
     alloc: Global,
     problem: Problem,
-    form: ConnectForm,
+    undirected: bool,
+    pair: bool,
     out: &mut O,
 ) -> Result<u8, Stop>
-    ensures { Puts (Job.Connect form.undirected form.pair) problem []
-        (over (O.state out.old) (O.state out.new)) result }
+    ensures { Puts (Job.Connect undirected pair) problem [] (over (O.state out.old) (O.state out.new)) result }
 {
     let (net, sources, sinks) = problem.into_parts();
-    let net = match counting_network(net, form.undirected) {
-        Ok(net) => net,
-        Err(_) => return Err(Stop::OutOfMemory),
-    };
-    let value = match solve_connectivity::<M>(alloc, &net, form.pair, &sources, &sinks) {
-        Ok(value) => value,
-        Err(_) => return Err(Stop::OutOfMemory),
-    };
-    match put_all(out, connect_line(value).as_slice()) {
-        Ok(()) => Ok(0),
-        Err(_) => Err(Stop::WriteFailed),
-    }
+    let net = counting_network(net, undirected)?;
+    let value = solve_connectivity::<M>(alloc, &net, pair, &sources, &sinks)?;
+    ended(put_all(out, connect_line(value).as_slice()), 0)
 }

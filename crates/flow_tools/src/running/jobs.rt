@@ -1,5 +1,14 @@
 //! What is asked of a run, and why one ends without an answer.
+ghost use Rattle.std.specs.Prelude.{◌≡◌, ℕ, List};
+ghost use Rattle.flow_net.specs.Nets.{Instance};
+ghost use Rattle.flow_tools.specs.streams.Sending.{IsPut};
+ghost use Rattle.flow_tools.specs.streams.Streams.{Stream};
+ghost use Rattle.flow_tools.specs.running.AnswerExits.{Puts};
+ghost use Rattle.flow_tools.specs.running.Answers.{IsAnswer};
+ghost use Rattle.flow_tools.specs.declared.running.jobs.Stop.TheVariants.{OutOfMemory};
 
+use crate::streams::Failed;
+use flow_net::OutOfMemory;
 use flow_text::FaultCode;
 
 /// What a run computes and prints.
@@ -31,24 +40,6 @@ pub enum Job {
     },
 }
 
-/// How the cut of a [`Job::Cut`] is told.
-#[derive(Clone, Copy)]
-pub(crate) struct CutForm {
-    /// The arcs that leave the printed source side are printed too.
-    pub arcs: bool,
-    /// It is the cut with the least sink side in place of the one with the least source side.
-    pub sink: bool,
-}
-
-/// Which connectivity a [`Job::Connect`] asks for.
-#[derive(Clone, Copy)]
-pub(crate) struct ConnectForm {
-    /// Arcs count by their ends, not by their direction.
-    pub undirected: bool,
-    /// The sets that count have every source inside and every sink outside.
-    pub pair: bool,
-}
-
 /// Why a run ends without an answer.
 #[derive(Clone, Copy, Debug, PartialEq, Eq)]
 pub enum Stop {
@@ -67,4 +58,23 @@ pub enum Stop {
     WriteFailed,
     /// A growth of memory was refused.
     OutOfMemory,
+}
+
+impl From<OutOfMemory> for Stop {
+    ghost from_gives = { λ _ stop. stop ≡ OutOfMemory };
+
+    fn from(_refused: OutOfMemory) -> Stop {
+        Stop::OutOfMemory
+    }
+}
+
+/// How a run ends that has put its answer: with a status, or because the put failed.
+pub(crate) fn ended(put: Result<(), Failed>, status: u8) -> Result<u8, Stop>
+    ensures { (job : Job) (p : Instance) (q text : List ℕ) (out : Stream) → IsAnswer job p q text status
+        → IsPut text out put → Puts job p q out result }
+{
+    match put {
+        Ok(()) => Ok(status),
+        Err(_) => Err(Stop::WriteFailed),
+    }
 }

@@ -6,7 +6,7 @@ ghost use Rattle.flow_tools.specs.running.AnswerExits.{Puts};
 ghost use Rattle.flow_tools.specs.solving.ArrangedProblems.{AreListsFor, IsSolution, IsMarkedCut};
 ghost use Rattle.flow_tools.specs.streams.Streams.{over};
 
-use crate::running::jobs::{CutForm, Job, Stop};
+use crate::running::jobs::{Job, Stop};
 use crate::solving::arranging::{Lists, arrange_problem, make_lists, mark_nodes, restore_problem};
 use crate::solving::printing::{put_cut, put_solution};
 use crate::streams::Output;
@@ -59,8 +59,8 @@ pub fn answer_solve<M: Method, O: Output>(
     }
 }
 
-/// Puts the capacity of a minimum cut and its source side, and where `form.arcs` is true the arcs that leave that side.
-/// It is the cut nearest the sources, or where `form.sink` is true the cut nearest the sinks.
+/// Puts the capacity of a minimum cut and its source side, and where `arcs` is true the arcs that leave that side.
+/// It is the cut nearest the sources, or where `sink` is true the cut nearest the sinks.
 ///
 /// # Errors
 ///
@@ -68,10 +68,11 @@ pub fn answer_solve<M: Method, O: Output>(
 pub fn answer_cut<M: Method, O: Output>(
     alloc: Global,
     problem: Problem,
-    form: CutForm,
+    arcs: bool,
+    sink: bool,
     out: &mut O,
 ) -> Result<u8, Stop>
-    ensures { Puts (Job.Cut form.arcs form.sink) problem [] (over (O.state out.old) (O.state out.new)) result }
+    ensures { Puts (Job.Cut arcs sink) problem [] (over (O.state out.old) (O.state out.new)) result }
 {
     let mut side = match Vec::from_elem(alloc, false, problem.net().nodes() as usize) {
         Ok(side) => side,
@@ -81,7 +82,7 @@ pub fn answer_cut<M: Method, O: Output>(
         Ok(room) => room,
         Err(_) => return Err(Stop::OutOfMemory),
     };
-    put_side::<M, O>(problem, room, side.as_mut_slice(), form, out)
+    put_side::<M, O>(problem, room, side.as_mut_slice(), arcs, sink, out)
 }
 
 /// The lists by which a problem is arranged, if its arcs come in no order.
@@ -182,17 +183,18 @@ fn put_side<M: Method, O: Output>(
     problem: Problem,
     room: Room,
     side: &mut [bool],
-    form: CutForm,
+    arcs: bool,
+    sink: bool,
     out: &mut O,
 ) -> Result<u8, Stop>
     requires empty { room.table.flows ≡ replicate (length problem.net.arcs) 0 }
     requires cells { work_cells problem.net ≤ length room.work.items }
     requires lists { IfSome room.lists (AreListsFor problem.net) }
     requires side { length side.old ≡ problem.net.nodes }
-    ensures { Puts (Job.Cut form.arcs form.sink) problem [] (over (O.state out.old) (O.state out.new)) result }
+    ensures { Puts (Job.Cut arcs sink) problem [] (over (O.state out.old) (O.state out.new)) result }
 {
-    let (problem, value) = mark_side::<M>(problem, room, form.sink, side);
-    match put_cut(out, problem.net(), value, side, form) {
+    let (problem, value) = mark_side::<M>(problem, room, sink, side);
+    match put_cut(out, problem.net(), value, side, arcs, sink) {
         Ok(()) => Ok(0),
         Err(_) => Err(Stop::WriteFailed),
     }

@@ -11,9 +11,9 @@ use crate::streams::{Failed, Output};
 use flow_net::Arc;
 use flow_text::{MOST_LINE_BYTES, push_arc_line, push_flow_line, push_node_line};
 
-/// Puts what waits where there is no room for a line behind it.
+/// Puts what waits, if there is no room for a line behind it.
 #[inline(always)]
-fn make_room<O: Output>(out: &mut O, waiting: &mut Gathered) -> Result<(), Failed>
+fn put_if_full<O: Output>(out: &mut O, waiting: &mut Gathered) -> Result<(), Failed>
     ensures room { OnOk result (array_vec_len waiting.new + MOST_LINE_BYTES ≤ 65536) }
     ensures gathered { IsGathered waiting.new.items waiting.old.items
         (over (O.state out.old) (O.state out.new)) result }
@@ -41,7 +41,7 @@ pub(crate) fn gather_flow_line<O: Output>(
     ensures { let text = waiting.old.items ++ flow_line (arc, flow) in
         IsGathered waiting.new.items text (over (O.state out.old) (O.state out.new)) result }
 {
-    make_room(out, waiting)?;
+    put_if_full(out, waiting)?;
     push_flow_line(waiting, arc.src, arc.dst, flow);
     Ok(())
 }
@@ -61,7 +61,7 @@ pub(crate) fn gather_node_line<O: Output>(
     ensures { let text = waiting.old.items ++ line_of "n" (node ∷ []) in
         IsGathered waiting.new.items text (over (O.state out.old) (O.state out.new)) result }
 {
-    make_room(out, waiting)?;
+    put_if_full(out, waiting)?;
     push_node_line(waiting, node);
     Ok(())
 }
@@ -81,7 +81,7 @@ pub(crate) fn gather_arc_line<O: Output>(
     ensures { let text = waiting.old.items ++ arc_line arc in
         IsGathered waiting.new.items text (over (O.state out.old) (O.state out.new)) result }
 {
-    make_room(out, waiting)?;
+    put_if_full(out, waiting)?;
     push_arc_line(waiting, arc);
     Ok(())
 }

@@ -8,7 +8,6 @@ ghost use Rattle.flow_tools.specs.solving.Sides.{nodes_inside, side_of};
 ghost use Rattle.flow_tools.specs.streams.Streams.{over};
 ghost use Rattle.flow_tools.specs.streams.Sending.{IsGathered, IsPut};
 
-use crate::running::jobs::CutForm;
 use crate::solving::gathering::{gather_arc_line, gather_flow_line, gather_node_line};
 use crate::streams::sending::{Gathered, put_all};
 use crate::streams::{Failed, Output};
@@ -40,9 +39,9 @@ pub(crate) fn put_solution<O: Output>(
     put_all(out, waiting.as_slice())
 }
 
-/// Puts a value and the nodes of a source side, rising, and where `form.arcs` is true the arcs that leave it, in order.
+/// Puts a value and the nodes of a source side, rising, and where `arcs` is true the arcs that leave it, in order.
 ///
-/// The source side has the nodes that are marked in `side`, cell `v - 1` for node `v`; where `form.sink` is true, the
+/// The source side has the nodes that are marked in `side`, cell `v - 1` for node `v`; where `sink` is true, the
 /// nodes that aren't.
 ///
 /// # Errors
@@ -53,19 +52,20 @@ pub(crate) fn put_cut<O: Output>(
     net: &Network,
     value: u128,
     side: &[bool],
-    form: CutForm,
+    arcs: bool,
+    sink: bool,
 ) -> Result<(), Failed>
     requires count { length side.now ≡ net.now.nodes }
-    ensures { let text = cut_text form.arcs net.now value (side_of form.sink side.now) in
+    ensures { let text = cut_text arcs net.now value (side_of sink side.now) in
         IsPut text (over (O.state out.old) (O.state out.new)) result }
 {
     let mut waiting = Gathered::new();
     gather_value(&mut waiting, value);
-    gather_nodes(out, &mut waiting, net, side, form.sink)?;
-    if !form.arcs {
+    gather_nodes(out, &mut waiting, net, side, sink)?;
+    if !arcs {
         return put_all(out, waiting.as_slice());
     }
-    gather_arcs(out, &mut waiting, net, side, form.sink)?;
+    gather_arcs(out, &mut waiting, net, side, sink)?;
     put_all(out, waiting.as_slice())
 }
 

@@ -9,5 +9,5 @@ pub returns-clause-less : goal.returns-clause-less
 returns-clause-less c = λ grown.
     let answer = rw (c.net-net.ensures.net, c.sources.ensures.sources, c.sinks.ensures.sinks) at
     c.has_augmenting_path-grows.ensures.answer in
-    less_value c.args.problem.now c.args.flow.now.flows (subst IsNet c.net-net.ensures.net c.nodes.ensures.is_net)
+    less_value c.args.problem.now c.args.flow.now.flows (subst IsNet c.net-net.ensures.net c.in_ok-work.ensures.limits)
     c.net-net.ensures.is_problem c.requires (λ greatest. both_ways _ (answer.1 greatest) (not-false _ grown))

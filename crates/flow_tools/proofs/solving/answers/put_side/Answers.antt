@@ -8,10 +8,10 @@ use Rattle.flow_tools.proofs.solving.answers.put_side.Goals as goal
 
 pub returns-in-Ok : goal.returns-in-Ok
 returns-in-Ok g c =
-    let p = c.args.problem in let X = side_of c.args.form.sink c.mark_side-problem.new.side in
+    let p = c.args.problem in let X = side_of c.args.sink c.mark_side-problem.new.side in
     let value = c.mark_side-problem.result.1 in let cut = c.mark_side-problem.ensures.cut in
     let put = rw (c.net.ensures.net, c.mark_side-problem.ensures.problem) at c.in-Ok.ensures.ok in
-    puts_all (Cut c.args.form.arcs c.args.form.sink) p _ _ _ _ (cut_text c.args.form.arcs p.net value X) (
+    puts_all (Cut c.args.arcs c.args.sink) p _ _ _ _ (cut_text c.args.arcs p.net value X) (
       record {
         value = value;
         X = X;
@@ -24,10 +24,10 @@ returns-in-Ok g c =
 
 pub returns : goal.returns
 returns g c =
-    let p = c.args.problem in let X = side_of c.args.form.sink c.mark_side-problem.new.side in
+    let p = c.args.problem in let X = side_of c.args.sink c.mark_side-problem.new.side in
     let value = c.mark_side-problem.result.1 in let cut = c.mark_side-problem.ensures.cut in
     let put = rw (c.net.ensures.net, c.mark_side-problem.ensures.problem) at c.in-Err.ensures.err in
-    puts_some (Cut c.args.form.arcs c.args.form.sink) p _ _ _ _ (cut_text c.args.form.arcs p.net value X) (
+    puts_some (Cut c.args.arcs c.args.sink) p _ _ _ _ (cut_text c.args.arcs p.net value X) (
       record {
         value = value;
         X = X;

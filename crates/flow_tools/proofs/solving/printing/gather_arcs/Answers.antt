@@ -6,7 +6,8 @@ use Rattle.flow_net.specs.Cuts.{leaves}
 use Rattle.flow_text.specs.ArcLines.{arc_line}
 use Rattle.flow_tools.specs.solving.Sides.{side_of}
 use Rattle.flow_tools.proofs.streams.SendLemmas.{on_err}
-use Rattle.flow_tools.proofs.solving.LineLemmas.{line_if, lines_more, lines_skip, lines_stop, lines_end, flat_map-filter}
+use Rattle.flow_tools.proofs.solving.LineLemmas.{line_if, lines_more, lines_skip, lines_stop, lines_end}
+use Rattle.flow_tools.proofs.solving.LineLemmas.{flat_map-filter}
 use Rattle.flow_tools.proofs.solving.PrintLemmas.{arc_line_is, no_arc_line}
 use Rattle.flow_tools.proofs.solving.printing.gather_arcs.Goals as goal
 

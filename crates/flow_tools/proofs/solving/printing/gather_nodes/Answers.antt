@@ -5,7 +5,8 @@ use Rattle.std.specs.List.{range_with_len}
 use Rattle.std.proofs.lemmas.List.FromFn.{length-range_with_len}
 use Rattle.flow_tools.specs.solving.Sides.{side_of}
 use Rattle.flow_tools.proofs.streams.SendLemmas.{on_err}
-use Rattle.flow_tools.proofs.solving.LineLemmas.{line_if, lines_more, lines_skip, lines_stop, lines_end, flat_map-filter}
+use Rattle.flow_tools.proofs.solving.LineLemmas.{line_if, lines_more, lines_skip, lines_stop, lines_end}
+use Rattle.flow_tools.proofs.solving.LineLemmas.{flat_map-filter}
 use Rattle.flow_tools.proofs.solving.PrintLemmas.{node_line, node_line_is, no_node_line}
 use Rattle.flow_tools.proofs.solving.printing.gather_nodes.Goals as goal
 

@@ -32,7 +32,7 @@ STARTS = [
 ]
 
 # The contract that stands above these, of which the page tells how many lines it takes more.
-CLOSED = [("crates/flow_tools/src/texts.rt", "pub fn run_on_texts", "\n{")]
+CLOSED = [("crates/flow_tools/src/running/texts.rt", "pub fn run_on_texts", "\n{")]
 
 # The files that tell the number of a constant in digits, to people or because they can't cite it.
 TOLD = {

@@ -145,18 +145,26 @@ def sections(document):
     return {heading.strip("`"): text for heading, text in (part.split("\n", 1) for part in parts)}
 
 
+def declares_alone(file):
+    """Whether a file has nothing but the names of the files in its folder."""
+    return all(re.match(r"(pub )?mod \w+$|$", line) for line in file.read_text().splitlines())
+
+
 def check_names():
     """Looks for the crates' files on the pages that tell what stands where; answers how many are there and aren't.
 
     The part of docs/ARCHITECTURE.md on a crate names each file of its src/ and specs/ by the path within the crate,
-    and a lemma file has a row in docs/PROOFS.md. Tests are named where they are declared.
+    and a lemma file has a row in docs/PROOFS.md. Tests are named where they are declared, and so are the files of a
+    folder of specs/ or proofs/.
     """
     parts = sections(REPOSITORY / "docs/ARCHITECTURE.md")
     rows = re.findall(r"^\| ([^|]*) \|", (REPOSITORY / "docs/PROOFS.md").read_text(), re.M)
     lemmas = {name for row in rows for name in re.findall(r"`(\w+)`", row)}
-    wanted = [(file, "ARCHITECTURE") for kind in ("src/**/*.rt", "specs/*.antt")
+    wanted = [(file, "ARCHITECTURE") for kind in ("src/**/*.rt", "specs/**/*.antt")
               for file in REPOSITORY.glob(f"crates/*/{kind}")]
-    wanted += [(file, "PROOFS") for file in REPOSITORY.glob("crates/*/proofs/*.antt")]
+    wanted += [(file, "PROOFS") for file in REPOSITORY.glob("crates/*/proofs/**/*.antt")
+               if file.stem not in ("Answers", "Invariants", "Proof")]
+    wanted = [(file, page) for file, page in wanted if not declares_alone(file)]
     passed = failed = 0
     for file, page in sorted(wanted):
         crate, *path = file.relative_to(REPOSITORY / "crates").parts

@@ -4,7 +4,7 @@ use Rattle.std.proofs.Common.{append_assoc, Option}
 use Rattle.std.specs.Prelude.{codes}
 use Rattle.std.specs.Io.KnownBytes.{Appends}
 use Rattle.std.proofs.KnownBytes.{Appends-trans}
-use Rattle.flow_tools.specs.Sending.{IsPut, Stops}
+use Rattle.flow_tools.specs.streams.Sending.{IsPut, Stops}
 use Rattle.flow_tools.proofs.SendLemmas.{flags_on, stops_early}
 use Rattle.flow_tools.proofs.StreamParts.{stream}
 use Rattle.flow.specs.Messages.{cannot_open}

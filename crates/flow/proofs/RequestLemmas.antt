@@ -1,7 +1,7 @@
 -- From the clauses of a matched command to its job.
 use Rattle.std.proofs.Common.{◌≡◌, List, Option, Some, None, option_map}
 use Rattle.clap.specs.Words.{Row, Text}
-use Rattle.flow_tools.specs.declared.jobs.Job.{Job}
+use Rattle.flow_tools.specs.declared.running.jobs.Job.{Job}
 use Rattle.flow.specs.declared.requests.Files.{Files}
 use Rattle.flow.specs.Requests.{job_for, HasFiles, IsJobOf}
 

@@ -4,8 +4,8 @@ use Rattle.std.specs.Str.{bytes_eq}
 use Rattle.std.specs.Option.{option_map_or}
 use Rattle.std.specs.Borrow.{Bor}
 use Rattle.clap.specs.Words.{Row, Text, first_of}
-use Rattle.flow_tools.specs.declared.jobs.Job.{Job}
-use Rattle.flow_tools.specs.declared.jobs.Job.TheVariants.{Solve, Cut, Connect, Check}
+use Rattle.flow_tools.specs.declared.running.jobs.Job.{Job}
+use Rattle.flow_tools.specs.declared.running.jobs.Job.TheVariants.{Solve, Cut, Connect, Check}
 use Rattle.flow.specs.declared.requests.Files.{Files}
 
 -- whether the flag was given

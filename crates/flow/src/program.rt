@@ -1,9 +1,9 @@
 //! The program over any files and streams.
 
 ghost use Rattle.std.specs.Prelude.{◌≡◌};
-ghost use Rattle.flow_tools.specs.Streams.{over};
-ghost use Rattle.flow_tools.specs.Sending.{IsPut};
-ghost use Rattle.flow_tools.specs.AnswerExits.{IsTold};
+ghost use Rattle.flow_tools.specs.streams.Streams.{over};
+ghost use Rattle.flow_tools.specs.streams.Sending.{IsPut};
+ghost use Rattle.flow_tools.specs.running.AnswerExits.{IsTold};
 ghost use Rattle.flow.specs.Messages.{cannot_open, given_name};
 
 use crate::commands::commands;

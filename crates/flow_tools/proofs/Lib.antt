@@ -1,22 +1,3 @@
-pub mod StreamParts
-pub mod PullLemmas
-pub mod SendLemmas
-pub mod LineLemmas
-pub mod PrintLemmas
-pub mod EndLemmas
-pub mod LineSums
-pub mod ArcSums
-pub mod Shares
-pub mod NodeSumLemmas
-pub mod Judging
-pub mod PairSums
-pub mod ConnectingLemmas
-pub mod ConnectAnswers
-pub mod PrintedNumbers
-pub mod PrintedLines
-pub mod OptimalTexts
-pub mod CutTextLemmas
-pub mod TextRunLemmas
-mod CircleLemmas
-pub mod AnswerLemmas
-pub mod ArrangedLemmas
+-- What other crates cite.
+pub use Rattle.flow_tools.proofs.streams.SendLemmas
+pub use Rattle.flow_tools.proofs.streams.StreamParts

@@ -1,19 +1,25 @@
 //! The checker of solutions.
-ghost use Rattle.std.specs.Prelude.{◌≡◌, ◌↔◌, ℕ, Bool, ◌<◌, ◌^◌, true, false, IfOk, IsTrue, MatchOption};
+ghost use Rattle.std.specs.Prelude.{◌≡◌, ◌↔◌, ◌<◌, ◌^◌, true, false, IfOk, IsTrue};
 ghost use Rattle.flow_net.specs.NodeSets.{one_of};
 ghost use Rattle.flow_net.specs.Flows.{Fits, IsFeasible};
 ghost use Rattle.flow_net.specs.GreatestFlows.{HasGreatestValue};
 ghost use Rattle.flow_text.specs.SolutionReading.{IsWithinLimits, written_in};
-ghost use Rattle.flow_tools.specs.SolutionFlows.{pair_flow, pair_cap};
-ghost use Rattle.flow_tools.specs.FeasibleSolutions.{IsFeasibleSolution, is_of_feasible};
-ghost use Rattle.flow_tools.specs.Verdicts.{IsVerdict, IsRight, IsWithinCapacities};
-ghost use Rattle.flow_tools.specs.ArcShares.{Carries, HasLessValue};
+ghost use Rattle.flow_tools.specs.checking.SolutionFlows.{pair_flow, pair_cap};
+ghost use Rattle.flow_tools.specs.checking.FeasibleSolutions.{IsFeasibleSolution, is_of_feasible};
+ghost use Rattle.flow_tools.specs.checking.Verdicts.{IsVerdict, IsWithinCapacities};
+ghost use Rattle.flow_tools.specs.checking.FirstFaults.{IsSumsVerdict};
+ghost use Rattle.flow_tools.specs.checking.ArcShares.{Carries, HasLessValue};
 
-use crate::node_flows::{first_unbalanced, node_flows, outflow_of_sources};
-use crate::sharing::{Shared, share_out};
+pub(crate) mod answers;
+mod node_flows;
+mod sharing;
+
+use crate::cells::work_for;
 use flow_net::{FlowTable, Network, OutOfMemory, Problem};
-use flow_solve::{has_augmenting_path, work_len};
+use flow_solve::has_augmenting_path;
 use flow_text::{FlowLine, Solution, Verdict};
+use node_flows::{first_unbalanced, node_flows, outflow_of_sources};
+use sharing::{Shared, share_out};
 use std::alloc::Global;
 
 /// A pair's flow: the sum of the flows of its lines.
@@ -52,9 +58,7 @@ fn is_greatest(alloc: Global, problem: &Problem, flow: &mut FlowTable) -> Result
     ensures less { IfOk result (λ greatest. greatest ≡ false → HasLessValue problem.now flow.old.flows) }
 {
     let net = problem.net();
-    let Ok(mut work) = Vec::from_elem(alloc, 0u32, work_len(net.nodes(), net.len())) else {
-        return Err(OutOfMemory);
-    };
+    let mut work = work_for(alloc, net)?;
     let grows = has_augmenting_path(
         net,
         problem.sources(),
@@ -73,9 +77,7 @@ fn wrong_sum(
 ) -> Result<Option<Verdict>, OutOfMemory>
     requires limits { IsWithinLimits problem.now.net.nodes (written_in solution.now) }
     requires within { IsWithinCapacities problem.now.net solution.now.lines.items }
-    ensures { let p = problem.now in let value = solution.now.value in let lines = solution.now.lines.items in
-        IfOk result (λ wrong. MatchOption wrong (IsRight p value lines)
-        (λ verdict. (only : Bool) → IsVerdict p value lines only verdict)) }
+    ensures { IfOk result (IsSumsVerdict problem.now solution.now.value solution.now.lines.items) }
 {
     let flows = node_flows(alloc, problem.net().nodes(), solution.lines.as_slice())?;
     if let Some(node) = first_unbalanced(alloc, problem, &flows)? {

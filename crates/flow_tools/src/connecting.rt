@@ -1,5 +1,6 @@
 //! Edge connectivity, by flows where every capacity is 1.
-ghost use Rattle.std.specs.Prelude.{◌≡◌, ◌≢◌, ℕ, ◌+◌, ◌-◌, ◌*◌, ◌≤◌, ◌<◌, Bool, true, false, List, length, drop, slice_index};
+ghost use Rattle.std.specs.Prelude.{◌≡◌, ◌≢◌, ℕ, ◌+◌, ◌-◌, ◌*◌, ◌≤◌, ◌<◌, Bool, true, false, List, length, drop};
+ghost use Rattle.std.specs.Prelude.{slice_index};
 ghost use Rattle.std.specs.List.{All};
 ghost use Rattle.flow_net.specs.Nets.{Net, IsNode};
 ghost use Rattle.flow_net.specs.Limits.{AreTerminals};
@@ -9,7 +10,9 @@ ghost use Rattle.flow_net.specs.Flows.{Fits};
 ghost use Rattle.flow_net.specs.Connectivity.{leaving, IsProper};
 ghost use Rattle.flow_net.specs.LeastCuts.{IsConnectivity, IsPairConnectivity};
 ghost use Rattle.flow_solve.specs.Bounds.{work_cells};
-ghost use Rattle.flow_tools.specs.Degrees.{AreDegrees, next_node};
+ghost use Rattle.flow_tools.specs.connecting.Degrees.{AreDegrees, next_node};
+
+pub(crate) mod answers;
 
 use flow_net::{FlowTable, Network};
 use flow_solve::{Method, connectivity_by_growth, work_len};

@@ -1,6 +1,6 @@
 //! The laws of what a job puts. Each is the contract of a function that computes nothing.
-ghost use Rattle.flow_tools.specs.CutTexts.{GreatestIsLeast, PrintedCutIsMinimum};
-ghost use Rattle.flow_tools.specs.SolvedTexts.{SolvedIsOptimal};
+ghost use Rattle.flow_tools.specs.laws.CutTexts.{GreatestIsLeast, PrintedCutIsMinimum};
+ghost use Rattle.flow_tools.specs.laws.SolvedTexts.{SolvedIsOptimal};
 
 /// What `solve` puts for an accepted problem text is accepted as a solution of the problem, and the one verdict on it
 /// is that it is optimal, with the greatest value.

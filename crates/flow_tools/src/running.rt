@@ -1,18 +1,23 @@
 //! The run of a job over its streams.
 ghost use Rattle.std.specs.Prelude.{◌≡◌, Err};
-ghost use Rattle.flow_tools.specs.AnswerExits.{IsTold, Runs};
-ghost use Rattle.flow_tools.specs.Exits.{EndsWith, ending};
-ghost use Rattle.flow_tools.specs.Streams.{over};
+ghost use Rattle.flow_tools.specs.running.AnswerExits.{IsTold, Runs};
+ghost use Rattle.flow_tools.specs.running.Exits.{EndsWith, ending};
+ghost use Rattle.flow_tools.specs.streams.Streams.{over};
 
-use crate::answers::{answer_cut, answer_solve};
-use crate::check_answers::answer_check;
-use crate::connect_answers::answer_connect;
-use crate::jobs::{ConnectForm, CutForm, Job, Stop};
-use crate::reading::{Role, read_all};
-use crate::sending::put_all;
+pub(crate) mod jobs;
+mod readers;
+pub(crate) mod reading;
+pub(crate) mod texts;
+
+use crate::checking::answers::answer_check;
+use crate::connecting::answers::answer_connect;
+use crate::solving::answers::{answer_cut, answer_solve};
+use crate::streams::sending::put_all;
 use crate::streams::{Input, Output};
 use flow_solve::Levels;
 use flow_text::{ProblemReader, fault_line};
+use jobs::{Job, Stop};
+use reading::{Role, read_all};
 use std::alloc::Global;
 
 /// Runs a job: reads the problem, puts the answer to `out`, and answers the status of the run. Where there is no
@@ -73,11 +78,9 @@ fn answer<I: Input, J: Input, O: Output>(
     };
     match job {
         Job::Solve { value_only } => answer_solve::<Levels, O>(alloc, problem, value_only, out),
-        Job::Cut { arcs, sink } => {
-            answer_cut::<Levels, O>(alloc, problem, CutForm { arcs, sink }, out)
-        }
+        Job::Cut { arcs, sink } => { answer_cut::<Levels, O>(alloc, problem, arcs, sink, out) }
         Job::Connect { undirected, pair } => {
-            answer_connect::<Levels, O>(alloc, problem, ConnectForm { undirected, pair }, out)
+            answer_connect::<Levels, O>(alloc, problem, undirected, pair, out)
         }
         Job::Check { feasible_only } => {
             answer_check(alloc, &problem, feasible_only, solution, out)

@@ -1,7 +1,11 @@
 //! Where the bytes of a run come from, and where they go.
 ghost use Rattle.std.specs.Prelude.{◌≡◌, ◌≤◌, ◌<◌, ℕ, length, IfOk};
 ghost use Rattle.std.specs.Io.KnownBytes.{ReadConsumes, WriteAppends};
-ghost use Rattle.flow_tools.specs.Streams.{Flags, State};
+ghost use Rattle.flow_tools.specs.streams.Streams.{Flags, State};
+
+pub(crate) mod counted;
+pub mod memory;
+pub(crate) mod sending;
 
 use thiserror::Error;
 

@@ -2,8 +2,8 @@
 -- adds its capacity where it is of the pair.
 use Rattle.std.proofs.Common.{◌≡◌, ℕ, ◌+◌, take, sym, subst, arith}
 use Rattle.flow_net.specs.Cuts.{cap_over}
-use Rattle.flow_tools.specs.ArcShares.{is_pair}
-use Rattle.flow_tools.proofs.ArcSums.{cap_over-most, cap_over-take-le, cap_pair_yes, cap_pair_no}
+use Rattle.flow_tools.specs.checking.ArcShares.{is_pair}
+use Rattle.flow_tools.proofs.checking.ArcSums.{cap_over-most, cap_over-take-le, cap_pair_yes, cap_pair_no}
 use Rattle.flow_tools.proofs.checking.cap_of_pair.Goals as goal
 use Rattle.flow_tools.proofs.checking.cap_of_pair.Goals.{then-arc-src+then-arc-dst, else-arc-src}
 use Rattle.flow_tools.proofs.checking.cap_of_pair.Goals.{else-arc-src-via-then-arc-src+else-arc-dst}

@@ -4,11 +4,11 @@ use Rattle.std.proofs.Common.{List, ◌<◌, ◌^◌, subst, sym, arith}
 use Rattle.flow_net.specs.Limits.{IsNet}
 use Rattle.flow_text.specs.SolutionReading.{written_in}
 use Rattle.flow_text.specs.declared.solutions.FlowLine.{FlowLine}
-use Rattle.flow_tools.specs.SolutionFlows.{pair_flow}
-use Rattle.flow_tools.specs.ArcShares.{is_pair}
-use Rattle.flow_tools.specs.ArcShares.{IsSharedOut}
-use Rattle.flow_tools.proofs.LineSums.{line_flow-most}
-use Rattle.flow_tools.proofs.PairSums.{over_told, result_told}
+use Rattle.flow_tools.specs.checking.SolutionFlows.{pair_flow}
+use Rattle.flow_tools.specs.checking.ArcShares.{is_pair}
+use Rattle.flow_tools.specs.checking.ArcShares.{IsSharedOut}
+use Rattle.flow_tools.proofs.checking.LineSums.{line_flow-most}
+use Rattle.flow_tools.proofs.checking.PairSums.{over_told, result_told}
 use Rattle.flow_tools.proofs.checking.check.Goals as goal
 
 pub flow_of_pair-requires : goal.flow_of_pair-requires

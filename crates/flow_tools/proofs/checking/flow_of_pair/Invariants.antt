@@ -1,6 +1,6 @@
 -- The sum of the pair's flows over the lines so far.
 use Rattle.std.proofs.Common.{◌≡◌, take}
-use Rattle.flow_tools.specs.SolutionFlows.{pair_flow}
+use Rattle.flow_tools.specs.checking.SolutionFlows.{pair_flow}
 use Rattle.flow_tools.proofs.checking.flow_of_pair.Given as goal
 
 abbrev pub invariant-loop-line : goal.invariant-loop-line

@@ -1,10 +1,10 @@
 -- The verdicts of `judge`: a wrong sum as `wrong_sum` tells it; else the flow on the arcs has the value of the
 -- solution, and is greatest or less as `is_greatest` says.
-use Rattle.std.proofs.Common.{Bool, subst, refl, MatchOption}
+use Rattle.std.proofs.Common.{subst, refl}
 use Rattle.flow_net.specs.NodeSets.{one_of}
 use Rattle.flow_text.specs.SolutionReading.{written_in}
-use Rattle.flow_tools.specs.Verdicts.{IsRight, IsVerdict}
-use Rattle.flow_tools.proofs.Judging.{carried_within, carried_value, carried_feasible, greatest_value}
+use Rattle.flow_tools.specs.checking.FirstFaults.{IsSumsVerdict}
+use Rattle.flow_tools.proofs.checking.Judging.{carried_within, carried_value, carried_feasible, greatest_value}
 use Rattle.flow_tools.proofs.checking.judge.Goals as goal
 
 pub wrong_sum-requires-clause-within : goal.wrong_sum-requires-clause-within
@@ -16,29 +16,20 @@ pub is_greatest-requires : goal.is_greatest-requires
 is_greatest-requires c =
     let p = c.args.problem.now in
     let w = written_in c.args.solution.now in
-    let right = subst
-    (λ o. MatchOption o (IsRight p w.value w.lines)
-    (λ verdict. (feasible_only : Bool) → IsVerdict p w.value w.lines feasible_only verdict))
-    c.in_default.is c.in_ok-verdict.ensures in
+    let right = subst (IsSumsVerdict p w.value w.lines) c.in_default.is c.in_ok-verdict.ensures in
     carried_feasible p w.lines c.args.flow.now.flows c.requires.fits c.requires.carries right.1
 
 pub returns-in-Some : goal.returns-in-Some
 returns-in-Some c =
     let p = c.args.problem.now in
     let w = written_in c.args.solution.now in
-    (subst
-    (λ o. MatchOption o (IsRight p w.value w.lines)
-    (λ verdict. (feasible_only : Bool) → IsVerdict p w.value w.lines feasible_only verdict))
-    c.in-Some.is c.in_ok-verdict.ensures) c.args.feasible_only
+    subst (IsSumsVerdict p w.value w.lines) c.in-Some.is c.in_ok-verdict.ensures c.args.feasible_only
 
 pub returns-then-branch : goal.returns-then-branch
 returns-then-branch c =
     let p = c.args.problem.now in
     let w = written_in c.args.solution.now in
-    let right = subst
-    (λ o. MatchOption o (IsRight p w.value w.lines)
-    (λ verdict. (feasible_only : Bool) → IsVerdict p w.value w.lines feasible_only verdict))
-    c.in_default.is c.in_ok-verdict.ensures in
+    let right = subst (IsSumsVerdict p w.value w.lines) c.in_default.is c.in_ok-verdict.ensures in
     let value = carried_value p w.lines c.args.flow.now.flows w.value c.requires.carries right.2 in (
       right,
       c.if-feasible_only.false,
@@ -51,10 +42,7 @@ pub returns-else-branch : goal.returns-else-branch
 returns-else-branch c =
     let p = c.args.problem.now in
     let w = written_in c.args.solution.now in
-    let right = subst
-    (λ o. MatchOption o (IsRight p w.value w.lines)
-    (λ verdict. (feasible_only : Bool) → IsVerdict p w.value w.lines feasible_only verdict))
-    c.in_default.is c.in_ok-verdict.ensures in
+    let right = subst (IsSumsVerdict p w.value w.lines) c.in_default.is c.in_ok-verdict.ensures in
     let value = carried_value p w.lines c.args.flow.now.flows w.value c.requires.carries right.2 in
     let less = c.in_ok-is_greatest.ensures.less c.if-branch.false in
     (right, c.if-feasible_only.false, refl, (less.0, less.1, less.2 w.value value))

@@ -1,20 +1,12 @@
 -- The verdicts of `wrong_sum`: the cells of a node hold what the lines say of it, and the sums over the sources fit
 -- since the sum over all lines does.
-use Rattle.std.proofs.Common.{◌≡◌, ◌-◌, ◌∙◌, ℕ, List, ap, sym, subst, MatchOption, arith}
+use Rattle.std.proofs.Common.{◌-◌, ◌∙◌, sym, subst, MatchOption, arith}
 use Rattle.std.proofs.lemmas.Grind.{get_or_default_zero}
-use Rattle.flow_net.specs.Nets.{Net}
-use Rattle.flow_net.specs.NodeSets.{one_of}
-use Rattle.flow_text.specs.declared.solutions.FlowLine.{FlowLine}
-use Rattle.flow_tools.specs.NodeSums.{AreNodeFlows, IsCellOf}
-use Rattle.flow_tools.specs.Verdicts.{IsBalanced}
-use Rattle.flow_tools.specs.FirstFaults.{IsFirstUnbalanced}
-use Rattle.flow_tools.proofs.LineSums.{line_flow-most}
-use Rattle.flow_tools.proofs.NodeSumLemmas.{cell_into, cell_out, sources_into, sources_out}
+use Rattle.flow_tools.specs.checking.NodeSums.{IsCellOf}
+use Rattle.flow_tools.specs.checking.Verdicts.{IsBalanced}
+use Rattle.flow_tools.specs.checking.FirstFaults.{IsFirstUnbalanced}
+use Rattle.flow_tools.proofs.checking.NodeSumLemmas.{cell_into, cell_out, sources_fit}
 use Rattle.flow_tools.proofs.checking.wrong_sum.Goals as goal
-
-read : (n m : ℕ) (xs ys : List FlowLine) (into out : List ℕ) → n ≡ m → xs ≡ ys → AreNodeFlows n xs into out
-    → AreNodeFlows m ys into out
-read n m xs ys into out e f h = subst (λ k. AreNodeFlows k ys into out) e (subst (λ zs. AreNodeFlows n zs into out) f h)
 
 pub returns-in-Some : goal.returns-in-Some
 returns-in-Some c = λ feasible_only.
@@ -22,9 +14,7 @@ returns-in-Some c = λ feasible_only.
     let lines = c.args.solution.now.lines.items in
     let into = c.in_ok-flows.flows.into.items in
     let out = c.in_ok-flows.flows.out.items in
-    let flows = read c.nodes.result p.net.nodes c.as_slice.result.now lines into out
-    (c.nodes.ensures.nodes ∙ ap (λ (n : Net). n.nodes) c.net.ensures.net) c.as_slice.ensures.value
-    c.in_ok-flows.ensures in
+    let flows = rw (c.nodes.ensures.nodes, c.net.ensures.net, c.as_slice.ensures.value) at c.in_ok-flows.ensures in
     let found = subst (λ o. MatchOption o (IsBalanced p lines) (IsFirstUnbalanced p lines)) c.in-Some.is
     (c.in_ok-node.ensures lines flows) in
     let at : IsCellOf p.net.nodes c.in-Some.node = found.inner.0 in
@@ -44,32 +34,14 @@ returns-in-Some c = λ feasible_only.
 
 pub outflow_of_sources-found-requires-clause-into_fits : goal.outflow_of_sources-found-requires-clause-into_fits
 outflow_of_sources-found-requires-clause-into_fits c =
-    let p = c.args.problem.now in
-    let lines = c.args.solution.now.lines.items in
-    let into = c.in_ok-flows.flows.into.items in
-    let out = c.in_ok-flows.flows.out.items in
-    let flows = read c.nodes.result p.net.nodes c.as_slice.result.now lines into out
-    (c.nodes.ensures.nodes ∙ ap (λ (n : Net). n.nodes) c.net.ensures.net) c.as_slice.ensures.value
-    c.in_ok-flows.ensures in
-    omega (
-      arith,
-      sources_into p lines into out c.net.ensures.is_problem flows,
-      line_flow-most (λ u v. one_of p.sources v) p.net.nodes lines c.requires.limits.lines_within,
-      c.requires.limits.lines_most,
-    )
+    (sources_fit c.args.problem.now c.args.solution.now.lines.items c.in_ok-flows.flows.into.items
+    c.in_ok-flows.flows.out.items c.net.ensures.is_problem
+    (rw (c.nodes.ensures.nodes, c.net.ensures.net, c.as_slice.ensures.value) at c.in_ok-flows.ensures)
+    c.requires.limits.lines_within c.requires.limits.lines_most).0
 
 pub outflow_of_sources-found-requires-clause-out_fits : goal.outflow_of_sources-found-requires-clause-out_fits
 outflow_of_sources-found-requires-clause-out_fits c =
-    let p = c.args.problem.now in
-    let lines = c.args.solution.now.lines.items in
-    let into = c.in_ok-flows.flows.into.items in
-    let out = c.in_ok-flows.flows.out.items in
-    let flows = read c.nodes.result p.net.nodes c.as_slice.result.now lines into out
-    (c.nodes.ensures.nodes ∙ ap (λ (n : Net). n.nodes) c.net.ensures.net) c.as_slice.ensures.value
-    c.in_ok-flows.ensures in
-    omega (
-      arith,
-      sources_out p lines into out c.net.ensures.is_problem flows,
-      line_flow-most (λ u v. one_of p.sources u) p.net.nodes lines c.requires.limits.lines_within,
-      c.requires.limits.lines_most,
-    )
+    (sources_fit c.args.problem.now c.args.solution.now.lines.items c.in_ok-flows.flows.into.items
+    c.in_ok-flows.flows.out.items c.net.ensures.is_problem
+    (rw (c.nodes.ensures.nodes, c.net.ensures.net, c.as_slice.ensures.value) at c.in_ok-flows.ensures)
+    c.requires.limits.lines_within c.requires.limits.lines_most).1

@@ -1,7 +1,7 @@
 -- Each arc that is no self-loop counts once at either end, in both counts.
 use Rattle.std.proofs.Common.{arith}
 use Rattle.flow_net.proofs.Zips.{arc_within}
-use Rattle.flow_tools.proofs.ConnectingLemmas.{degrees_loop, degrees_more}
+use Rattle.flow_tools.proofs.connecting.ConnectingLemmas.{degrees_loop, degrees_more}
 use Rattle.flow_tools.proofs.connecting.count_degrees.Goals as goal
 use Rattle.flow_tools.proofs.connecting.count_degrees.Goals.{then-arc, else-arc}
 

@@ -1,6 +1,6 @@
 -- The degrees by the arcs so far.
 use Rattle.std.proofs.Common.{◌≡◌, take, length}
-use Rattle.flow_tools.specs.Degrees.{AreDegrees}
+use Rattle.flow_tools.specs.connecting.Degrees.{AreDegrees}
 use Rattle.flow_tools.proofs.connecting.count_degrees.Given as goal
 
 abbrev pub invariant-loop-i : goal.invariant-loop-i

@@ -1,7 +1,7 @@
 -- Two nodes have no sets but those of one node; and where the growth isn't done, its steps and those round the circle
 -- are within the bound of both.
 use Rattle.std.proofs.Common.{arith}
-use Rattle.flow_tools.proofs.CircleLemmas.{two_nodes, both_steps}
+use Rattle.flow_tools.proofs.connecting.CircleLemmas.{two_nodes, both_steps}
 use Rattle.flow_tools.proofs.connecting.least_cut.Goals as goal
 
 pub returns-then-n-eq2-clause-connectivity : goal.returns-then-n-eq2-clause-connectivity

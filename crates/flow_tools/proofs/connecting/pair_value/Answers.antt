@@ -2,7 +2,7 @@
 -- fits 64 bits.
 use Rattle.std.proofs.Common.{arith}
 use Rattle.flow_net.specs.NodeSets.{one_of}
-use Rattle.flow_tools.proofs.ConnectingLemmas.{solved_pair, pair_bounded}
+use Rattle.flow_tools.proofs.connecting.ConnectingLemmas.{solved_pair, pair_bounded}
 use Rattle.flow_tools.proofs.connecting.pair_value.Goals as goal
 
 pub returns-clause-pair : goal.returns-clause-pair

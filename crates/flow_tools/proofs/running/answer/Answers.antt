@@ -1,6 +1,6 @@
 -- Each way out of `answer`: the problem's reader stops it, or the job of that kind puts its answer.
-use Rattle.flow_tools.specs.Streams.{over}
-use Rattle.flow_tools.proofs.EndLemmas.{problem_stops, answered, checked}
+use Rattle.flow_tools.specs.streams.Streams.{over}
+use Rattle.flow_tools.proofs.running.EndLemmas.{problem_stops, answered, checked}
 use Rattle.flow_tools.proofs.running.answer.Goals as goal
 
 pub returns-in-Err : goal.returns-in-Err

@@ -1,0 +1,3 @@
+pub mod ConnectingLemmas
+pub mod ConnectAnswers
+mod CircleLemmas

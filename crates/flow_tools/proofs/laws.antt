@@ -1,0 +1,4 @@
+pub mod PrintedNumbers
+pub mod PrintedLines
+pub mod OptimalTexts
+pub mod CutTextLemmas

@@ -1,0 +1,3 @@
+pub mod PullLemmas
+pub mod EndLemmas
+pub mod TextRunLemmas

@@ -1,0 +1,18 @@
+-- The exits of the run, over inputs that can't fail.
+use Rattle.std.proofs.Common.{sym, ◌∙◌}
+use Rattle.flow_tools.proofs.running.TextRunLemmas.{ran_refused, ran_done}
+use Rattle.flow_tools.proofs.running.texts.run_on_texts.Goals as goal
+
+pub returns-then-status-eq4 : goal.returns-then-status-eq4
+returns-then-status-eq4 c =
+    let h = ran_refused _ _ _ _ _ _ _ _ _ _ _ _ _ _ (record {}) c.run-status.ensures in (h.0, h.1, cc, cc, h.4)
+
+pub returns-then-cut_short : goal.returns-then-cut_short
+returns-then-cut_short c =
+    let h = ran_refused _ _ _ _ _ _ _ _ _ _ _ _ _ _ (record {}) c.run-status.ensures in (h.0, h.1, cc, cc, h.4)
+
+pub returns : goal.returns
+returns c =
+    let h = ran_done _ _ _ _ _ _ _ _ _ _ _ _ _ _ c.early_fault_stays.ensures c.early_solution_fault_stays.ensures
+    c.run-status.ensures c.if-status-eq4.false (sym c.failed-cut_short.ensures.flag ∙ c.if-cut_short.false) in
+    (h.0, h.1, cc, cc, h.4)

@@ -1,9 +1,0 @@
--- Sorting orders the lines by their pairs.
-use Rattle.std.proofs.Common.{rules}
-use Rattle.std.proofs.lemmas.List.Sorted.{IsNonDecreasingBy-from_sort_by_key}
-use Rattle.flow_tools.specs.ArcShares.{line_rank}
-use Rattle.flow_tools.proofs.sharing.ordered_lines.Goals as goal
-
-pub returns-clause-ordered : goal.returns-clause-ordered
-returns-clause-ordered c =
-    IsNonDecreasingBy-from_sort_by_key line_rank _ c.sort_unstable_by_key.ensures.sorted (λ a r q k. search rules)

@@ -1,0 +1,4 @@
+pub mod LineLemmas
+pub mod PrintLemmas
+pub mod ArrangedLemmas
+pub mod AnswerLemmas

@@ -1,0 +1,2 @@
+pub mod StreamParts
+pub mod SendLemmas

@@ -1,0 +1,2 @@
+pub mod SolvedTexts
+pub mod CutTexts

@@ -1,0 +1,66 @@
+//! The answer of a `connect` job: the connectivity of the problem's network.
+ghost use Rattle.std.specs.Prelude.{◌≡◌, [], ◌≤◌, true, false, length, if◌then◌else◌, IfOk};
+ghost use Rattle.std.specs.List.{All};
+ghost use Rattle.flow_net.specs.declared.limits.TheConstants.{MOST_ARCS};
+ghost use Rattle.flow_net.specs.Limits.{AreTerminals};
+ghost use Rattle.flow_net.specs.DerivedNets.{unit, both_ways};
+ghost use Rattle.flow_net.specs.NodeSets.{one_of};
+ghost use Rattle.flow_net.specs.LeastCuts.{IsConnectivity, IsPairConnectivity};
+ghost use Rattle.flow_tools.specs.running.AnswerExits.{Puts};
+ghost use Rattle.flow_tools.specs.streams.Streams.{over};
+
+use crate::cells::work_for;
+use crate::connecting::connectivity;
+use crate::running::jobs::{Job, Stop, ended};
+use crate::streams::Output;
+use crate::streams::sending::put_all;
+use flow_net::{FlowTable, Network, OutOfMemory, Problem};
+use flow_solve::Method;
+use flow_text::connect_line;
+use std::alloc::Global;
+
+/// The network in which a flow counts arcs: every capacity is 1, and where `undirected` is true each arc is there both
+/// ways.
+fn counting_network(mut net: Network, undirected: bool) -> Result<Network, OutOfMemory>
+    requires room { length net.arcs ≤ MOST_ARCS }
+    ensures { IfOk result (λ made. made ≡ unit (if undirected then both_ways net else net)) }
+{
+    if undirected {
+        net.both_ways()?;
+    }
+    Ok(net.unit())
+}
+
+/// The connectivity of a network of capacities of 1. All the memory is asked for first.
+fn solve_connectivity<M: Method>(
+    alloc: Global,
+    net: &Network,
+    pair: bool,
+    s: &[u32],
+    t: &[u32],
+) -> Result<u64, OutOfMemory>
+    requires unit { All (λ a. a.cap ≡ 1) net.now.arcs }
+    requires terminals { AreTerminals net.now s.now t.now }
+    ensures pair { pair ≡ true → IfOk result (λ value. IsPairConnectivity net.now (one_of s.now) (one_of t.now) value) }
+    ensures whole { pair ≡ false → IfOk result (λ value. IsConnectivity net.now value) }
+{
+    let mut table = FlowTable::new(alloc, net)?;
+    let mut work = work_for(alloc, net)?;
+    Ok(connectivity::<M>(net, pair, s, t, &mut table, work.as_mut_slice()))
+}
+
+/// Puts the connectivity that is asked for.
+pub(crate) fn answer_connect<M: Method, O: Output>(
+    alloc: Global,
+    problem: Problem,
+    undirected: bool,
+    pair: bool,
+    out: &mut O,
+) -> Result<u8, Stop>
+    ensures { Puts (Job.Connect undirected pair) problem [] (over (O.state out.old) (O.state out.new)) result }
+{
+    let (net, sources, sinks) = problem.into_parts();
+    let net = counting_network(net, undirected)?;
+    let value = solve_connectivity::<M>(alloc, &net, pair, &sources, &sinks)?;
+    ended(put_all(out, connect_line(value).as_slice()), 0)
+}

@@ -1,0 +1,80 @@
+//! What is asked of a run, and why one ends without an answer.
+ghost use Rattle.std.specs.Prelude.{◌≡◌, ℕ, List};
+ghost use Rattle.flow_net.specs.Nets.{Instance};
+ghost use Rattle.flow_tools.specs.streams.Sending.{IsPut};
+ghost use Rattle.flow_tools.specs.streams.Streams.{Stream};
+ghost use Rattle.flow_tools.specs.running.AnswerExits.{Puts};
+ghost use Rattle.flow_tools.specs.running.Answers.{IsAnswer};
+ghost use Rattle.flow_tools.specs.declared.running.jobs.Stop.TheVariants.{OutOfMemory};
+
+use crate::streams::Failed;
+use flow_net::OutOfMemory;
+use flow_text::FaultCode;
+
+/// What a run computes and prints.
+#[derive(Clone, Copy, Debug, PartialEq, Eq)]
+pub enum Job {
+    /// The greatest value of a feasible flow, and such a flow.
+    Solve {
+        /// The value is printed alone.
+        value_only: bool,
+    },
+    /// A minimum cut: the one with the least source side.
+    Cut {
+        /// The arcs that leave the printed source side are printed too.
+        arcs: bool,
+        /// The cut with the least sink side is printed in place of the other.
+        sink: bool,
+    },
+    /// The edge connectivity, by arc lines.
+    Connect {
+        /// Arcs count by their ends, not by their direction.
+        undirected: bool,
+        /// The sets that count have every source inside and every sink outside.
+        pair: bool,
+    },
+    /// The verdict on a solution.
+    Check {
+        /// It isn't asked whether a flow of greater value exists.
+        feasible_only: bool,
+    },
+}
+
+/// Why a run ends without an answer.
+#[derive(Clone, Copy, Debug, PartialEq, Eq)]
+pub enum Stop {
+    /// An input isn't in its format.
+    Fault {
+        /// Whether the input is the solution; else it is the problem.
+        solution: bool,
+        /// The line of the fault, counted from 1.
+        line: u64,
+        /// What is wrong there.
+        code: FaultCode,
+    },
+    /// A pull failed.
+    ReadFailed,
+    /// A put to the output failed.
+    WriteFailed,
+    /// A growth of memory was refused.
+    OutOfMemory,
+}
+
+impl From<OutOfMemory> for Stop {
+    ghost from_gives = { λ _ stop. stop ≡ OutOfMemory };
+
+    fn from(_refused: OutOfMemory) -> Stop {
+        Stop::OutOfMemory
+    }
+}
+
+/// How a run ends that has put its answer: with a status, or because the put failed.
+pub(crate) fn ended(put: Result<(), Failed>, status: u8) -> Result<u8, Stop>
+    ensures { (job : Job) (p : Instance) (q text : List ℕ) (out : Stream) → IsAnswer job p q text status
+        → IsPut text out put → Puts job p q out result }
+{
+    match put {
+        Ok(()) => Ok(status),
+        Err(_) => Err(Stop::WriteFailed),
+    }
+}

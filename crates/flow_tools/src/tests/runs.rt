@@ -1,0 +1,78 @@
+//! Runs over memory, for tests, and what they leave behind.
+
+use crate::streams::memory::{Collector, Script};
+use crate::{Input, Job, run};
+use std::alloc::Global;
+
+/// What a run left behind.
+#[derive(Drop)]
+pub(crate) struct Ended {
+    pub out: Collector<512>,
+    pub err: Collector<128>,
+    pub status: u8,
+    /// How many pulls of the problem were made.
+    pub pulls: u64,
+    /// How many pulls of the solution were made.
+    pub solution_pulls: u64,
+    /// Whether a pull failed.
+    pub read_failed: bool,
+}
+
+/// Runs a job over a problem and a solution.
+pub(crate) fn run_over(
+    alloc: Global,
+    job: Job,
+    mut problem: Script<'_>,
+    mut solution: Script<'_>,
+    mut out: Collector<512>,
+    mut err: Collector<128>,
+) -> Ended {
+    let status = run(alloc, job, &mut problem, &mut solution, &mut out, &mut err);
+    Ended {
+        out,
+        err,
+        status,
+        pulls: problem.pulls,
+        solution_pulls: solution.pulls,
+        read_failed: problem.failed() || solution.failed(),
+    }
+}
+
+/// Runs a job over a problem alone: a pull of its solution would fail.
+pub(crate) fn run_alone(
+    alloc: Global,
+    job: Job,
+    problem: Script<'_>,
+    out: Collector<512>,
+    err: Collector<128>,
+) -> Ended {
+    run_over(alloc, job, problem, Script::new(b"", 1, false, 1), out, err)
+}
+
+/// Runs a job over a problem alone, into ample streams that take 7 bytes a put.
+pub(crate) fn answer(alloc: Global, job: Job, problem: Script<'_>) -> Ended {
+    run_alone(
+        alloc,
+        job,
+        problem,
+        Collector::new(7, 512),
+        Collector::new(7, 128),
+    )
+}
+
+/// Runs a job over a problem and a solution, into ample streams that take 16 bytes a put.
+pub(crate) fn answer_both(
+    alloc: Global,
+    job: Job,
+    problem: Script<'_>,
+    solution: Script<'_>,
+) -> Ended {
+    run_over(
+        alloc,
+        job,
+        problem,
+        solution,
+        Collector::new(16, 512),
+        Collector::new(16, 128),
+    )
+}

@@ -127,7 +127,8 @@ fn least_around<M: Method>(
 }
 
 /// The connectivity, in cells that are all its own: by terminals that grow along an order of the nodes, within the
-/// steps of one solve, or else by a solve for each node. Of two nodes each is a set, so the least degree is it.
+/// steps of one solve, or else by a solve for each node. Of two nodes, a set that counts holds one alone, so the least
+/// degree is the answer.
 fn least_cut<M: Method>(net: &Network, flow: &mut FlowTable, cells: &mut [u32]) -> u64
     requires fits { Fits net.now flow.old.flows }
     requires unit { All (λ a. a.cap ≡ 1) net.now.arcs }

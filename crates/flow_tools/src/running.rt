@@ -78,7 +78,7 @@ fn answer<I: Input, J: Input, O: Output>(
     };
     match job {
         Job::Solve { value_only } => answer_solve::<Levels, O>(alloc, problem, value_only, out),
-        Job::Cut { arcs, sink } => { answer_cut::<Levels, O>(alloc, problem, arcs, sink, out) }
+        Job::Cut { arcs, sink } => answer_cut::<Levels, O>(alloc, problem, arcs, sink, out),
         Job::Connect { undirected, pair } => {
             answer_connect::<Levels, O>(alloc, problem, undirected, pair, out)
         }

@@ -42,7 +42,7 @@ pub record AreArcPlaces (net : Net) (places : List ArcPlace) : Type 0 where
   pub sound : All (λ p. (p.arc < length net.arcs) × (p ≡ place_of net p.arc)) places
   pub complete : (i : ℕ) → i < length net.arcs → Contains places (place_of net i)
 
--- so, and in the order of their two nodes
+-- the same, in the order of their two nodes
 pub record AreOrderedArcs (net : Net) (places : List ArcPlace) : Type 0 where
   pub listed : AreArcPlaces net places
   pub ordered : IsNonDecreasingBy place_rank places
@@ -64,7 +64,7 @@ HasMore net xs src dst amount ys = (p : ℕ → ℕ → Bool) → arc_flow net p
 abbrev pub IsFull : Net → List ℕ → ℕ → Type 0
 IsFull net xs i = slice_index xs i ≡ (arc_at net i).cap
 
--- each of the first places is of a pair of less than a rank, or its arc is full
+-- each place before `at` has a pair of a lesser rank, or its arc is full
 abbrev pub ArePassed : Net → List ArcPlace → ℕ → ℕ → List ℕ → Type 0
 ArePassed net places at rank xs = (k : ℕ) (d : ArcPlace) → k < at
     → (place_rank (slice_index_or places k d) < rank) ⊎ IsFull net xs (slice_index_or places k d).arc

@@ -1,4 +1,4 @@
--- Solutions of which some feasible flow says as much.
+-- Solutions whose flow lines say what some feasible flow carries.
 use Rattle.std.specs.Prelude.{◌≡◌, ℕ, Bool, true, false, List}
 use Rattle.flow_net.specs.Nets.{Instance}
 use Rattle.flow_net.specs.NodeSets.{one_of}

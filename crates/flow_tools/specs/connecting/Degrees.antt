@@ -17,6 +17,6 @@ pub record AreDegrees (nodes : ℕ) (arcs : List Arc) (out into : List ℕ) : Ty
 abbrev pub next_node : ℕ → ℕ → ℕ
 next_node n v = if v == n then 1 else v + 1
 
--- k is at most the number of each set with the node inside and the next outside
+-- k is at most the number of arcs that leave a set, for each set with the node inside and the next outside
 abbrev pub IsBelowNext : Net → ℕ → ℕ → Type 0
 IsBelowNext net k v = (X : ℕ → Bool) → IsCut (just v) (just (next_node net.nodes v)) X → k ≤ leaving net X

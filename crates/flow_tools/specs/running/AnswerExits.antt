@@ -1,4 +1,4 @@
--- How a run ends but for its message, and a job that was handed a problem.
+-- How a run ends, apart from its message; and how a job ends that was handed a problem.
 use Rattle.std.specs.Prelude.{◌≡◌, ◌⊎◌, ℕ, true, false, List, [], Result, Ok, Err, None, Bool}
 use Rattle.std.specs.Io.KnownBytes.{Appends, Consumes}
 use Rattle.flow_net.specs.Nets.{Instance}
@@ -53,7 +53,7 @@ abbrev pub IsTold : Stream → List ℕ → Type 0
 IsTold err message = (e : List ℕ) × Appends err.before.bytes err.after.bytes e
     × ((IsKept err × (e ≡ message)) ⊎ (HasFailed err × IsBeginning e message))
 
--- A run but for its message: with any stream that took the message it is a whole run.
+-- A run apart from its message: with any stream that took the message it is a whole run.
 abbrev pub Runs : Job → Stream → Stream → Stream → Result ℕ Stop → Type 0
 Runs job source given out end = (err : Stream) (status : ℕ) → IsTold err (ending end).0 → status ≡ (ending end).1
     → EndsWith job source given out err status

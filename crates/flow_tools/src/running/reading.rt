@@ -52,8 +52,8 @@ pub(crate) trait Reader {
 ///
 /// # Errors
 ///
-/// Why the run stops: a fault of the text, `ReadFailed` where a pull failed, or `OutOfMemory` where the reader found
-/// none.
+/// Why the run stops: a fault of the text, `ReadFailed` where a pull failed, or `OutOfMemory` where the reader was
+/// refused memory.
 pub(crate) fn read_all<I: Input, R: Reader + Drop>(
     input: &mut I,
     reader: R,

@@ -50,11 +50,12 @@ pub fn answer_solve<M: Method, O: Output>(
     if value_only {
         return answer_value::<M, O>(alloc, problem, out);
     }
+    let solved = find_flow::<M>(alloc, problem)?;
     let Solved {
         problem,
         value,
         table,
-    } = find_flow::<M>(alloc, problem)?;
+    } = solved;
     let flows = table.into_flows();
     ended(put_solution(out, problem.net(), value, flows.as_slice()), 0)
 }

@@ -1,6 +1,6 @@
 //! The answers of `solve` and `cut`.
 
 pub(crate) mod answers;
-mod arranging;
+pub(crate) mod arranging;
 mod gathering;
 mod printing;

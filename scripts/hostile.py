@@ -144,6 +144,8 @@ def refused_growths(folder):
         (["solve"], NET, (0, SOLVED, b"")),
         (["cut", "--arcs"], NET, (0, b"s 5\nn 1\na 1 2 3\na 1 3 2\n", b"")),
         (["connect", "--undirected"], NET, (0, b"k 2\n", b"")),
+        (["connect", "--undirected"], in_order, (0, b"k 1\n", b"")),
+        (["connect", "--undirected"], scattered, (0, b"k 1\n", b"")),
         (["check", net], SOLUTION, (0, b"optimal 5\n", b"")),
         (["solve"], TOO_FEW_ARCS, (3, b"", b"flow: line 5: too few arcs\n")),
     ]
@@ -164,6 +166,9 @@ def refused_growths(folder):
     # A file whose arcs come in no order is arranged, for which it takes two lists of nodes and two of arcs.
     more = made["solve", scattered] - made["solve", in_order]
     check("a file in no order asks for four lists more", more == 4, more)
+    # For its connectivity it is arranged in cells of their own, which are free again before a solver asks for its own.
+    more = made["connect", scattered] - made["connect", in_order]
+    check("a file in no order asks for four lists and cells more", more == 5, more)
 
 
 def refused_calls(folder):

@@ -1,6 +1,7 @@
 -- Problems that are arranged: their nodes under new names, their arcs in another order.
-use Rattle.std.specs.Prelude.{◌≡◌, ℕ, Bool, not, List, length}
+use Rattle.std.specs.Prelude.{◌≡◌, ◌⊎◌, ℕ, Bool, not, List, length}
 use Rattle.flow_net.specs.Nets.{Net, Instance}
+use Rattle.flow_net.specs.Limits.{IsNet, IsProblem}
 use Rattle.flow_net.specs.Arrangements.{IsArranged, all_named}
 use Rattle.flow_net.specs.Namings.{AreInverse}
 use Rattle.flow_net.specs.NodeSets.{one_of}
@@ -25,6 +26,11 @@ pub record IsArrangedBy (p other : Instance) (lists : Lists) : Type 0 where
   pub sources : other.sources ≡ all_named lists.names.items p.sources
   pub sinks : other.sinks ≡ all_named lists.names.items p.sinks
   pub spots : length lists.spots.items ≡ length other.net.arcs
+
+-- the problem itself, or an arrangement of it by some lists
+abbrev pub IsSameOrArranged : Instance → Instance → Type 0
+IsSameOrArranged p other =
+    (other ≡ p) ⊎ (IsNet p.net × IsProblem p × ((lists : Lists) × IsArrangedBy p other lists))
 
 -- the greatest value, and a feasible flow that has it
 pub record IsSolution (p : Instance) (value : ℕ) (flows : List ℕ) : Type 0 where

@@ -12,6 +12,7 @@ ghost use Rattle.flow_tools.specs.streams.Streams.{over};
 use crate::cells::work_for;
 use crate::connecting::connectivity;
 use crate::running::jobs::{Job, Stop, ended};
+use crate::solving::arranging::arrange_if_scattered;
 use crate::streams::Output;
 use crate::streams::sending::put_all;
 use flow_net::{FlowTable, Network, OutOfMemory, Problem};
@@ -59,6 +60,7 @@ pub(crate) fn answer_connect<M: Method, O: Output>(
 ) -> Result<u8, Stop>
     ensures { Puts (Job.Connect undirected pair) problem [] (over (O.state out.old) (O.state out.new)) result }
 {
+    let problem = arrange_if_scattered(alloc, problem)?;
     let (net, sources, sinks) = problem.into_parts();
     let net = counting_network(net, undirected)?;
     let value = solve_connectivity::<M>(alloc, &net, pair, &sources, &sinks)?;

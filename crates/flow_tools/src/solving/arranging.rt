@@ -6,8 +6,9 @@ ghost use Rattle.flow_net.specs.Limits.{IsNet, IsProblem};
 ghost use Rattle.flow_net.specs.MarkedNodes.{marked};
 ghost use Rattle.flow_net.specs.Arrangements.{named, all_named, carried};
 ghost use Rattle.flow_solve.specs.Bounds.{work_cells};
-ghost use Rattle.flow_tools.specs.solving.ArrangedProblems.{AreListsFor, IsArrangedBy};
+ghost use Rattle.flow_tools.specs.solving.ArrangedProblems.{AreListsFor, IsArrangedBy, IsSameOrArranged};
 
+use crate::cells::{filled, work_for};
 use flow_net::{FlowTable, Network, OutOfMemory, Problem, arrange, restore};
 use flow_solve::{is_scattered, name_nodes};
 use std::alloc::Global;
@@ -25,24 +26,14 @@ pub(crate) struct Lists {
     pub spots: Vec<u32>,
 }
 
-/// Cells with a 0 in each.
-fn make_cells(alloc: Global, len: u32) -> Result<Vec<u32>, OutOfMemory>
-    ensures { IfOk result (λ cells. length cells.items ≡ len) }
-{
-    match Vec::from_elem(alloc, 0u32, len as usize) {
-        Ok(cells) => Ok(cells),
-        Err(_) => Err(OutOfMemory),
-    }
-}
-
 /// All the memory that it takes to arrange a problem.
 pub(crate) fn make_lists(alloc: Global, net: &Network) -> Result<Lists, OutOfMemory>
     ensures { IfOk result (AreListsFor net.now) }
 {
-    let names = make_cells(alloc, net.nodes())?;
-    let nodes = make_cells(alloc, net.nodes())?;
-    let places = make_cells(alloc, net.len())?;
-    let spots = make_cells(alloc, net.len())?;
+    let names = filled(alloc, 0u32, net.nodes() as usize)?;
+    let nodes = filled(alloc, 0u32, net.nodes() as usize)?;
+    let places = filled(alloc, 0u32, net.len() as usize)?;
+    let spots = filled(alloc, 0u32, net.len() as usize)?;
     Ok(Lists {
         names,
         nodes,
@@ -112,6 +103,24 @@ pub(crate) fn arrange_problem(
     rename_all(&mut sources, names);
     rename_all(&mut sinks, names);
     Ok(Problem::new(net, sources, sinks))
+}
+
+/// Arranges a problem whose arcs come in no order, for an answer that speaks of no node and no arc. The memory that this
+/// takes is free again afterwards.
+pub(crate) fn arrange_if_scattered(
+    alloc: Global,
+    problem: Problem,
+) -> Result<Problem, OutOfMemory>
+    ensures { IfOk result (IsSameOrArranged problem) }
+{
+    let Some(mut lists) = lists_if_scattered(alloc, &problem)? else {
+        return Ok(problem);
+    };
+    let mut work = work_for(alloc, problem.net())?;
+    match arrange_problem(problem, &mut lists, work.as_mut_slice()) {
+        Ok(arranged) => Ok(arranged),
+        Err(problem) => Ok(problem),
+    }
 }
 
 /// Gives an arranged problem its old names and order, and carries a flow back with the arcs. It takes no memory.

@@ -115,7 +115,7 @@ fn answer(alloc: Global, job: Job, problem: &[u8], solution: &[u8]) -> Option<Ve
 }
 
 /// Jobs whose answers are the same in whichever order the arcs come.
-const JOBS: [Job; 3] = [
+const JOBS: [Job; 7] = [
     Job::Solve { value_only: true },
     Job::Cut {
         arcs: false,
@@ -124,6 +124,22 @@ const JOBS: [Job; 3] = [
     Job::Cut {
         arcs: false,
         sink: true,
+    },
+    Job::Connect {
+        undirected: false,
+        pair: false,
+    },
+    Job::Connect {
+        undirected: false,
+        pair: true,
+    },
+    Job::Connect {
+        undirected: true,
+        pair: false,
+    },
+    Job::Connect {
+        undirected: true,
+        pair: true,
     },
 ];
 

@@ -12,11 +12,11 @@ use Rattle.flow_net.specs.Arcs.{enters}
 use Rattle.flow_solve.specs.declared.growth.raising.Walk.{Walk}
 use Rattle.flow_solve.specs.declared.growth.turns.Raised.{Raised}
 use Rattle.flow_solve.specs.declared.growth.turns.Turn.{Turn}
-use Rattle.flow_solve.specs.declared.searching.Direction.{Direction}
-use Rattle.flow_solve.specs.declared.searching.Direction.TheVariants.{Forwards, Backwards}
+use Rattle.flow_solve.specs.declared.residual.half_arcs.Direction.{Direction}
+use Rattle.flow_solve.specs.declared.residual.half_arcs.Direction.TheVariants.{Forwards, Backwards}
 use Rattle.flow_net.specs.Residual.{Table, head_of, residual}
-use Rattle.flow_solve.specs.Packs.{IsPacked, group_of}
-use Rattle.flow_solve.specs.Searches.{crossed, IsClosedFor}
+use Rattle.flow_solve.specs.residual.Packs.{IsPacked, group_of}
+use Rattle.flow_solve.specs.residual.HalfArcs.{crossed, IsClosedFor}
 use Rattle.flow_solve.specs.Steps.{PaysSteps, TakesSteps}
 
 -- a set of nodes that is neither empty nor all has so many arcs out of it

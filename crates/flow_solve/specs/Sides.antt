@@ -6,10 +6,10 @@ use Rattle.flow_net.specs.Flows.{HasValue}
 use Rattle.flow_net.specs.GreatestFlows.{HasGreatestValue}
 use Rattle.flow_net.specs.Cuts.{capacity, IsMinimumCut}
 use Rattle.flow_net.specs.LeastSides.{IsInLeastSourceSide, IsInLeastSinkSide}
-use Rattle.flow_solve.specs.declared.searching.Direction.{Direction}
-use Rattle.flow_solve.specs.declared.searching.Direction.TheVariants.{Forwards, Backwards}
-use Rattle.flow_solve.specs.declared.stages.Task.{Task}
-use Rattle.flow_solve.specs.Searches.{seen}
+use Rattle.flow_solve.specs.declared.residual.half_arcs.Direction.{Direction}
+use Rattle.flow_solve.specs.declared.residual.half_arcs.Direction.TheVariants.{Forwards, Backwards}
+use Rattle.flow_solve.specs.declared.task.Task.{Task}
+use Rattle.flow_solve.specs.residual.Searches.{seen}
 
 -- The set has exactly the nodes that lie in the source side of every minimum cut. It makes a minimum cut itself, whose
 -- capacity is the flow's value.

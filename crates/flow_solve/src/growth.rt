@@ -19,7 +19,7 @@ ghost use Rattle.flow_net.specs.Flows.{Fits};
 ghost use Rattle.flow_net.specs.Orders.{IsOrder};
 ghost use Rattle.flow_net.specs.Connectivity.{leaving, IsProper};
 ghost use Rattle.flow_net.specs.LeastCuts.{IsConnectivity};
-ghost use Rattle.flow_solve.specs.Packs.{IsPacked};
+ghost use Rattle.flow_solve.specs.residual.Packs.{IsPacked};
 ghost use Rattle.flow_solve.specs.Bounds.{work_cells};
 ghost use Rattle.flow_solve.specs.Growth.{AreBelow, ArePlaces, HavePlaces, IsClean, IsReached, IsReady, IsTurn, Pays};
 
@@ -32,8 +32,8 @@ mod prefixes;
 mod raising;
 mod turns;
 
-use crate::packing::{Packed, pack};
-use crate::searching::Direction;
+use crate::residual::half_arcs::Direction;
+use crate::residual::packing::{Packed, pack};
 use flow_net::{FlowTable, Network};
 use mirrors::is_both_ways;
 use ordering::order_nodes;

@@ -10,16 +10,17 @@ ghost use Rattle.flow_net.specs.Nets.{Net, IsNode};
 ghost use Rattle.flow_net.specs.NodeSets.{one_of};
 ghost use Rattle.flow_net.specs.Flows.{Fits};
 ghost use Rattle.flow_net.specs.Paths.{HasRoom, push_all};
-ghost use Rattle.flow_solve.specs.Packs.{IsPacked};
-ghost use Rattle.flow_solve.specs.Searches.{AreCells, HasMissed, HasSearched, IsMarked, seen};
+ghost use Rattle.flow_solve.specs.residual.Packs.{IsPacked};
+ghost use Rattle.flow_solve.specs.residual.Searches.{AreCells, HasMissed, HasSearched, IsMarked, seen};
 ghost use Rattle.flow_solve.specs.Bounds.{paths_bound};
 ghost use Rattle.flow_solve.specs.Steps.{OnlyLooks};
-ghost use Rattle.flow_solve.specs.Trails.{AreTrails, IsFirstSeen, IsMost, IsSeenOf, trail_from};
+ghost use Rattle.flow_solve.specs.residual.Trails.{AreTrails, IsFirstSeen, IsMost, IsSeenOf, trail_from};
 
 use crate::method::Method;
-use crate::raising::{Raise, solve};
-use crate::searching::{Direction, Plan, WANTED, head, search};
-use crate::stages::Task;
+use crate::residual::half_arcs::{Direction, head};
+use crate::residual::searching::{Plan, WANTED, search};
+use crate::solving::{Raise, solve};
+use crate::task::Task;
 use flow_net::{FlowTable, Network};
 
 /// The first of some nodes that a search has seen.

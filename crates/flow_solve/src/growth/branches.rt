@@ -12,8 +12,8 @@ ghost use Rattle.flow_solve.specs.Growth.{AreQueued, Carries, HavePlaces, IsClea
 ghost use Rattle.flow_solve.specs.Steps.{PaysLooks};
 
 use crate::growth::frontier::forget;
-use crate::growth::turns::{Raised, Turn, far, near, send_along};
-use crate::searching::{cross, head};
+use crate::growth::turns::{Raised, Turn, send_along};
+use crate::residual::half_arcs::{cross, far, head, near};
 use flow_net::{FlowTable, MOST_NODES};
 
 /// How many times as many nodes as were seen when a search last came to a terminal it goes through at most.
@@ -49,7 +49,7 @@ fn branch_of(nodes: u32, number: u32, node: u32) -> u32
 
 /// Lets the node behind a half-arc be seen, in the branch of the node before it, or in its own if that is the node of
 /// the turn.
-#[tactic(auto, using(crate::proofs::SeenCells::places_marked, crate::proofs::SeenCells::queued_more))]
+#[tactic(auto, using(crate::proofs::GrowthLemmas::SeenCells::places_marked, crate::proofs::GrowthLemmas::SeenCells::queued_more))]
 fn enter(
     turn: Turn<'_>,
     cells: &mut [u32],
@@ -95,7 +95,7 @@ fn is_followed(nodes: u32, cells: &[u32], node: u32) -> bool
 }
 
 /// Gives up the branch of a node.
-#[tactic(auto, using(crate::proofs::SeenCells::places_marked, crate::proofs::SeenCells::queued_same))]
+#[tactic(auto, using(crate::proofs::GrowthLemmas::SeenCells::places_marked, crate::proofs::GrowthLemmas::SeenCells::queued_same))]
 fn give_up(turn: Turn<'_>, cells: &mut [u32], node: u32)
     requires turn { IsTurn turn }
     requires cells { HavePlaces turn cells.old }

@@ -4,11 +4,11 @@ ghost use Rattle.std.specs.Prelude.{◌≡◌, ◌+◌, ◌-◌, ◌*◌, ◌<�
 ghost use Rattle.flow_net.specs.Flows.{Fits};
 ghost use Rattle.flow_net.specs.Orders.{before};
 ghost use Rattle.flow_net.specs.Residual.{head_of};
-ghost use Rattle.flow_solve.specs.Packs.{group_of};
+ghost use Rattle.flow_solve.specs.residual.Packs.{group_of};
 ghost use Rattle.flow_solve.specs.Growth.{Carries, HavePlaces, IsTurn, Pays};
 
 use crate::growth::turns::{Raised, Turn};
-use crate::searching::{cross, head};
+use crate::residual::half_arcs::{cross, head};
 use flow_net::{FlowTable, GREATEST_CAPACITY};
 
 /// Sends a unit over a half-arc from the node of the turn to a node before it, if something remains on it. Answers

@@ -6,7 +6,7 @@ ghost use Rattle.flow_solve.specs.Growth.{AreNodes, ArePlaces, AreQueued, HavePl
 ghost use Rattle.flow_solve.specs.Steps.{OnlyLooks, PaysLooks};
 
 use crate::growth::turns::Turn;
-use crate::searching::{cross, head};
+use crate::residual::half_arcs::{cross, head};
 use flow_net::{FlowTable, MOST_NODES};
 
 /// How far a search has come.
@@ -45,7 +45,7 @@ pub(crate) fn above(nodes: u32, cell: u32) -> u32
 
 /// Looks at a half-arc that leaves a node which is seen, if it leads to one that isn't: a terminal is counted, and
 /// another node is entered with the number for its cell.
-#[tactic(auto, using(crate::proofs::SeenCells::places_marked, crate::proofs::SeenCells::queued_more))]
+#[tactic(auto, using(crate::proofs::GrowthLemmas::SeenCells::places_marked, crate::proofs::GrowthLemmas::SeenCells::queued_more))]
 fn meet(
     turn: Turn<'_>,
     flow: &mut FlowTable,
@@ -232,7 +232,7 @@ pub(crate) fn is_closed(
 }
 
 /// Puts the place of each node in the queue back into its cell.
-#[tactic(auto, using(crate::proofs::SeenCells::left_all, crate::proofs::SeenCells::left_next, crate::proofs::SeenCells::places_back, crate::proofs::SeenCells::clean_after))]
+#[tactic(auto, using(crate::proofs::GrowthLemmas::SeenCells::left_all, crate::proofs::GrowthLemmas::SeenCells::left_next, crate::proofs::GrowthLemmas::SeenCells::places_back, crate::proofs::GrowthLemmas::SeenCells::clean_after))]
 pub(crate) fn forget(order: &[u32], cells: &mut [u32], queue: &[u32], tail: u32)
     requires size { length cells.old ≡ length order.now }
     requires queue_size { length queue.now ≡ length order.now }

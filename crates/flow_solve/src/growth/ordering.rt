@@ -8,12 +8,12 @@
 ghost use Rattle.std.specs.Prelude.{◌≡◌, ◌<◌, ◌≤◌, IfSome, IsTrue, length};
 ghost use Rattle.flow_net.specs.Nets.{IsNode};
 ghost use Rattle.flow_net.specs.Orders.{IsOrder};
-ghost use Rattle.flow_solve.specs.Packs.{IsPacked};
+ghost use Rattle.flow_solve.specs.residual.Packs.{IsPacked};
 ghost use Rattle.flow_solve.specs.Growth.{ArePlaces, IsClean, IsInOrder};
 
-use crate::forest::{END, get, put};
-use crate::packing::Packed;
-use crate::searching::head;
+use crate::residual::cells::{END, get, put};
+use crate::residual::half_arcs::head;
+use crate::residual::packing::Packed;
 use flow_net::MOST_NODES;
 
 /// A sweep over the sets of nodes before each place.

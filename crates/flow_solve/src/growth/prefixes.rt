@@ -9,7 +9,7 @@ ghost use Rattle.flow_net.specs.Connectivity.{leaving, IsProper};
 ghost use Rattle.flow_solve.specs.Growth.{ArePlaces, IsClean, earlier_in, parted};
 
 use crate::growth::ordering::Sweep;
-use crate::searching::Direction;
+use crate::residual::half_arcs::Direction;
 use flow_net::Network;
 
 /// Whether an arc leaves the nodes before a place, and whether it enters them.

@@ -10,8 +10,8 @@ ghost use Rattle.flow_solve.specs.Steps.{PaysLooks};
 use crate::growth::branches::send_by_branches;
 use crate::growth::direct::send_directly;
 use crate::growth::frontier::{above, forget, is_closed, search};
-use crate::growth::turns::{Raised, Turn, far, near, send_along};
-use crate::searching::{cross, head};
+use crate::growth::turns::{Raised, Turn, send_along};
+use crate::residual::half_arcs::{cross, far, near};
 use flow_net::FlowTable;
 
 /// A half-arc that a walk may go over, if there is one, and how many looks and pushes are left.
@@ -75,7 +75,7 @@ struct Walk {
 }
 
 /// Lets a walk enter a node that is seen: at the first time its place is that of its first half-arc.
-#[tactic(auto, using(crate::proofs::SeenCells::places_marked, crate::proofs::SeenCells::queued_same))]
+#[tactic(auto, using(crate::proofs::GrowthLemmas::SeenCells::places_marked, crate::proofs::GrowthLemmas::SeenCells::queued_same))]
 fn enter(turn: Turn<'_>, cells: &mut [u32], current: &mut [u32], node: u32)
     requires turn { IsTurn turn }
     requires cells { HavePlaces turn cells.old }

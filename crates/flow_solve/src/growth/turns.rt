@@ -2,11 +2,11 @@
 ghost use Rattle.std.specs.Prelude.{◌≡◌, ◌+◌, ◌*◌, ◌<◌, ◌≤◌, IfSome, IsTrue, length};
 ghost use Rattle.flow_net.specs.Nets.{IsNode};
 ghost use Rattle.flow_net.specs.Flows.{Fits};
-ghost use Rattle.flow_solve.specs.Searches.{near_end, far_end};
+ghost use Rattle.flow_solve.specs.residual.HalfArcs.{near_end, far_end};
 ghost use Rattle.flow_solve.specs.Growth.{BringsUnit, Carries, HavePlaces, IsTurn, Pays};
 
-use crate::packing::Packed;
-use crate::searching::{Direction, head};
+use crate::residual::half_arcs::{Direction, far, near};
+use crate::residual::packing::Packed;
 use flow_net::{FlowTable, GREATEST_CAPACITY, Network};
 
 /// What the searches and walks of a turn go by.
@@ -27,30 +27,6 @@ pub(crate) struct Turn<'a> {
 pub(crate) struct Raised {
     pub value: u64,
     pub left: u64,
-}
-
-/// The node that a half-arc leads to, as seen from the node of the turn.
-pub(crate) fn far(net: &Network, direction: Direction, half: u32) -> u32
-    requires { half < 2 * length net.now.arcs }
-    ensures far { result ≡ far_end direction net.now half }
-    ensures node { IsNode net.now result }
-{
-    match direction {
-        Direction::Forwards => head(net, half),
-        Direction::Backwards => head(net, half ^ 1),
-    }
-}
-
-/// The node that a half-arc comes from, as seen from the node of the turn.
-pub(crate) fn near(net: &Network, direction: Direction, half: u32) -> u32
-    requires { half < 2 * length net.now.arcs }
-    ensures near { result ≡ near_end direction net.now half }
-    ensures node { IsNode net.now result }
-{
-    match direction {
-        Direction::Forwards => head(net, half ^ 1),
-        Direction::Backwards => head(net, half),
-    }
 }
 
 /// Pushes one unit over the half-arcs of a path, one by one from the node of the turn on, and answers whether all had

@@ -3,7 +3,7 @@
 use Rattle.std.proofs.Common.{◌≡◌, ◌<◌, ℕ, List, length, replicate, ◌∙◌, sym, ap, subst, inl, inr, arith}
 use Rattle.std.proofs.lemmas.Bool.{cases_eq, cases_lt}
 use Rattle.flow_solve.specs.Growth.{IsBalanced, IsBelow}
-use Rattle.flow_solve.proofs.Growing.{balanced_zeros, balanced_next, raised_none, raised_below, parted_proper}
+use Rattle.flow_solve.proofs.GrowthLemmas.Growing.{balanced_zeros, balanced_next, raised_none, raised_below, parted_proper}
 use Rattle.flow_solve.proofs.growth.grow.Goals as goal
 
 -- no flow, and no turn yet

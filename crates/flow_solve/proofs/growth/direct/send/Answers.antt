@@ -3,10 +3,10 @@ use Rattle.std.proofs.Common.{◌≡◌, ◌≤◌, ◌<◌, ◌+◌, ◌-◌, �
 use Rattle.std.specs.Prelude.{slice_index}
 use Rattle.flow_net.specs.Orders.{before}
 use Rattle.flow_net.specs.Residual.{tail_of, residual, pushed}
-use Rattle.flow_solve.specs.Searches.{near_end, far_end, crossed}
+use Rattle.flow_solve.specs.residual.HalfArcs.{near_end, far_end, crossed}
 use Rattle.flow_solve.specs.Growth.{IsRaised}
-use Rattle.flow_solve.proofs.Crossings.{near_crossed, far_crossed, crossed_within, group_tail}
-use Rattle.flow_solve.proofs.Growing.{raised_directly}
+use Rattle.flow_solve.proofs.ResidualLemmas.Crossings.{near_crossed, far_crossed, crossed_within, group_tail}
+use Rattle.flow_solve.proofs.GrowthLemmas.Growing.{raised_directly}
 use Rattle.flow_solve.proofs.growth.direct.send.Goals as goal
 
 pub returns-clause-raised : goal.returns-clause-raised

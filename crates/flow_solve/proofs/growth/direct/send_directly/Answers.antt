@@ -1,7 +1,7 @@
 -- `send_directly`: a cell below the turn's place is that of a node before it.
 use Rattle.std.proofs.Common.{◌≡◌, true, subst}
 use Rattle.flow_net.specs.Orders.{before}
-use Rattle.flow_solve.proofs.SeenCells.{terminal_at}
+use Rattle.flow_solve.proofs.GrowthLemmas.SeenCells.{terminal_at}
 use Rattle.flow_solve.proofs.growth.direct.send_directly.Goals as goal
 
 pub send-requires-clause-earlier : goal.send-requires-clause-earlier

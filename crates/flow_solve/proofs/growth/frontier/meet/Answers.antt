@@ -1,6 +1,6 @@
 -- `meet`: the node that is met waits behind those that were seen before it.
 use Rattle.std.proofs.Common.{◌-◌, arith}
-use Rattle.flow_solve.proofs.SeenCells.{queued_more}
+use Rattle.flow_solve.proofs.GrowthLemmas.SeenCells.{queued_more}
 use Rattle.flow_solve.proofs.growth.frontier.meet.Goals as goal
 
 pub returns-clause-queued : goal.returns-clause-queued

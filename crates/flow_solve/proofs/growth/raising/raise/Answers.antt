@@ -1,8 +1,8 @@
 -- `raise`: searches and walks in turn, until no node waits that a search could go on from.
 use Rattle.std.proofs.Common.{ℕ, List, sym, subst}
-use Rattle.flow_solve.specs.Searches.{IsClosedFor}
+use Rattle.flow_solve.specs.residual.HalfArcs.{IsClosedFor}
 use Rattle.flow_solve.specs.Growth.{IsQueued, seen_in}
-use Rattle.flow_solve.proofs.Growing.{raised_parted}
+use Rattle.flow_solve.proofs.GrowthLemmas.Growing.{raised_parted}
 use Rattle.flow_solve.proofs.growth.raising.raise.Goals as goal
 
 -- the seen nodes are a closed cut, so the value is the number of its arcs

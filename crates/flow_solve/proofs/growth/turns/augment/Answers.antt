@@ -5,9 +5,9 @@ use Rattle.std.specs.Prelude.{slice_index}
 use Rattle.flow_net.specs.NodeSets.{just}
 use Rattle.flow_net.specs.Orders.{before}
 use Rattle.flow_net.specs.Residual.{residual, pushed}
-use Rattle.flow_solve.specs.Searches.{near_end, far_end}
-use Rattle.flow_solve.proofs.Growing.{IsUnderWay, way_on, way_ends}
-use Rattle.flow_solve.proofs.SeenCells.{terminal_at}
+use Rattle.flow_solve.specs.residual.HalfArcs.{near_end, far_end}
+use Rattle.flow_solve.proofs.GrowthLemmas.Growing.{IsUnderWay, way_on, way_ends}
+use Rattle.flow_solve.proofs.GrowthLemmas.SeenCells.{terminal_at}
 use Rattle.flow_solve.proofs.growth.turns.augment.Goals as goal
 
 -- one more half-arc

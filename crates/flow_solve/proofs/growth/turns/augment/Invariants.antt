@@ -5,7 +5,7 @@ use Rattle.flow_net.specs.Flows.{Fits, IsFeasible}
 use Rattle.flow_net.specs.Nets.{IsNode}
 use Rattle.flow_net.specs.NodeSets.{just}
 use Rattle.flow_net.specs.Orders.{before}
-use Rattle.flow_solve.proofs.Growing.{IsUnderWay}
+use Rattle.flow_solve.proofs.GrowthLemmas.Growing.{IsUnderWay}
 use Rattle.flow_solve.proofs.growth.turns.augment.Given as goal
 
 abbrev pub invariant-loop-half : goal.invariant-loop-half

@@ -3,9 +3,9 @@
 use Rattle.std.proofs.Common.{◌<◌, ◌-◌, ◌+◌, length, arith}
 use Rattle.flow_net.specs.NodeSets.{one_of}
 use Rattle.flow_net.proofs.NodeLists.{terminals_apart}
-use Rattle.flow_solve.specs.Searches.{seen}
+use Rattle.flow_solve.specs.residual.Searches.{seen}
 use Rattle.flow_solve.specs.Bounds.{capacities}
-use Rattle.flow_solve.proofs.Routes.{searched_trails}
+use Rattle.flow_solve.proofs.ResidualLemmas.Routes.{searched_trails}
 use Rattle.flow_solve.proofs.Raises.{raised_by, settled, value_most, capacities_fit, paid_more, paid_all}
 use Rattle.flow_solve.proofs.paths.PathsRaise.raise.Goals as goal
 

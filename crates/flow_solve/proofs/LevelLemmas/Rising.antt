@@ -13,7 +13,6 @@ use Rattle.flow_net.specs.Paths.{IsPath, IsApart, push_all}
 use Rattle.flow_net.proofs.AugmentingPaths.{climbs_apart, augmented, no_loops_climbed}
 use Rattle.flow_solve.specs.Solving.{IsFlow}
 use Rattle.flow_solve.specs.levels.Trees.{key_of, IsRising, IsAugmenting}
-use Rattle.flow_solve.proofs.LevelLemmas.Descents.{all_whole, halves_at}
 use Rattle.flow_net.proofs.NodeLists.{one_of-at, terminals_apart}
 use Rattle.flow_solve.proofs.Raises.{value_most, capacities_fit}
 use Rattle.flow_solve.proofs.ResidualLemmas.Routes.{sink_no_source}

@@ -1,11 +1,11 @@
 -- Breadth-first searches over the residual network, forwards from sources or backwards from sinks. Lists of cells have
 -- a cell for each node, that of node 1 first; the place of a node is the number of its cell.
-use Rattle.std.specs.Prelude.{◌⊎◌, ◌≡◌, ℕ, zero, suc, ◌+◌, ◌-◌, ◌*◌, ◌%◌, ◌<◌, ◌≤◌, ◌==◌, nat_lt, if◌then◌else◌, Bool}
+use Rattle.std.specs.Prelude.{◌⊎◌, ◌≡◌, ℕ, zero, suc, ◌+◌, ◌-◌, ◌*◌, ◌<◌, ◌≤◌, nat_lt, if◌then◌else◌, Bool}
 use Rattle.std.specs.Prelude.{false, IsTrue, IsFalse, List, length, slice_index, slice_index_or}
 use Rattle.flow_net.specs.Nets.{Net}
 use Rattle.flow_net.specs.NodeSets.{one_of}
 use Rattle.flow_net.specs.Paths.{IsPath, IsApart, HasRoom}
-use Rattle.flow_net.specs.Residual.{tail_of, head_of, residual}
+use Rattle.flow_net.specs.Residual.{head_of, residual}
 use Rattle.flow_solve.specs.declared.residual.searching.TheConstants.{FAR, WANTED}
 use Rattle.flow_net.specs.declared.limits.TheConstants.{MOST_NODES}
 use Rattle.flow_solve.specs.declared.residual.searching.Arrival.{Arrival}

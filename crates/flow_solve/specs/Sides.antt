@@ -41,8 +41,8 @@ until_of Backwards s t = s
 
 -- of a task: the flow's value is the greatest; the nodes that a search has seen, whose distances stand in the first
 -- cells, are the least side
-abbrev pub IsRaised : Task → List ℕ → Type 0
-IsRaised task xs = HasGreatestValue task.packed.net.now (one_of task.s.now) (one_of task.t.now) xs
+abbrev pub HasGreatestFlow : Task → List ℕ → Type 0
+HasGreatestFlow task xs = HasGreatestValue task.packed.net.now (one_of task.s.now) (one_of task.t.now) xs
 
 abbrev pub SeesSide : Direction → Task → List ℕ → List ℕ → Type 0
 SeesSide dir task xs cells =

@@ -111,7 +111,7 @@ fn push_along(
 }
 
 /// Pushes as much as it can along the trail from a source, and answers how much that is.
-fn augment(net: &Network, flow: &mut FlowTable, dist: &[u32], via: &[u32], source: u32) -> u64
+fn augment_along(net: &Network, flow: &mut FlowTable, dist: &[u32], via: &[u32], source: u32) -> u64
     requires fits { Fits net.now flow.old.flows }
     requires trails { AreTrails net.now flow.old.flows dist.now via.now }
     requires node { IsNode net.now source }
@@ -155,7 +155,7 @@ impl Raise for Paths {
         };
         let mut raised = value;
         while let Some(source) = find_trail(plan, flow, dist, via, queue) {
-            raised += u128::from(augment(packed.net, flow, dist, via, source));
+            raised += u128::from(augment_along(packed.net, flow, dist, via, source));
         }
         raised
     }

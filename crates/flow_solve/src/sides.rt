@@ -16,7 +16,7 @@ ghost use Rattle.flow_solve.specs.Task.{IsTask};
 ghost use Rattle.flow_solve.specs.Steps.{OnlyLooks};
 ghost use Rattle.flow_solve.specs.residual.Searches.{seen};
 ghost use Rattle.flow_solve.specs.Sides.{starts_of, until_of, IsLeastSide, IsLeastSinkSide, IsLeastSourceSide};
-ghost use Rattle.flow_solve.specs.Sides.{IsRaised, SeesSide};
+ghost use Rattle.flow_solve.specs.Sides.{HasGreatestFlow, SeesSide};
 
 use crate::method::Method;
 use crate::residual::half_arcs::Direction;
@@ -52,7 +52,7 @@ fn leads_on(task: Task<'_>, direction: Direction, flow: &mut FlowTable, cells: &
     requires task { IsTask task }
     requires feasible { IsFeasible task.packed.net.now (one_of task.s.now) (one_of task.t.now) flow.old.flows }
     requires cells { length cells.old ≡ 5 * task.packed.net.now.nodes }
-    ensures answer { (result ≡ false) ↔ IsRaised task.entry flow.old.flows }
+    ensures answer { (result ≡ false) ↔ HasGreatestFlow task.entry flow.old.flows }
     ensures side { result ≡ false → SeesSide direction task.entry flow.old.flows cells.new }
     ensures looks { OnlyLooks flow.old flow.new (2 * length task.entry.packed.net.now.arcs) }
 {

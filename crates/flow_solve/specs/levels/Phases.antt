@@ -197,8 +197,8 @@ KeepsGentle phase xs ys =
     (level : ℕ → ℕ) → IsOrdered phase.packed.net.now level (cell_of phase.rank.now)
     → IsGentle phase.packed.net.now xs level → IsGentle phase.packed.net.now ys level
 
-abbrev pub AreLevelsOf : Phase → List ℕ → Type 0
-AreLevelsOf phase xs = AreLevels phase.packed.net.now phase.s.now phase.t.now xs phase.dist.now phase.rank.now
+abbrev pub HasLevels : Phase → List ℕ → Type 0
+HasLevels phase xs = AreLevels phase.packed.net.now phase.s.now phase.t.now xs phase.dist.now phase.rank.now
 
 abbrev pub IsFarIn : Phase → List ℕ → ℕ → Type 0
 IsFarIn phase xs j = IsFar phase.packed.net.now phase.s.now phase.t.now xs j
@@ -216,8 +216,8 @@ Looks packed rank now before next after some =
     after.steps + left packed.net.now (cell_of rank) (place_of packed.halves.now) (cell_of next) any
     ≤ before.steps + left packed.net.now (cell_of rank) (place_of packed.halves.now) (cell_of now) any + some
 
-abbrev pub AreLevelsBy : Plan → List ℕ → List ℕ → List ℕ → Type 0
-AreLevelsBy plan xs dist rank = AreLevels plan.packed.net.now plan.until.now plan.starts.now xs dist rank
+abbrev pub FindsLevels : Plan → List ℕ → List ℕ → List ℕ → Type 0
+FindsLevels plan xs dist rank = AreLevels plan.packed.net.now plan.until.now plan.starts.now xs dist rank
 
 -- each source that was seen is dead; each node that was seen has a rank
 abbrev pub AreDead : Phase → List ℕ → Type 0
@@ -233,5 +233,5 @@ HasRank queue all rank p =
     (slice_index rank p ≡ FAR) ⊎ ((slice_index rank p < all) × (slice_index queue (slice_index rank p) ≡ p))
 
 -- the steps of a walk are paid by what the phase owes less after it
-abbrev pub Pays : Phase → List ℕ → Table → List ℕ → Table → Type 0
-Pays phase now before next after = after.steps + owes phase next after ≤ before.steps + owes phase now before
+abbrev pub PaysOwed : Phase → List ℕ → Table → List ℕ → Table → Type 0
+PaysOwed phase now before next after = after.steps + owes phase next after ≤ before.steps + owes phase now before

@@ -46,7 +46,7 @@ pub(crate) fn above(nodes: u32, cell: u32) -> u32
 /// Looks at a half-arc that leaves a node which is seen, if it leads to one that isn't: a terminal is counted, and
 /// another node is entered with the number for its cell.
 #[tactic(auto, using(crate::proofs::GrowthLemmas::SeenCells::places_marked, crate::proofs::GrowthLemmas::SeenCells::queued_more))]
-fn meet(
+fn expand_over(
     turn: Turn<'_>,
     flow: &mut FlowTable,
     cells: &mut [u32],
@@ -116,14 +116,14 @@ fn expand(
             return reached;
         }
         let half = packed.halves[spot as usize];
-        reached = meet(turn, flow, cells, queue, reached, Exit { half, level });
+        reached = expand_over(turn, flow, cells, queue, reached, Exit { half, level });
     }
     reached
 }
 
 /// Searches from the node of the turn, until so many terminals are met, the level is done from which the first was met,
 /// or no further node can be seen.
-pub(crate) fn search(
+pub(crate) fn search_frontier(
     turn: Turn<'_>,
     flow: &mut FlowTable,
     cells: &mut [u32],

@@ -14,8 +14,8 @@ ghost use Rattle.flow_solve.specs.Solving.{IsFlow};
 ghost use Rattle.flow_solve.specs.residual.Searches.{AreCells, HasMissed};
 ghost use Rattle.flow_solve.specs.Task.{HasFlow, IsTask};
 ghost use Rattle.flow_solve.specs.Steps.{OnlyLooks};
-ghost use Rattle.flow_solve.specs.levels.Phases.{AreDead, AreLevelsBy, AreLevelsOf, AreRankedIn, HasRank, IsAt, IsFarIn};
-ghost use Rattle.flow_solve.specs.levels.Phases.{IsPhase, KeepsGentle, Pays};
+ghost use Rattle.flow_solve.specs.levels.Phases.{AreDead, FindsLevels, HasLevels, AreRankedIn, HasRank, IsAt, IsFarIn};
+ghost use Rattle.flow_solve.specs.levels.Phases.{IsPhase, KeepsGentle, PaysOwed};
 
 use crate::levels::walking::{Phase, walk};
 use crate::residual::half_arcs::Direction;
@@ -60,7 +60,7 @@ fn find_levels(
     requires backwards { plan.direction ≡ Direction.Backwards }
     requires enough { plan.enough ≡ min (length plan.until.now) u32.MAX }
     requires cells { AreCells plan.packed.net.now dist.old rank.old queue.old }
-    ensures levels { result ≡ true → AreLevelsBy plan.entry flow.old.flows dist.new rank.new }
+    ensures levels { result ≡ true → FindsLevels plan.entry flow.old.flows dist.new rank.new }
     ensures missed { result ≡ false → HasMissed plan.entry flow.old.flows dist.new }
     ensures looks { OnlyLooks flow.old flow.new (2 * length plan.entry.packed.net.now.arcs) }
 {
@@ -75,7 +75,7 @@ fn find_levels(
 }
 
 /// Walks from each source that the search has seen, until all of them are dead. Answers the flow's value.
-fn walk_all(
+fn walk_from_sources(
     phase: Phase<'_>,
     flow: &mut FlowTable,
     current: &mut [u32],
@@ -90,7 +90,7 @@ fn walk_all(
     ensures dead { AreDead phase.entry current.new }
     ensures gentle { KeepsGentle phase.entry flow.old.flows flow.new.flows }
     ensures never_lowered { flow.old.steps ≤ flow.new.steps }
-    ensures steps { Pays phase.entry current.old flow.old current.new flow.new }
+    ensures steps { PaysOwed phase.entry current.old flow.old current.new flow.new }
 {
     let mut raised = value;
     for source in phase.s {
@@ -113,7 +113,7 @@ fn run_phase(
     requires run { IsPhase phase }
     requires size { length current.old ≡ phase.packed.net.now.nodes }
     requires path_size { length path.old ≡ phase.packed.net.now.nodes }
-    requires levels { AreLevelsOf phase flow.old.flows }
+    requires levels { HasLevels phase flow.old.flows }
     requires flow { IsFlow phase.packed.net.now phase.s.now phase.t.now flow.old.flows value }
     ensures flow { IsFlow phase.entry.packed.net.now phase.entry.s.now phase.entry.t.now flow.new.flows result }
     ensures few { (j : ℕ) → IsFarIn phase.entry flow.old.flows j → j + 1 < phase.entry.packed.net.now.nodes }
@@ -123,7 +123,7 @@ fn run_phase(
 {
     let n = phase.packed.net.nodes() as usize;
     current.copy_from_slice(&phase.packed.first[..n]);
-    walk_all(phase, flow, current, path, value)
+    walk_from_sources(phase, flow, current, path, value)
 }
 
 /// Raises a feasible flow by phases until a search backwards from the sinks sees no source, and answers its value,

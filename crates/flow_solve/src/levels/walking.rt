@@ -10,7 +10,7 @@ ghost use Rattle.flow_net.specs.Residual.{tail_of, head_of, residual};
 ghost use Rattle.flow_net.specs.Paths.{IsApart, push_all};
 ghost use Rattle.flow_solve.specs.residual.Packs.{IsPacked};
 ghost use Rattle.flow_solve.specs.levels.Phases.{cell_of, HasLooked, IsAt, IsCurrent, IsDeadIn, IsFilling, IsNext, IsPhase};
-ghost use Rattle.flow_solve.specs.levels.Phases.{KeepsGentle, Looks, Pays};
+ghost use Rattle.flow_solve.specs.levels.Phases.{KeepsGentle, Looks, PaysOwed};
 
 use crate::residual::half_arcs::{head, tail};
 use crate::residual::packing::Packed;
@@ -170,7 +170,7 @@ pub(crate) fn walk(
     ensures gentle { KeepsGentle phase.entry flow.old.flows flow.new.flows }
     ensures risen { (v : ℕ) → cell_of current.old v ≤ cell_of current.new v }
     ensures never_lowered { flow.old.steps ≤ flow.new.steps }
-    ensures steps { Pays phase.entry current.old flow.old current.new flow.new }
+    ensures steps { PaysOwed phase.entry current.old flow.old current.new flow.new }
 {
     let packed = phase.packed;
     // Brings the network's limits, `IsNet`, into the proof.

@@ -29,9 +29,9 @@ use crate::residual::packing::Packed;
 use crate::residual::searching::FAR;
 use crate::task::Task;
 use discharging::discharge;
-use excess::{Wave, afford, at_rest, book, level_of, set_levels, unlink};
+use excess::{Wave, afford, at_rest, book, level_cell, set_levels, take_listed};
 use flow_net::FlowTable;
-use levelling::{BARRED, search};
+use levelling::{BARRED, search_levels};
 use settling::settle;
 
 /// Sends as much over a half-arc of a source as remains there and as can be booked: nothing to a source, and to a sink
@@ -44,7 +44,7 @@ fn release(packed: Packed<'_>, flow: &mut FlowTable, cells: &mut [u32], half: u3
     ensures steps { TakesSteps flow.old flow.new 2 }
 {
     let node = head(packed.net, half);
-    let level = cells[level_of(node)];
+    let level = cells[level_cell(node)];
     if level == BARRED {
         return;
     }
@@ -111,7 +111,7 @@ fn sweep(packed: Packed<'_>, flow: &mut FlowTable, cells: &mut [u32], wave: &mut
 {
     let nodes = packed.net.nodes();
     'turns: while wave.farthest > 0 && wave.fuel > 0 && afford(wave, 1) {
-        let node = unlink(cells, nodes, wave.farthest);
+        let node = take_listed(cells, nodes, wave.farthest);
         if 1 <= node && node <= nodes {
             discharge(packed, flow, cells, wave, node);
         } else {
@@ -137,7 +137,7 @@ fn send(
     ensures fits { Fits packed.entry.net.now flow.new.flows }
     ensures paid { PaysSteps flow.old wave.old.left flow.new wave.new.left }
 {
-    'waves: while search(packed, roots, barred, flow, cells, wave) {
+    'waves: while search_levels(packed, roots, barred, flow, cells, wave) {
         sweep(packed, flow, cells, wave);
     }
 }

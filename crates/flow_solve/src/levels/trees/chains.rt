@@ -13,7 +13,7 @@ ghost use Rattle.flow_solve.specs.levels.Trees.{Augments};
 ghost use Rattle.flow_solve.specs.Steps.{OnlyLooks};
 ghost use Rattle.flow_solve.specs.levels.Trees.{key_of};
 
-use crate::levels::trees::forest::{LEAST_CHILD, label_of, parent_of, stamp_of};
+use crate::levels::trees::forest::{LEAST_CHILD, label_cell, parent_cell, stamp_cell};
 use crate::residual::cells::get;
 use crate::residual::half_arcs::{Direction, cross, head, tail};
 use crate::residual::packing::Packed;
@@ -23,7 +23,7 @@ use flow_net::FlowTable;
 
 /// The half-arc that flow to or from a node in a tree goes through, given the one that leads from the node to its
 /// parent.
-pub(crate) fn supply(direction: Direction, half: u32) -> u32
+pub(crate) fn supply_half(direction: Direction, half: u32) -> u32
     ensures { (m : ℕ) → half < 2 * m → result < 2 * m }
 {
     match direction {
@@ -49,18 +49,18 @@ fn lead_in(
     let mut node = node;
     let mut label = label;
     for i in 0..path.len() {
-        let half = cells[parent_of(node)];
+        let half = cells[parent_cell(node)];
         if half as usize >= packed.halves.len() {
             return;
         }
         let at = path.len() - 1 - i;
-        path[at] = supply(Direction::Forwards, half);
-        cells[label_of(node)] = label;
-        cells[stamp_of(node)] = time;
+        path[at] = supply_half(Direction::Forwards, half);
+        cells[label_cell(node)] = label;
+        cells[stamp_cell(node)] = time;
         label = label.saturating_sub(2);
         node = head(packed.net, half);
     }
-    cells[stamp_of(node)] = time;
+    cells[stamp_cell(node)] = time;
 }
 
 /// Writes the chain of parents of a node in the tree of the sinks, the node's own half-arc first. Its nodes get their
@@ -80,17 +80,17 @@ fn lead_out(
     let mut node = node;
     let mut label = label;
     for i in 0..path.len() {
-        let half = cells[parent_of(node)];
+        let half = cells[parent_cell(node)];
         if half as usize >= packed.halves.len() {
             return;
         }
         path[i] = half;
-        cells[label_of(node)] = label;
-        cells[stamp_of(node)] = time;
+        cells[label_cell(node)] = label;
+        cells[stamp_cell(node)] = time;
         label = label.saturating_sub(2);
         node = head(packed.net, half);
     }
-    cells[stamp_of(node)] = time;
+    cells[stamp_cell(node)] = time;
 }
 
 /// How many half-arcs the chain of parents of a node has.
@@ -103,8 +103,8 @@ pub(crate) fn chain_len(packed: Packed<'_>, cells: &[u32], node: u32) -> u32
     let nodes = packed.net.nodes();
     let mut node = node;
     for len in 0..nodes {
-        let half = cells[parent_of(node)];
-        if cells[label_of(node)] < LEAST_CHILD || half as usize >= packed.halves.len() {
+        let half = cells[parent_cell(node)];
+        if cells[label_cell(node)] < LEAST_CHILD || half as usize >= packed.halves.len() {
             return len;
         }
         node = head(packed.net, half);
@@ -159,7 +159,7 @@ fn is_root(cells: &[u32], terminals: &[u32], node: u32) -> bool
     requires node { 1 ≤ node }
     ensures { IsTrue result → IsTrue (one_of terminals.now node) }
 {
-    let place = get(cells, parent_of(node)) as usize;
+    let place = get(cells, parent_cell(node)) as usize;
     place < terminals.len() && terminals[place] == node
 }
 
@@ -227,7 +227,7 @@ pub(crate) fn room_along(
     }
     let source = tail(net, path[0]);
     let mut node = source;
-    let mut rank = key(cells[label_of(source)]);
+    let mut rank = key(cells[label_cell(source)]);
     let mut least = Bottleneck {
         amount: u64::MAX,
         first: 0,
@@ -239,7 +239,7 @@ pub(crate) fn room_along(
             return CLOSED;
         }
         let (next, room) = flow.look(net, half);
-        let above = key(cells[label_of(next)]);
+        let above = key(cells[label_cell(next)]);
         if above <= rank {
             return CLOSED;
         }

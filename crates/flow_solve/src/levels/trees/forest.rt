@@ -67,7 +67,7 @@ pub(crate) fn spend(trees: &mut Trees, count: u32) -> bool
 /// Where a node's label stands: twice one more than its distance from the root when that was last looked at, and 1 more
 /// in the tree of the sinks. A free node has 0.
 #[inline(always)]
-pub(crate) fn label_of(node: u32) -> usize
+pub(crate) fn label_cell(node: u32) -> usize
     requires { 1 ≤ node }
     ensures { result ≡ 4 * node - 4 }
 {
@@ -77,7 +77,7 @@ pub(crate) fn label_of(node: u32) -> usize
 /// Where the half-arc from a node to its parent stands; for a root its place among the terminals, and for an orphan
 /// `NO_PARENT`.
 #[inline(always)]
-pub(crate) fn parent_of(node: u32) -> usize
+pub(crate) fn parent_cell(node: u32) -> usize
     requires { 1 ≤ node }
     ensures { result ≡ 4 * node - 3 }
 {
@@ -86,7 +86,7 @@ pub(crate) fn parent_of(node: u32) -> usize
 
 /// Where a node's stamp stands: the time when its parents were last known to lead to a root; for an orphan the next one.
 #[inline(always)]
-pub(crate) fn stamp_of(node: u32) -> usize
+pub(crate) fn stamp_cell(node: u32) -> usize
     requires { 1 ≤ node }
     ensures { result ≡ 4 * node - 2 }
 {
@@ -95,7 +95,7 @@ pub(crate) fn stamp_of(node: u32) -> usize
 
 /// Where the active node after an active node stands: `END` behind the last. A node that isn't active has 0 there.
 #[inline(always)]
-pub(crate) fn after(node: u32) -> usize
+pub(crate) fn next_active_cell(node: u32) -> usize
     requires { 1 ≤ node }
     ensures { result ≡ 4 * node - 1 }
 {
@@ -116,14 +116,14 @@ pub(crate) fn activate(trees: &mut Trees, cells: &mut [u32], node: u32)
     requires node { 1 ≤ node }
     ensures left { trees.new.left ≡ trees.old.left }
 {
-    if get(cells, after(node)) != 0 {
+    if get(cells, next_active_cell(node)) != 0 {
         return;
     }
-    put(cells, after(node), END);
+    put(cells, next_active_cell(node), END);
     if trees.active.last == 0 {
         trees.active.first = node;
     } else {
-        put(cells, after(trees.active.last), node);
+        put(cells, next_active_cell(trees.active.last), node);
     }
     trees.active.last = node;
 }
@@ -136,11 +136,11 @@ pub(crate) fn next_active(trees: &mut Trees, cells: &mut [u32]) -> u32
     if node < 1 || node == END {
         return node;
     }
-    trees.active.first = get(cells, after(node));
+    trees.active.first = get(cells, next_active_cell(node));
     if trees.active.first == END {
         trees.active.last = 0;
     }
-    put(cells, after(node), 0);
+    put(cells, next_active_cell(node), 0);
     node
 }
 
@@ -149,8 +149,8 @@ pub(crate) fn abandon_first(trees: &mut Trees, cells: &mut [u32], node: u32)
     requires node { 1 ≤ node }
     ensures left { trees.new.left ≡ trees.old.left }
 {
-    put(cells, parent_of(node), NO_PARENT);
-    put(cells, stamp_of(node), trees.orphans.first);
+    put(cells, parent_cell(node), NO_PARENT);
+    put(cells, stamp_cell(node), trees.orphans.first);
     if trees.orphans.last == 0 {
         trees.orphans.last = node;
     }
@@ -162,12 +162,12 @@ pub(crate) fn abandon_last(trees: &mut Trees, cells: &mut [u32], node: u32)
     requires node { 1 ≤ node }
     ensures left { trees.new.left ≡ trees.old.left }
 {
-    put(cells, parent_of(node), NO_PARENT);
-    put(cells, stamp_of(node), END);
+    put(cells, parent_cell(node), NO_PARENT);
+    put(cells, stamp_cell(node), END);
     if trees.orphans.last == 0 {
         trees.orphans.first = node;
     } else {
-        put(cells, stamp_of(trees.orphans.last), node);
+        put(cells, stamp_cell(trees.orphans.last), node);
     }
     trees.orphans.last = node;
 }
@@ -180,7 +180,7 @@ pub(crate) fn next_orphan(trees: &mut Trees, cells: &[u32]) -> u32
     if node < 1 || node == END {
         return node;
     }
-    trees.orphans.first = get(cells, stamp_of(node));
+    trees.orphans.first = get(cells, stamp_cell(node));
     if trees.orphans.first == END {
         trees.orphans.last = 0;
     }

@@ -6,10 +6,10 @@ ghost use Rattle.flow_net.specs.Flows.{Fits};
 ghost use Rattle.flow_solve.specs.residual.Packs.{IsPacked};
 ghost use Rattle.flow_solve.specs.Steps.{OnlyLooks, PaysLooks};
 
-use crate::levels::trees::chains::{Bottleneck, supply};
+use crate::levels::trees::chains::{Bottleneck, supply_half};
 use crate::levels::trees::forest::{
-    LEAST_CHILD, NO_PARENT, Trees, abandon_first, abandon_last, activate, after, direction_of,
-    is_tired, label_of, next_orphan, parent_of, spend, stamp_of,
+    LEAST_CHILD, NO_PARENT, Trees, abandon_first, abandon_last, activate, direction_of, is_tired,
+    label_cell, next_active_cell, next_orphan, parent_cell, spend, stamp_cell,
 };
 use crate::residual::cells::{END, get};
 use crate::residual::half_arcs::{head, tail, twin};
@@ -59,12 +59,12 @@ fn walk_to_root(packed: Packed<'_>, trees: &mut Trees, cells: &[u32], node: u32)
     let mut node = node;
     let mut walked: u32 = 0;
     'chain: loop {
-        let half = cells[parent_of(node)];
+        let half = cells[parent_cell(node)];
         if half == NO_PARENT {
             return FAR;
         }
-        let label = cells[label_of(node)];
-        if label < LEAST_CHILD || cells[stamp_of(node)] == trees.time {
+        let label = cells[label_cell(node)];
+        if label < LEAST_CHILD || cells[stamp_cell(node)] == trees.time {
             return walked.saturating_add(label / 2);
         }
         if half as usize >= packed.halves.len() || !spend(trees, 1) {
@@ -82,15 +82,15 @@ fn mark_walk(packed: Packed<'_>, cells: &mut [u32], node: u32, distance: u32, ti
     requires node { IsNode packed.net.now node }
 {
     let mut node = node;
-    let side = cells[label_of(node)] % 2;
+    let side = cells[label_cell(node)] % 2;
     let mut label = distance.saturating_mul(2).saturating_add(side);
     'walk: for _ in 0..distance {
-        let half = cells[parent_of(node)];
-        if cells[stamp_of(node)] == time {
+        let half = cells[parent_cell(node)];
+        if cells[stamp_cell(node)] == time {
             return;
         }
-        cells[label_of(node)] = label;
-        cells[stamp_of(node)] = time;
+        cells[label_cell(node)] = label;
+        cells[stamp_cell(node)] = time;
         if half as usize >= packed.halves.len() {
             return;
         }
@@ -118,14 +118,14 @@ fn offer(
     ensures left { trees.new.left ≤ trees.old.left }
 {
     let node = head(packed.net, half);
-    let label = cells[label_of(node)];
-    if label <= 1 || label % 2 != own % 2 || cells[parent_of(node)] == NO_PARENT {
+    let label = cells[label_cell(node)];
+    if label <= 1 || label % 2 != own % 2 || cells[parent_cell(node)] == NO_PARENT {
         return FAR;
     }
-    if cells[stamp_of(node)] == trees.time && label / 2 >= nearest {
+    if cells[stamp_cell(node)] == trees.time && label / 2 >= nearest {
         return FAR;
     }
-    let (_, room) = flow.look(packed.net, supply(direction_of(own), half));
+    let (_, room) = flow.look(packed.net, supply_half(direction_of(own), half));
     if room == 0 {
         return FAR;
     }
@@ -153,7 +153,7 @@ fn find_parent(
 {
     // Brings the network's limits, `IsNet`, into the proof.
     let _ = packed.net.nodes();
-    let own = cells[label_of(node)];
+    let own = cells[label_cell(node)];
     let begin = packed.first[node as usize - 1];
     let end = packed.first[node as usize];
     if !spend(trees, end - begin) {
@@ -172,9 +172,9 @@ fn find_parent(
     if parent == NO_PARENT {
         return false;
     }
-    cells[label_of(node)] = nearest.saturating_mul(2).saturating_add(2 + own % 2);
-    cells[parent_of(node)] = parent;
-    cells[stamp_of(node)] = trees.time;
+    cells[label_cell(node)] = nearest.saturating_mul(2).saturating_add(2 + own % 2);
+    cells[parent_cell(node)] = parent;
+    cells[stamp_cell(node)] = trees.time;
     true
 }
 
@@ -194,15 +194,15 @@ fn part(
     ensures left { trees.new.left ≡ trees.old.left }
 {
     let node = head(packed.net, half);
-    let label = get(cells, label_of(node));
+    let label = get(cells, label_cell(node));
     if label <= 1 || label % 2 != own % 2 {
         return;
     }
-    if label >= LEAST_CHILD && get(cells, parent_of(node)) == twin(half) {
+    if label >= LEAST_CHILD && get(cells, parent_cell(node)) == twin(half) {
         abandon_last(trees, cells, node);
     }
-    if get(cells, after(node)) == 0 {
-        let (_, room) = flow.look(packed.net, supply(direction_of(own), half));
+    if get(cells, next_active_cell(node)) == 0 {
+        let (_, room) = flow.look(packed.net, supply_half(direction_of(own), half));
         if room > 0 {
             activate(trees, cells, node);
         }
@@ -210,7 +210,7 @@ fn part(
 }
 
 /// Sets an orphan free that found no parent.
-fn release(
+fn set_free(
     packed: Packed<'_>,
     flow: &mut FlowTable,
     trees: &mut Trees,
@@ -225,8 +225,8 @@ fn release(
 {
     // Brings the network's limits, `IsNet`, into the proof.
     let _ = packed.net.nodes();
-    let own = cells[label_of(node)];
-    cells[label_of(node)] = 0;
+    let own = cells[label_cell(node)];
+    cells[label_cell(node)] = 0;
     let begin = packed.first[node as usize - 1];
     let end = packed.first[node as usize];
     if spend(trees, end - begin) {
@@ -263,7 +263,7 @@ pub(crate) fn adopt(
             return node == END;
         }
         if !find_parent(packed, flow, trees, cells, node) {
-            release(packed, flow, trees, cells, node);
+            set_free(packed, flow, trees, cells, node);
         }
     }
     false

@@ -8,7 +8,7 @@ ghost use Rattle.flow_solve.specs.residual.Packs.{degree_of};
 ghost use Rattle.flow_solve.specs.Steps.{OnlyLooks, PaysLooks, PaysSteps, TakesSteps};
 
 use crate::levels::waves::excess::{
-    Wave, afford, book, count_on, excess_of, level_of, link, set_excess,
+    Wave, afford, book, count_cell, excess_of, level_cell, list_excess, set_excess,
 };
 use crate::residual::cells::{get, put};
 use crate::residual::half_arcs::head;
@@ -59,7 +59,7 @@ fn receive(
         return amount;
     }
     if excess_of(cells, nodes, node) == 0 {
-        link(cells, nodes, wave, node, level);
+        list_excess(cells, nodes, wave, node, level);
     }
     book(cells, nodes, node, amount)
 }
@@ -126,12 +126,12 @@ fn pass(
         return amount;
     }
     wave.fuel = wave.fuel.saturating_sub(ahead);
-    let nearer = cells[level_of(sender.node)].saturating_sub(1);
+    let nearer = cells[level_cell(sender.node)].saturating_sub(1);
     let mut rest = amount;
     let mut step = from;
     while step < end - begin && rest > 0 {
         let half = packed.halves[spot_of(begin, end, step, sender.backwards) as usize];
-        if cells[level_of(head(packed.net, half))] == nearer {
+        if cells[level_cell(head(packed.net, half))] == nearer {
             rest -= pass_on(packed, flow, cells, wave, half, nearer, rest);
         }
         step += 1;
@@ -161,7 +161,7 @@ fn nearest(
     let (mut least, mut found) = (ceiling, 0);
     for step in 0..end - begin {
         let half = packed.halves[spot_of(begin, end, step, sender.backwards) as usize];
-        let level = cells[level_of(head(packed.net, half))];
+        let level = cells[level_cell(head(packed.net, half))];
         if level < least {
             let (_, room) = flow.look(packed.net, half);
             if room > 0 {
@@ -179,10 +179,10 @@ fn leave_level(cells: &mut [u32], nodes: u32, wave: &mut Wave, node: u32) -> boo
     requires { 1 ≤ node }
     ensures left { wave.new.left ≡ wave.old.left }
 {
-    let level = get(cells, level_of(node));
-    put(cells, level_of(node), FAR);
-    let count = get(cells, count_on(nodes, level)).saturating_sub(1);
-    put(cells, count_on(nodes, level), count);
+    let level = get(cells, level_cell(node));
+    put(cells, level_cell(node), FAR);
+    let count = get(cells, count_cell(nodes, level)).saturating_sub(1);
+    put(cells, count_cell(nodes, level), count);
     if count == 0 {
         wave.ceiling = wave.ceiling.min(level);
     }
@@ -216,9 +216,9 @@ fn lift(
         return None;
     }
     let level = least + 1;
-    put(cells, level_of(sender.node), level);
-    let count = get(cells, count_on(nodes, level)).saturating_add(1);
-    put(cells, count_on(nodes, level), count);
+    put(cells, level_cell(sender.node), level);
+    let count = get(cells, count_cell(nodes, level)).saturating_add(1);
+    put(cells, count_cell(nodes, level), count);
     Some(found)
 }
 

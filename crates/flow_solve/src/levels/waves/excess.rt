@@ -63,7 +63,7 @@ pub(super) fn afford(wave: &mut Wave, cost: u64) -> bool
 }
 
 /// Where a node's level stands.
-pub(super) fn level_of(node: u32) -> usize
+pub(super) fn level_cell(node: u32) -> usize
     requires { 1 ≤ node }
     ensures { result ≡ node - 1 }
 {
@@ -71,19 +71,19 @@ pub(super) fn level_of(node: u32) -> usize
 }
 
 /// Where the node after a node stands, of those with excess on its level.
-fn after(nodes: u32, node: u32) -> usize
+fn next_listed_cell(nodes: u32, node: u32) -> usize
     requires { 1 ≤ node }
 {
     nodes as usize + node as usize - 1
 }
 
 /// Where the node of a place in the search's queue stands: as long as it searches, no node is on a list.
-pub(super) fn queue_of(nodes: u32, place: u32) -> usize {
+pub(super) fn queue_cell(nodes: u32, place: u32) -> usize {
     nodes as usize + place as usize
 }
 
 /// Where a node's excess begins, in two cells, behind levels and lists.
-fn pair_of(nodes: u32, node: u32) -> usize
+fn excess_cell(nodes: u32, node: u32) -> usize
     requires { 1 ≤ node }
     ensures { result ≡ 2 * (nodes + (node - 1)) }
 {
@@ -95,7 +95,7 @@ pub(super) fn excess_of(cells: &[u32], nodes: u32, node: u32) -> u64
     requires size { length cells.now ≡ 5 * nodes }
     requires node { (1 ≤ node) × (node ≤ nodes) }
 {
-    let at = pair_of(nodes, node);
+    let at = excess_cell(nodes, node);
     u64::from(cells[at]) + u64::from(cells[at + 1]) * 4_294_967_296
 }
 
@@ -104,38 +104,38 @@ pub(super) fn set_excess(cells: &mut [u32], nodes: u32, node: u32, amount: u64)
     requires size { length cells.old ≡ 5 * nodes }
     requires node { (1 ≤ node) × (node ≤ nodes) }
 {
-    let at = pair_of(nodes, node);
+    let at = excess_cell(nodes, node);
     cells[at] = (amount % 4_294_967_296) as u32;
     cells[at + 1] = (amount / 4_294_967_296) as u32;
 }
 
 /// Where the first node with excess on a level stands.
-fn first_on(nodes: u32, level: u32) -> usize {
+fn first_cell(nodes: u32, level: u32) -> usize {
     4 * nodes as usize + 2 * level as usize
 }
 
 /// Where the number of nodes on a level stands. There are cells for the levels below half the number of nodes.
-pub(super) fn count_on(nodes: u32, level: u32) -> usize {
+pub(super) fn count_cell(nodes: u32, level: u32) -> usize {
     4 * nodes as usize + 2 * level as usize + 1
 }
 
 /// Puts a node with excess on the list of its level.
-pub(super) fn link(cells: &mut [u32], nodes: u32, wave: &mut Wave, node: u32, level: u32)
+pub(super) fn list_excess(cells: &mut [u32], nodes: u32, wave: &mut Wave, node: u32, level: u32)
     requires { 1 ≤ node }
     ensures left { wave.new.left ≡ wave.old.left }
 {
-    let first = get(cells, first_on(nodes, level));
-    put(cells, after(nodes, node), first);
-    put(cells, first_on(nodes, level), node);
+    let first = get(cells, first_cell(nodes, level));
+    put(cells, next_listed_cell(nodes, node), first);
+    put(cells, first_cell(nodes, level), node);
     wave.farthest = wave.farthest.max(level);
 }
 
 /// Takes the first node off the list of a level, and answers it: 0 where there is none.
-pub(super) fn unlink(cells: &mut [u32], nodes: u32, level: u32) -> u32 {
-    let node = get(cells, first_on(nodes, level));
+pub(super) fn take_listed(cells: &mut [u32], nodes: u32, level: u32) -> u32 {
+    let node = get(cells, first_cell(nodes, level));
     if node > 0 {
-        let next = get(cells, after(nodes, node));
-        put(cells, first_on(nodes, level), next);
+        let next = get(cells, next_listed_cell(nodes, node));
+        put(cells, first_cell(nodes, level), next);
     }
     node
 }
@@ -157,6 +157,6 @@ pub(super) fn set_levels(cells: &mut [u32], some: &[u32], level: u32)
     requires { All (λ v. 1 ≤ v) some.now }
 {
     for node in some {
-        put(cells, level_of(*node), level);
+        put(cells, level_cell(*node), level);
     }
 }

@@ -7,7 +7,7 @@ ghost use Rattle.flow_solve.specs.residual.Packs.{IsPacked};
 ghost use Rattle.flow_solve.specs.Steps.{OnlyLooks, PaysLooks};
 
 use crate::levels::waves::excess::{
-    Wave, afford, count_on, excess_of, level_of, link, queue_of, set_levels,
+    Wave, afford, count_cell, excess_of, level_cell, list_excess, queue_cell, set_levels,
 };
 use crate::residual::cells::{get, put};
 use crate::residual::half_arcs::{Direction, cross, head};
@@ -41,19 +41,19 @@ fn unlevel(cells: &mut [u32], nodes: u32) -> u32
 }
 
 /// Gives a node its level, counts it there, and puts it in the queue.
-fn enter(cells: &mut [u32], nodes: u32, wave: &mut Wave, node: u32, level: u32)
+fn enter_level(cells: &mut [u32], nodes: u32, wave: &mut Wave, node: u32, level: u32)
     requires { 1 ≤ node }
     ensures left { wave.new.left ≡ wave.old.left }
 {
-    put(cells, level_of(node), level);
-    put(cells, queue_of(nodes, wave.queued), node);
+    put(cells, level_cell(node), level);
+    put(cells, queue_cell(nodes, wave.queued), node);
     wave.queued = wave.queued.saturating_add(1);
-    let count = get(cells, count_on(nodes, level)).saturating_add(1);
-    put(cells, count_on(nodes, level), count);
+    let count = get(cells, count_cell(nodes, level)).saturating_add(1);
+    put(cells, count_cell(nodes, level), count);
 }
 
 /// Gives an unseen node its level, if something remains from there over the twin of a half-arc.
-fn meet(
+fn level_unseen(
     packed: Packed<'_>,
     flow: &mut FlowTable,
     cells: &mut [u32],
@@ -71,7 +71,7 @@ fn meet(
     if room > 0 {
         let nodes = packed.net.nodes();
         let next = head(packed.net, half);
-        enter(cells, nodes, wave, next, level);
+        enter_level(cells, nodes, wave, next, level);
         if excess_of(cells, nodes, next) > 0 {
             wave.seen = wave.seen.saturating_add(1);
             wave.farthest = level;
@@ -91,12 +91,12 @@ fn scan(packed: Packed<'_>, flow: &mut FlowTable, cells: &mut [u32], wave: &mut 
     let _ = packed.net.nodes();
     let begin = packed.first[node as usize - 1];
     let end = packed.first[node as usize];
-    let level = cells[level_of(node)].saturating_add(1);
+    let level = cells[level_cell(node)].saturating_add(1);
     if afford(wave, u64::from(end - begin)) {
         for spot in begin..end {
             let half = packed.halves[spot as usize];
-            if cells[level_of(head(packed.net, half))] == FAR {
-                meet(packed, flow, cells, wave, half, level);
+            if cells[level_cell(head(packed.net, half))] == FAR {
+                level_unseen(packed, flow, cells, wave, half, level);
             }
         }
     }
@@ -124,11 +124,11 @@ fn scan_all(packed: Packed<'_>, flow: &mut FlowTable, cells: &mut [u32], wave: &
             wave.lost = wave.lost.saturating_add(unseen);
             return;
         }
-        let node = get(cells, queue_of(nodes, place));
+        let node = get(cells, queue_cell(nodes, place));
         if node < 1 || nodes < node {
             return;
         }
-        if !goes_on(*wave, nodes, cells[level_of(node)]) {
+        if !goes_on(*wave, nodes, cells[level_cell(node)]) {
             return;
         }
         scan(packed, flow, cells, wave, node);
@@ -136,14 +136,14 @@ fn scan_all(packed: Packed<'_>, flow: &mut FlowTable, cells: &mut [u32], wave: &
 }
 
 /// Puts each node with excess on the list of its level.
-fn link_all(cells: &mut [u32], nodes: u32, wave: &mut Wave)
+fn list_all(cells: &mut [u32], nodes: u32, wave: &mut Wave)
     requires { length cells.old ≡ 5 * nodes }
     ensures left { wave.new.left ≡ wave.old.left }
 {
     for place in 0..nodes {
         let level = cells[place as usize];
         if level < nodes / 2 && excess_of(cells, nodes, place + 1) > 0 {
-            link(cells, nodes, wave, place + 1, level);
+            list_excess(cells, nodes, wave, place + 1, level);
         }
     }
 }
@@ -151,7 +151,7 @@ fn link_all(cells: &mut [u32], nodes: u32, wave: &mut Wave)
 /// Searches backwards from the roots, at level 0, and lists the nodes with excess by their levels. Answers whether
 /// there are any.
 #[inline(never)]
-pub(super) fn search(
+pub(super) fn search_levels(
     packed: Packed<'_>,
     roots: &[u32],
     barred: &[u32],
@@ -177,12 +177,12 @@ pub(super) fn search(
     wave.wanted = unlevel(cells, nodes).saturating_sub(wave.lost);
     set_levels(cells, barred, BARRED);
     for node in roots {
-        enter(cells, nodes, wave, *node, 0);
+        enter_level(cells, nodes, wave, *node, 0);
     }
     scan_all(packed, flow, cells, wave);
     wave.ceiling = wave.farthest.saturating_add(SLACK + 2).min(nodes / 2);
     wave.fuel = FUEL * u64::from(packed.net.len());
     wave.turn ^= 1;
-    link_all(cells, nodes, wave);
+    list_all(cells, nodes, wave);
     wave.seen > 0
 }

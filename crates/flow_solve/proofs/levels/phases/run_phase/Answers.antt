@@ -8,8 +8,8 @@ use Rattle.flow_solve.proofs.LevelLemmas.Turning.{fresh_phase}
 use Rattle.flow_solve.proofs.levels.phases.run_phase.Goals as goal
 
 -- with all places at the first half-arc nothing has been passed
-pub walk_all-requires-clause-phase : goal.walk_all-requires-clause-phase
-walk_all-requires-clause-phase c =
+pub walk_from_sources-requires-clause-phase : goal.walk_from_sources-requires-clause-phase
+walk_from_sources-requires-clause-phase c =
     fresh_phase c.nodes-n.ensures.is_net c.requires.run.packed
     (c.copy_from_slice.ensures.after ∙ ap (λ (j : ℕ). take j c.args.phase.packed.first.now) c.nodes-n.ensures.nodes)
     c.requires.flow.feasible c.requires.flow.value c.requires.flow.no_loops
@@ -23,7 +23,7 @@ returns-clause-few c = λ j far.
 -- once every source is dead the sources are farther from the sinks
 pub returns-clause-far : goal.returns-clause-far
 returns-clause-far c = λ j far.
-    let l = c.requires.levels in let now = c.walk_all.ensures in let net = c.args.phase.packed.net.now in
+    let l = c.requires.levels in let now = c.walk_from_sources.ensures in let net = c.args.phase.packed.net.now in
     let level = l.levels.0 in let slope = l.levels.1 in
     far_phase c.nodes-n.ensures.is_net (record {
       gentle = now.gentle level slope.ordered slope.gentle;
@@ -42,8 +42,8 @@ returns-clause-steps c =
     let net = c.args.phase.packed.net.now in
     let rank = c.args.phase.rank.now in
     let halves = c.args.phase.packed.halves.now in
-    let paid = phase_paid (length net.arcs) (3 * (net.nodes - 1)) c.args.flow.now.steps c.walk_all.new.flow.steps _ _ _
+    let paid = phase_paid (length net.arcs) (3 * (net.nodes - 1)) c.args.flow.now.steps c.walk_from_sources.new.flow.steps _ _ _
     (to_fill_most net (cell_of rank) (place_of halves) (cell_of c.copy_from_slice.new.self) c.args.flow.now.flows)
     (left_most net (cell_of rank) (place_of halves) (cell_of c.copy_from_slice.new.self) any)
-    c.walk_all.ensures.steps in
+    c.walk_from_sources.ensures.steps in
     omega (arith, paid)

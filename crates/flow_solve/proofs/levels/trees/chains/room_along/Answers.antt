@@ -16,8 +16,8 @@ loop-i-preserved c =
     omega (arith, c.requires.task.packed.halves_size, c.if-half-halves.false) in
     let same : residual net c.loop-i.flow.flows half ≡ residual net xs half =
     ap (λ ys. residual net ys half) old.looks.flows in
-    let there : slice_index cells c.label_of-in-loop-i.result ≡ slice_index cells (4 * c.look-next.result.0 - 4)
-    = ap (λ v. slice_index cells v) c.label_of-in-loop-i.ensures in
+    let there : slice_index cells c.label_cell-in-loop-i.result ≡ slice_index cells (4 * c.look-next.result.0 - 4)
+    = ap (λ v. slice_index cells v) c.label_cell-in-loop-i.ensures in
     let high : level_by cells c.look-next.result.0 ≡ c.key-above.result =
     sym (c.key-above.ensures ∙ ap key_of there) in
     record {

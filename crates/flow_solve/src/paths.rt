@@ -7,6 +7,7 @@ ghost use Rattle.std.specs.Prelude.{◌≡◌, ℕ, ◌+◌, ◌-◌, ◌*◌, �
 ghost use Rattle.std.specs.Prelude.{slice_index, sum_by};
 ghost use Rattle.std.specs.List.{All};
 ghost use Rattle.flow_net.specs.Nets.{Net, IsNode};
+ghost use Rattle.flow_net.specs.Limits.{IsNet};
 ghost use Rattle.flow_net.specs.NodeSets.{one_of};
 ghost use Rattle.flow_net.specs.Flows.{Fits};
 ghost use Rattle.flow_net.specs.Paths.{HasRoom, push_all};
@@ -57,8 +58,6 @@ fn find_trail(
     ensures missed { IfNone result (HasMissed plan.entry flow.old.flows dist.new) }
     ensures looks { OnlyLooks flow.old flow.new (2 * length plan.entry.packed.net.now.arcs) }
 {
-    // Brings the network's limits, `IsNet`, into the proof.
-    let _ = plan.packed.net.nodes();
     search(plan, flow, dist, via, queue);
     first_seen(plan.until, dist)
 }
@@ -112,6 +111,7 @@ fn push_along(
 
 /// Pushes as much as it can along the trail from a source, and answers how much that is.
 fn augment_along(net: &Network, flow: &mut FlowTable, dist: &[u32], via: &[u32], source: u32) -> u64
+    requires limits { IsNet net.now }
     requires fits { Fits net.now flow.old.flows }
     requires trails { AreTrails net.now flow.old.flows dist.now via.now }
     requires node { IsNode net.now source }
@@ -123,8 +123,6 @@ fn augment_along(net: &Network, flow: &mut FlowTable, dist: &[u32], via: &[u32],
     ensures never_lowered { flow.old.steps ≤ flow.new.steps }
     ensures steps { flow.new.steps ≤ flow.old.steps + 2 * net.now.nodes }
 {
-    // Brings the network's limits, `IsNet`, into the proof.
-    let _ = net.nodes();
     let amount = least_room(net, flow, dist, via, source);
     push_along(net, flow, dist, via, source, amount);
     amount

@@ -27,8 +27,6 @@ fn send_over(turn: Turn<'_>, flow: &mut FlowTable, half: u32, sent: Budgeted) ->
     ensures paid { PaysIfAny flow.old sent.left flow.new result }
 {
     let net = turn.packed.net;
-    // Brings the network's limits, `IsNet`, into the proof.
-    let _ = net.nodes();
     let Budgeted { value, left } = sent;
     if left < 2 {
         return None;

@@ -251,8 +251,6 @@ pub(crate) fn order_nodes(
     ensures places { IfSome result (λ _. ArePlaces packed.entry.net.now.nodes order.new cells.new) }
     ensures clean { IfSome result (λ _. IsClean packed.entry.net.now.nodes cells.new) }
 {
-    // Brings the network's limits, `IsNet`, into the proof.
-    let _ = packed.net.nodes();
     let (firsts, _) = cells.split_at_mut(lists);
     let sweep = take_all(packed, order, joins, links, firsts)?;
     stand_all(order, cells);

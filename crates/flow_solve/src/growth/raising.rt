@@ -130,8 +130,6 @@ fn go_back(turn: Turn<'_>, current: &mut [u32], path: &[u32], walk: Walk) -> Opt
     ensures walk { IfSome result (λ r. IsWalk turn.entry r) }
 {
     let net = turn.packed.net;
-    // Brings the network's limits, `IsNet`, into the proof.
-    let _ = net.nodes();
     if walk.depth == 0 || walk.depth as usize > path.len() {
         return None;
     }

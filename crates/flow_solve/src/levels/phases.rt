@@ -64,8 +64,6 @@ fn find_levels(
     ensures missed { result ≡ false → HasMissed plan.entry flow.old.flows dist.new }
     ensures looks { OnlyLooks flow.old flow.new (2 * length plan.entry.packed.net.now.arcs) }
 {
-    // Brings the network's limits, `IsNet`, into the proof.
-    let _ = plan.packed.net.nodes();
     let progress = search(plan, flow, dist, rank, queue);
     if progress.wanted == 0 {
         return false;

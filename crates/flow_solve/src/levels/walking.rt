@@ -3,7 +3,7 @@ ghost use Rattle.std.specs.Prelude.{◌≡◌, ℕ, Bool, List, ◌+◌, ◌-◌
 ghost use Rattle.std.specs.Prelude.{slice_index};
 ghost use Rattle.std.specs.List.{All};
 ghost use Rattle.flow_net.specs.Nets.{Net, IsNode};
-ghost use Rattle.flow_net.specs.Limits.{AreTerminals};
+ghost use Rattle.flow_net.specs.Limits.{IsNet, AreTerminals};
 ghost use Rattle.flow_net.specs.NodeSets.{one_of};
 ghost use Rattle.flow_net.specs.Flows.{Fits};
 ghost use Rattle.flow_net.specs.Residual.{tail_of, head_of, residual};
@@ -18,6 +18,7 @@ use flow_net::{FlowTable, Network};
 
 /// The first half-arc of a path on which the least remains, by its place on the path, and how much that is.
 fn least_on(net: &Network, flow: &mut FlowTable, path: &[u32]) -> (u32, u64)
+    requires limits { IsNet net.now }
     requires fits { Fits net.now flow.old.flows }
     requires some { 1 ≤ length path.now }
     requires few { length path.now ≤ net.now.nodes }
@@ -26,8 +27,6 @@ fn least_on(net: &Network, flow: &mut FlowTable, path: &[u32]) -> (u32, u64)
     ensures flows { flow.new.flows ≡ flow.old.flows }
     ensures steps { flow.new.steps ≡ flow.old.steps + length path.now }
 {
-    // Brings the network's limits, `IsNet`, into the proof.
-    let _ = net.nodes();
     let (_, mut least) = flow.look(net, path[0]);
     let mut place = 0;
     for i in 1..path.len() {
@@ -68,6 +67,7 @@ struct Augmentation {
 /// Pushes along a path as much as remains on each of its half-arcs, and retreats to the first half-arc that this
 /// fills: the walk goes on from the node that it leaves, and keeps the half-arcs before it.
 fn augment(net: &Network, flow: &mut FlowTable, path: &[u32]) -> Augmentation
+    requires limits { IsNet net.now }
     requires fits { Fits net.now flow.old.flows }
     requires some { 1 ≤ length path.now }
     requires few { length path.now ≤ net.now.nodes }
@@ -111,8 +111,6 @@ fn admissible(
     ensures steps_some { IfSome result (λ h. Looks packed.entry rank.now current.old flow.old current.new flow.new 1) }
     ensures steps_none { IfNone result (Looks packed.entry rank.now current.old flow.old current.new flow.new 0) }
 {
-    // Brings the network's limits, `IsNet`, into the proof.
-    let _ = packed.net.nodes();
     let end = packed.first[node as usize];
     let own = rank[node as usize - 1];
     let mut place = current[node as usize - 1];
@@ -173,8 +171,6 @@ pub(crate) fn walk(
     ensures steps { PaysOwed phase.entry current.old flow.old current.new flow.new }
 {
     let packed = phase.packed;
-    // Brings the network's limits, `IsNet`, into the proof.
-    let _ = packed.net.nodes();
     let mut raised = value;
     let mut node = source;
     let mut depth: u32 = 0;

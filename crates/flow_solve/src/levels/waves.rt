@@ -72,8 +72,6 @@ fn release_all(
     ensures fits { Fits packed.entry.net.now flow.new.flows }
     ensures paid { PaysSteps flow.old wave.old.left flow.new wave.new.left }
 {
-    // Brings the network's limits, `IsNet`, into the proof.
-    let _ = packed.net.nodes();
     let begin = packed.first[node as usize - 1];
     let end = packed.first[node as usize];
     if afford(wave, 2 * u64::from(end - begin)) {

@@ -10,6 +10,7 @@ ghost use Rattle.std.specs.Prelude.{◌⊎◌, ◌≡◌, ℕ, List, IsTrue, IfS
 ghost use Rattle.std.specs.Prelude.{slice_index};
 ghost use Rattle.std.specs.List.{All};
 ghost use Rattle.flow_net.specs.Nets.{Net, IsNode};
+ghost use Rattle.flow_net.specs.Limits.{IsNet};
 ghost use Rattle.flow_net.specs.NodeSets.{one_of};
 ghost use Rattle.flow_net.specs.Flows.{Fits};
 ghost use Rattle.flow_net.specs.Residual.{head_of};
@@ -106,6 +107,7 @@ fn arrive(
     half: u32,
     level: u32,
 ) -> Option<Arrival>
+    requires limits { IsNet plan.packed.net.now }
     requires fits { Fits plan.packed.net.now flow.old.flows }
     requires cells { length dist.now ≡ plan.packed.net.now.nodes }
     requires half { half < 2 * length plan.packed.net.now.arcs }
@@ -116,8 +118,6 @@ fn arrive(
     ensures no_look { IsMarked dist.now (place_over plan.entry half) → flow.new.steps ≡ flow.old.steps }
 {
     let net = plan.packed.net;
-    // Brings the network's limits, `IsNet`, into the proof.
-    let _ = net.nodes();
     let place = head(net, half) - 1;
     if dist[place as usize] < WANTED {
         return None;
@@ -157,8 +157,6 @@ fn follow_all(
     ensures looks { OnlyLooks flow.old flow.new (halves_of plan.entry.packed (next_in queue.old progress)) }
 {
     let Packed { net, first, halves } = plan.packed;
-    // Brings the network's limits, `IsNet`, into the proof.
-    let _ = net.nodes();
     let place = queue[progress.followed as usize] as usize;
     let level = dist[place] + 1;
     let mut progress = progress;
@@ -264,8 +262,6 @@ pub(crate) fn search(
     ensures queue { IsQueue dist.new queue.new result.seen }
     ensures looks { OnlyLooks flow.old flow.new (2 * length plan.entry.packed.net.now.arcs) }
 {
-    // Brings the network's limits, `IsNet`, into the proof.
-    let _ = plan.packed.net.nodes();
     look_out(dist, plan.until);
     let mut progress = start_all(plan.starts, dist, via, queue);
     // The label names the loop's invariant, `invariant-places`.

@@ -151,8 +151,6 @@ fn find_parent(
     requires node { IsNode packed.net.now node }
     ensures paid { PaysLooks flow.old trees.old.left flow.new trees.new.left }
 {
-    // Brings the network's limits, `IsNet`, into the proof.
-    let _ = packed.net.nodes();
     let own = cells[label_cell(node)];
     let begin = packed.first[node as usize - 1];
     let end = packed.first[node as usize];
@@ -223,8 +221,6 @@ fn set_free(
     requires node { IsNode packed.net.now node }
     ensures paid { PaysLooks flow.old trees.old.left flow.new trees.new.left }
 {
-    // Brings the network's limits, `IsNet`, into the proof.
-    let _ = packed.net.nodes();
     let own = cells[label_cell(node)];
     cells[label_cell(node)] = 0;
     let begin = packed.first[node as usize - 1];

@@ -116,8 +116,6 @@ fn pass(
     ensures paid { PaysSteps flow.old wave.old.left flow.new wave.new.left }
     ensures spent { wave.new.left < wave.old.left }
 {
-    // Brings the network's limits, `IsNet`, into the proof.
-    let _ = packed.net.nodes();
     let begin = packed.first[sender.node as usize - 1];
     let end = packed.first[sender.node as usize];
     let from = sender.from.min(end - begin);
@@ -154,8 +152,6 @@ fn nearest(
     requires node { IsNode packed.net.now sender.node }
     ensures looks { OnlyLooks flow.old flow.new (degree_of packed.entry sender.node) }
 {
-    // Brings the network's limits, `IsNet`, into the proof.
-    let _ = packed.net.nodes();
     let begin = packed.first[sender.node as usize - 1];
     let end = packed.first[sender.node as usize];
     let (mut least, mut found) = (ceiling, 0);

@@ -87,8 +87,6 @@ fn scan(packed: Packed<'_>, flow: &mut FlowTable, cells: &mut [u32], wave: &mut 
     requires node { IsNode packed.net.now node }
     ensures paid { PaysLooks flow.old wave.old.left flow.new wave.new.left }
 {
-    // Brings the network's limits, `IsNet`, into the proof.
-    let _ = packed.net.nodes();
     let begin = packed.first[node as usize - 1];
     let end = packed.first[node as usize];
     let level = cells[level_cell(node)].saturating_add(1);

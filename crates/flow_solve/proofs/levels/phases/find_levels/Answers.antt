@@ -32,7 +32,7 @@ returns-clause-levels c = λ e.
     let plan = c.args.plan in
     let net = plan.packed.net.now in
     let dist = c.search-progress.new.dist in let flows = c.args.flow.now.flows in
-    levels_found c.nodes.ensures.is_net (record {
+    levels_found c.requires.packed.limits (record {
       order = found.queue;
       dist_size = found.searched.size;
       ranked = ranks.ranked;
@@ -44,5 +44,5 @@ returns-clause-levels c = λ e.
     → (p : ℕ) → p < net.nodes → IsMarked dist p → IsDone net flows dir dist p)
     c.requires.backwards found.whole) (elim (cases_lt net.nodes plan.enough) [
       | inl l ↦ inr l
-      | inr l ↦ inl (omega (arith, l, c.requires.enough, c.nodes.ensures.is_net.nodes_most))
+      | inr l ↦ inl (omega (arith, l, c.requires.enough, c.requires.packed.limits.nodes_most))
     ]) c.if-progress-eq0.false

@@ -21,7 +21,7 @@ loop-place-init c = record {
 -- what stands packed is a half-arc of the node
 pub head-requires : goal.head-requires
 head-requires c =
-    (mine_at c.nodes-end.ensures.is_net c.requires.packed c.requires.node c.requires.current
+    (mine_at c.requires.packed.limits c.requires.packed c.requires.node c.requires.current
     c.loop-place.invariant.looking c.loop-place-test.true).half
 
 -- one is found: the place moves up to it
@@ -68,14 +68,14 @@ returns-then-room-gt0-clause-some c =
     let net = c.args.packed.net.now in
     let half = get_or c.args.packed.halves.now c.loop-place.place 0 in
     let g : IsMine net c.args.packed.halves.now c.args.node c.loop-place.place half =
-    mine_at c.nodes-end.ensures.is_net c.requires.packed c.requires.node c.requires.current l c.loop-place-test.true in
+    mine_at c.requires.packed.limits c.requires.packed c.requires.node c.requires.current l c.loop-place-test.true in
     let falls = rank_falls net c.args.rank.now c.args.node c.head.result half c.head.ensures.head g.tail
     c.requires.node.0 c.head.ensures.node.0 c.if-rank-head.true in
     let same : residual net c.loop-place.flow.flows half ≡ residual net c.args.flow.now.flows half =
     ap (λ (ys : List ℕ). residual net ys half) old.flows in
     subst (λ (z : List ℕ). IsAdmissible net (cell_of c.args.rank.now) (place_of c.args.packed.halves.now)
     (cell_of (set z (c.args.node - 1) c.loop-place.place)) c.args.flow.now.flows c.args.node half) (sym old.current)
-    (looking_found c.nodes-end.ensures.is_net c.requires.packed c.requires.node c.requires.current l
+    (looking_found c.requires.packed.limits c.requires.packed c.requires.node c.requires.current l
     c.loop-place-test.true falls (omega (arith, same, c.look-room.ensures.residual, c.if-room-gt0.true)))
 
 pub returns-then-room-gt0-clause-steps_some : goal.returns-then-room-gt0-clause-steps_some
@@ -96,14 +96,14 @@ loop-place-preserved c =
     let net = c.args.packed.net.now in
     let half = get_or c.args.packed.halves.now c.loop-place.place 0 in
     let g : IsMine net c.args.packed.halves.now c.args.node c.loop-place.place half =
-    mine_at c.nodes-end.ensures.is_net c.requires.packed c.requires.node c.requires.current l c.loop-place-test.true in
+    mine_at c.requires.packed.limits c.requires.packed c.requires.node c.requires.current l c.loop-place-test.true in
     elim c.if-rank-head.branch [
       | then-rank-head+else-room-gt0 w ↦
           let falls = rank_falls net c.args.rank.now c.args.node c.head.result half c.head.ensures.head g.tail
           c.requires.node.0 c.head.ensures.node.0 w.if-rank-head.true in
           let same : residual net c.loop-place.flow.flows half ≡ residual net c.args.flow.now.flows half =
           ap (λ (ys : List ℕ). residual net ys half) old.flows in
-          let more = looking_fail c.nodes-end.ensures.is_net c.requires.packed c.requires.node c.requires.current l
+          let more = looking_fail c.requires.packed.limits c.requires.packed c.requires.node c.requires.current l
           c.loop-place-test.true falls (omega (arith, same, w.look-room.ensures.residual, w.if-room-gt0.false)) in
           rw w.flow-is (record {
             fits = w.look-room.ensures.still_fits;
@@ -123,7 +123,7 @@ loop-place-preserved c =
             flows = old.flows;
             current = old.current;
             looking =
-                looking_skip c.nodes-end.ensures.is_net c.requires.packed c.requires.node c.requires.current l
+                looking_skip c.requires.packed.limits c.requires.packed c.requires.node c.requires.current l
                 c.loop-place-test.true rises;
             never_lowered = old.never_lowered;
           })

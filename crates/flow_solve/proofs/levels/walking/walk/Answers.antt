@@ -35,14 +35,14 @@ pub overflow_add-raised : goal.overflow_add-raised
 overflow_add-raised c =
     let net = c.args.phase.packed.net.now in let s = one_of c.args.phase.s.now in let t = one_of c.args.phase.t.now in
     let p = (turning_augment c.turns.invariant.turning c.augment-done.result.amount c.augment-done.result.depth
-    c.nodes.ensures.is_net c.requires.run.terminals c.requires.source
+    c.requires.run.packed.limits c.requires.run.terminals c.requires.source
     (sink_here c.args.phase.packed.net.now c.args.phase.t.now c.args.phase.dist.now c.turns.node
     c.requires.run.sinks c.turns.invariant.turning.node c.if-phase-node-eq0.true) c.augment-done.ensures.filling).phase
     in
     let most = value_most net (one_of c.args.phase.s.now) (one_of c.args.phase.t.now) _
-    (c.turns.raised + c.augment-done.result.amount) c.nodes.ensures.is_net
+    (c.turns.raised + c.augment-done.result.amount) c.requires.run.packed.limits
     (terminals_apart net c.args.phase.s.now c.args.phase.t.now c.requires.run.terminals) p.feasible p.value in
-    let fit = capacities_fit net c.nodes.ensures.is_net in
+    let fit = capacities_fit net c.requires.run.packed.limits in
     omega (arith, most, fit, c.from-raised.ensures)
 
 pub turns-smaller-then-phase-node-eq0 : goal.turns-smaller-then-phase-node-eq0
@@ -65,14 +65,14 @@ turns-preserved-then-phase-node-eq0 c =
     record {
       turning =
           turning_as (turning_augment c.turns.invariant.turning c.augment-done.result.amount c.augment-done.result.depth
-          c.nodes.ensures.is_net c.requires.run.terminals c.requires.source
+          c.requires.run.packed.limits c.requires.run.terminals c.requires.source
           (sink_here c.args.phase.packed.net.now c.args.phase.t.now c.args.phase.dist.now c.turns.node
           c.requires.run.sinks c.turns.invariant.turning.node c.if-phase-node-eq0.true) c.augment-done.ensures.filling)
           refl c.augment-done.ensures.flows tail (ap (λ z. c.turns.raised + z) c.from-raised.ensures)
           (omega (arith, c.augment-done.ensures.steps, long));
       gentle = λ level o g.
           subst (λ (ys : List ℕ). IsGentle net ys level) (sym c.augment-done.ensures.flows)
-          (turning_gentle old.turning c.augment-done.result.amount level c.nodes.ensures.is_net o
+          (turning_gentle old.turning c.augment-done.result.amount level c.requires.run.packed.limits o
           (old.gentle level o g));
       risen = old.risen;
       never_lowered = omega (arith, old.never_lowered, c.augment-done.ensures.steps);
@@ -92,7 +92,7 @@ turns-smaller-in-Some c =
 pub turns-preserved-in-Some : goal.turns-preserved-in-Some
 turns-preserved-in-Some c =
     let old = c.turns.invariant in let net = c.args.phase.packed.net.now in let found = c.in-Some.ensures in
-    let on = turning_advance old.turning c.admissible.new.flow.steps c.in-Some.half c.nodes.ensures.is_net
+    let on = turning_advance old.turning c.admissible.new.flow.steps c.in-Some.half c.requires.run.packed.limits
     c.requires.ranked c.admissible.ensures.looked found.some found.steps_some in
     record {
       turning = turning_as on refl found.flows c.head-node.ensures.head refl refl;
@@ -123,7 +123,7 @@ returns-then-depth-eq0-clause-dead c =
     subst (λ (v : ℕ). IsDead net (one_of c.args.phase.t.now) (place_of c.args.phase.packed.halves.now)
     (cell_of c.admissible.new.current) v) (sym same)
     (dead_here net c.args.phase.t.now c.args.phase.packed.first.now c.args.phase.packed.halves.now
-    c.admissible.new.current c.turns.node c.nodes.ensures.is_net c.requires.run.packed inner
+    c.admissible.new.current c.turns.node c.requires.run.packed.limits c.requires.run.packed inner
     c.in_default.ensures.none)
 
 pub returns-then-depth-eq0-clause-gentle : goal.returns-then-depth-eq0-clause-gentle
@@ -152,7 +152,7 @@ overflow_add-current c =
     let place = c.admissible.ensures.looked.places c.tail-node.result node in
     let most = c.requires.run.packed.most c.tail-node.result (omega (arith, node)) in
     omega
-    (arith, place, most, cell_at c.admissible.new.current c.tail-node.result node.0, c.nodes.ensures.is_net.arcs_most)
+    (arith, place, most, cell_at c.admissible.new.current c.tail-node.result node.0, c.requires.run.packed.limits.arcs_most)
 
 -- the turn that goes back
 pub turns-smaller : goal.turns-smaller
@@ -161,7 +161,7 @@ turns-smaller c =
     let halves = c.args.phase.packed.halves.now in
     let rank = c.args.phase.rank.now in
     let less = to_go_pass c.turns.invariant.turning (c.turns.depth - 1) (omega (arith, c.if-depth-eq0.false))
-    c.nodes.ensures.is_net c.admissible.ensures.looked in
+    c.requires.run.packed.limits c.admissible.ensures.looked in
     subst (λ (zs : List ℕ). to_go net halves rank zs c.admissible.new.flow.flows (c.turns.depth - 1)
     < to_go net halves rank c.turns.current c.turns.flow.flows c.turns.depth)
     (sym (stepped c.admissible.new.current c.tail-node.result c.tail-node.ensures.node.0
@@ -179,7 +179,7 @@ turns-preserved c =
     let inner = no_sink_here net c.args.phase.t.now c.args.phase.dist.now c.turns.node c.requires.run.sinks
     old.turning.node c.if-phase-node-eq0.false in
     let back = turning_retreat old.turning c.admissible.new.flow.steps (c.turns.depth - 1)
-    (omega (arith, c.if-depth-eq0.false)) c.nodes.ensures.is_net c.requires.run.packed inner c.admissible.ensures.looked
+    (omega (arith, c.if-depth-eq0.false)) c.requires.run.packed.limits c.requires.run.packed inner c.admissible.ensures.looked
     c.in_default.ensures.none (omega (arith, c.in_default.ensures.steps_none)) in
     let node = c.tail-node.ensures.node in
     let y = c.tail-node.result in

@@ -86,7 +86,7 @@ loop-spot-preserved c =
               ]
               | inr new ↦
                   inr (subst (λ q. IsCome net flows dir dist' via' q) (sym new)
-                  (come_new flows dir half c.nodes-place.ensures.is_net own.0 inside own.1 to.head remains still
+                  (come_new flows dir half c.requires.packed.limits own.0 inside own.1 to.head remains still
                   (omega (arith, now.arrived.level, to.level, level)) (now.arrived.half ∙ to.half)))
             ];
             next_level = λ p m. elim (now.come p m) [
@@ -101,7 +101,7 @@ loop-spot-preserved c =
               | inr new ↦
                   subst (λ q. IsTrue (side (q + 1))) (sym new)
                   (subst (λ v. IsTrue (side v)) to.head
-                  (closed_step flows dir half c.nodes-place.ensures.is_net own.0 inside own.1 side closed in_side
+                  (closed_step flows dir half c.requires.packed.limits own.0 inside own.1 side closed in_side
                   remains))
             ];
             never_lowered = omega (arith, old.never_lowered, looks.never_lowered);

@@ -161,7 +161,7 @@ returns-after-places-clause-missed c = λ none some.
     let swept = c.places.invariant.swept in let net = c.args.plan.packed.net.now in let dir = c.args.plan.direction in
     let found = searched swept in
     record {
-      whole = whole_seen found c.nodes.ensures.is_net c.requires.starts (all_done swept c.places-test.false);
+      whole = whole_seen found c.requires.packed.limits c.requires.starts (all_done swept c.places-test.false);
       outside = λ v i.
           none_seen c.args.plan.until.now c.places.dist c.places.progress.wanted v c.places.invariant.count none i;
     }

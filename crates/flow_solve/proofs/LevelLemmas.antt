@@ -8,6 +8,7 @@ pub mod PushesAhead
 pub mod Ranks
 pub mod Walks
 pub mod Levelled
+pub mod WalkPaths
 pub mod Turning
 pub mod Rising
 pub mod Settled

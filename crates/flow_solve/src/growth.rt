@@ -21,7 +21,8 @@ ghost use Rattle.flow_net.specs.Connectivity.{leaving, IsProper};
 ghost use Rattle.flow_net.specs.LeastCuts.{IsConnectivity};
 ghost use Rattle.flow_solve.specs.residual.Packs.{IsPacked};
 ghost use Rattle.flow_solve.specs.Bounds.{work_cells};
-ghost use Rattle.flow_solve.specs.Growth.{AreBelow, ArePlaces, HavePlaces, IsClean, IsReached, IsReady, IsTurn, PaysIfAny};
+ghost use Rattle.flow_solve.specs.Growth.{AreBelow, ArePlaces, HavePlaces, IsClean, IsReached, IsReady, IsTurn};
+ghost use Rattle.flow_solve.specs.Growth.{PaysIfAny};
 
 mod branches;
 mod direct;

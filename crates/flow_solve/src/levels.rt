@@ -42,6 +42,7 @@ ghost use Rattle.std.specs.Prelude.{◌+◌, ◌*◌, ◌≤◌, length};
 ghost use Rattle.flow_solve.specs.Bounds.{levels_bound};
 
 pub(crate) mod phases;
+mod spending;
 pub(crate) mod trees;
 mod walking;
 pub(crate) mod waves;

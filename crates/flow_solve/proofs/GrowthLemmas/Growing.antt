@@ -23,7 +23,8 @@ use Rattle.flow_net.proofs.Zips.{zip_from_fits, closed_by_arcs}
 use Rattle.flow_net.proofs.Pushes.{IsMoved, held_none, held_all, moved_nothing, moved_on, moved_before}
 use Rattle.flow_net.proofs.Pushes.{moved_feasible, moved_value, other_node}
 use Rattle.flow_net.proofs.ZeroFlows.{zeros_feasible}
-use Rattle.flow_net.proofs.GrowthLemmas.{before_at, before_place, not_before, apart_to, back_proper, forth_proper}
+use Rattle.flow_net.proofs.GrowthLemmas.{count_by_agree, before_at, before_place, not_before, apart_to, back_proper}
+use Rattle.flow_net.proofs.GrowthLemmas.{forth_proper}
 use Rattle.flow_net.proofs.GrowthLemmas.{growth_below}
 use Rattle.flow_solve.specs.declared.residual.half_arcs.Direction.{Direction}
 use Rattle.flow_solve.specs.declared.residual.half_arcs.Direction.TheVariants.{Forwards, Backwards}
@@ -41,16 +42,6 @@ flow_over_agree p q (a ∷ arcs) (x ∷ xs) e = let s = flow_over_agree p q arcs
 cap_over_agree : (p q : Arc → Bool) (arcs : List Arc) → ((a : Arc) → p a ≡ q a) → cap_over p arcs ≡ cap_over q arcs
 cap_over_agree p q [] e = refl
 cap_over_agree p q (a ∷ arcs) e = let s = cap_over_agree p q arcs e in rw (e a, s) refl
-
-pub count_by_agree : (p q : Arc → Bool) (arcs : List Arc) → ((a : Arc) → p a ≡ q a) → count_by p arcs ≡ count_by q arcs
-count_by_agree p q [] e = refl
-count_by_agree p q (a ∷ arcs) e =
-    rw (
-      sum_by-cons (λ b. cond (p b) 1 0) a arcs,
-      sum_by-cons (λ b. cond (q b) 1 0) a arcs,
-      e a,
-      count_by_agree p q arcs e,
-    ) refl
 
 cap_counts : (p : Arc → Bool) (arcs : List Arc) → AllByRecursion (λ a. a.cap ≡ 1) arcs
     → cap_over p arcs ≡ count_by p arcs

@@ -17,7 +17,8 @@ use Rattle.flow_solve.specs.declared.residual.half_arcs.Direction.{Direction}
 use Rattle.flow_solve.specs.residual.Packs.{group_of}
 use Rattle.flow_solve.specs.residual.HalfArcs.{near_end, far_end, crossed, IsClosedFor}
 use Rattle.flow_solve.specs.Growth.{ArePlaces, IsClean, IsQueued, IsPassed, IsInOrder, seen_in}
-use Rattle.flow_solve.proofs.ResidualLemmas.Crossings.{near_crossed, far_crossed, crossed_crossed, crossed_within, tail_group}
+use Rattle.flow_solve.proofs.ResidualLemmas.Crossings.{near_crossed, far_crossed, crossed_crossed, crossed_within}
+use Rattle.flow_solve.proofs.ResidualLemmas.Crossings.{tail_group}
 
 -- a write to one cell, seen at any cell
 pub set_cases : (xs : List ℕ) (i v j : ℕ) → i < length xs
@@ -263,3 +264,10 @@ terminal_at net order cells k x s l at a h =
     let here : slice_index order (slice_index cells (x - 1)) ≡ x =
     a (x - 1) (omega arith) (omega arith) ∙ omega arith in
     subst (λ z. before order k z ≡ true) here (before_at order k (slice_index cells (x - 1)) h (omega arith))
+
+-- the lemmas by which functions keep the cells: a node is entered, is marked, and all are forgotten
+pub ruleset node_entered = (places_marked, queued_more)
+
+pub ruleset node_marked = (places_marked, queued_same)
+
+pub ruleset nodes_forgotten = (left_all, left_next, places_back, clean_after)

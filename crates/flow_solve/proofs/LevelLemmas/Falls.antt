@@ -6,7 +6,8 @@ use Rattle.std.proofs.lemmas.Bool.{cases_eq, ne_eqb, lt-ltb, ltb-true, le-ltb, l
 use Rattle.flow_net.specs.Nets.{Net}
 use Rattle.flow_net.specs.Residual.{tail_of, head_of, residual}
 use Rattle.flow_net.proofs.HalfArcs.{ends_of_twin, one_arc_ends}
-use Rattle.flow_solve.specs.levels.Phases.{count_below, weight_below, falls, passed, is_left, left, fill_cost, to_fill, any}
+use Rattle.flow_solve.specs.levels.Phases.{count_below, weight_below, falls, passed, is_left, left, fill_cost, to_fill}
+use Rattle.flow_solve.specs.levels.Phases.{any}
 use Rattle.flow_solve.specs.levels.Phases.{is_open}
 
 fewer_step : (b c : Bool) (m k : ℕ) → (b ≡ true → c ≡ true) → m ≤ k → m + cond b 1 0 ≤ k + cond c 1 0

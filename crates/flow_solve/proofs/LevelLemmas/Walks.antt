@@ -6,7 +6,8 @@ use Rattle.flow_net.specs.Nets.{Net, IsNode}
 use Rattle.flow_net.specs.Limits.{IsNet}
 use Rattle.flow_net.specs.Residual.{tail_of, head_of, residual}
 use Rattle.flow_solve.specs.residual.Packs.{IsPacked}
-use Rattle.flow_solve.specs.levels.Phases.{cell_of, place_of, left, any, HasMoved, IsAdmissible, IsDead, IsBlocked, AreWithin}
+use Rattle.flow_solve.specs.levels.Phases.{cell_of, place_of, left, any, HasMoved, IsAdmissible, IsDead, IsBlocked}
+use Rattle.flow_solve.specs.levels.Phases.{AreWithin}
 use Rattle.flow_solve.specs.levels.Phases.{IsCurrent}
 use Rattle.flow_solve.proofs.LevelLemmas.Falls.{left_on, pass_any}
 use Rattle.flow_solve.proofs.LevelLemmas.Places.{cell_at, cell_set, cell_other, IsMine, mine, one_place, falls_apart}

@@ -19,7 +19,8 @@ use Rattle.flow_solve.specs.residual.Searches.{ContainsAll, IsMarked, seen, spre
 use Rattle.flow_solve.specs.residual.Searches.{IsCount, wanted_at, IsDone, IsSearched, IsWhole}
 use Rattle.flow_net.proofs.NodeLists.{place_in}
 use Rattle.flow_solve.proofs.ResidualLemmas.Queues.{spread_zero, spread_some, spread_more}
-use Rattle.flow_solve.proofs.ResidualLemmas.Crossings.{near_crossed, crossed_crossed, crossed_within, far_crossed, tail_group}
+use Rattle.flow_solve.proofs.ResidualLemmas.Crossings.{near_crossed, crossed_crossed, crossed_within, far_crossed}
+use Rattle.flow_solve.proofs.ResidualLemmas.Crossings.{tail_group}
 
 get_or_last : (xs : List ℕ) (i d : ℕ) → length xs ≤ i → get_or xs i d ≡ d
 get_or_last [] i d l = refl

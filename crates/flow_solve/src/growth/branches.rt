@@ -8,7 +8,8 @@
 ghost use Rattle.std.specs.Prelude.{◌≡◌, ◌+◌, ◌*◌, ◌<◌, ◌≤◌, IfSome, IsTrue, length};
 ghost use Rattle.flow_net.specs.Nets.{IsNode};
 ghost use Rattle.flow_net.specs.Flows.{Fits};
-ghost use Rattle.flow_solve.specs.Growth.{AreQueued, Carries, HavePlaces, IsClean, IsReady, IsTurn, KeepsQueues, PaysIfAny};
+ghost use Rattle.flow_solve.specs.Growth.{AreQueued, Carries, HavePlaces, IsClean, IsReady, IsTurn, KeepsQueues};
+ghost use Rattle.flow_solve.specs.Growth.{PaysIfAny};
 ghost use Rattle.flow_solve.specs.Steps.{PaysLooks};
 
 use crate::growth::frontier::forget;
@@ -49,7 +50,7 @@ fn branch_of(nodes: u32, number: u32, node: u32) -> u32
 
 /// Lets the node behind a half-arc be seen, in the branch of the node before it, or in its own if that is the node of
 /// the turn.
-#[tactic(auto, using(crate::proofs::GrowthLemmas::SeenCells::places_marked, crate::proofs::GrowthLemmas::SeenCells::queued_more))]
+#[tactic(auto, using(crate::proofs::GrowthLemmas::SeenCells::node_entered))]
 fn enter_branch(
     turn: Turn<'_>,
     cells: &mut [u32],
@@ -95,7 +96,7 @@ fn is_followed(nodes: u32, cells: &[u32], node: u32) -> bool
 }
 
 /// Gives up the branch of a node.
-#[tactic(auto, using(crate::proofs::GrowthLemmas::SeenCells::places_marked, crate::proofs::GrowthLemmas::SeenCells::queued_same))]
+#[tactic(auto, using(crate::proofs::GrowthLemmas::SeenCells::node_marked))]
 fn give_up(turn: Turn<'_>, cells: &mut [u32], node: u32)
     requires turn { IsTurn turn }
     requires cells { HavePlaces turn cells.old }

@@ -2,7 +2,8 @@
 ghost use Rattle.std.specs.Prelude.{◌≡◌, ◌+◌, ◌*◌, ◌<◌, ◌≤◌, MatchOption, IfSome, length};
 ghost use Rattle.flow_net.specs.Nets.{IsNode};
 ghost use Rattle.flow_net.specs.Flows.{Fits};
-ghost use Rattle.flow_solve.specs.Growth.{AreNodes, ArePlaces, AreQueued, HavePlaces, IsClean, IsQueued, IsTurn, IsTurnClosed, IsTurnCut, Passes};
+ghost use Rattle.flow_solve.specs.Growth.{AreNodes, ArePlaces, AreQueued, HavePlaces, IsClean, IsQueued, IsTurn};
+ghost use Rattle.flow_solve.specs.Growth.{IsTurnClosed, IsTurnCut, Passes};
 ghost use Rattle.flow_solve.specs.Steps.{OnlyLooks, PaysLooks};
 
 use crate::growth::turns::Turn;
@@ -45,7 +46,7 @@ pub(crate) fn above(nodes: u32, cell: u32) -> u32
 
 /// Looks at a half-arc that leaves a node which is seen, if it leads to one that isn't: a terminal is counted, and
 /// another node is entered with the number for its cell.
-#[tactic(auto, using(crate::proofs::GrowthLemmas::SeenCells::places_marked, crate::proofs::GrowthLemmas::SeenCells::queued_more))]
+#[tactic(auto, using(crate::proofs::GrowthLemmas::SeenCells::node_entered))]
 fn expand_over(
     turn: Turn<'_>,
     flow: &mut FlowTable,
@@ -232,7 +233,7 @@ pub(crate) fn is_closed(
 }
 
 /// Puts the place of each node in the queue back into its cell.
-#[tactic(auto, using(crate::proofs::GrowthLemmas::SeenCells::left_all, crate::proofs::GrowthLemmas::SeenCells::left_next, crate::proofs::GrowthLemmas::SeenCells::places_back, crate::proofs::GrowthLemmas::SeenCells::clean_after))]
+#[tactic(auto, using(crate::proofs::GrowthLemmas::SeenCells::nodes_forgotten))]
 pub(crate) fn forget(order: &[u32], cells: &mut [u32], queue: &[u32], tail: u32)
     requires size { length cells.old ≡ length order.now }
     requires queue_size { length queue.now ≡ length order.now }

@@ -3,8 +3,8 @@
 //! the order goes round a ring one way, and the flow of each node stays near it.
 //!
 //! Nodes that are joined and have no place yet stand on lists, one for each number of half-arcs, linked both ways, the
-//! one joined last in front. Nothing is proved of these lists but that they stay within the cells: whether the order has
-//! all nodes is tested when it is done.
+//! one joined last in front. Nothing is proved of these lists but that they stay within the cells: whether the order
+//! has all nodes is tested when it is done.
 ghost use Rattle.std.specs.Prelude.{◌≡◌, ◌<◌, ◌≤◌, IfSome, IsTrue, length};
 ghost use Rattle.flow_net.specs.Nets.{IsNode};
 ghost use Rattle.flow_net.specs.Orders.{IsOrder};

@@ -4,7 +4,8 @@ ghost use Rattle.std.specs.List.{All};
 ghost use Rattle.flow_net.specs.Nets.{IsNode};
 ghost use Rattle.flow_net.specs.Flows.{Fits};
 ghost use Rattle.flow_net.specs.Orders.{before};
-ghost use Rattle.flow_solve.specs.Growth.{Carries, HavePlaces, IsClean, IsReady, IsTurn, IsWalk, KeepsQueues, Parts, PaysIfAny};
+ghost use Rattle.flow_solve.specs.Growth.{Carries, HavePlaces, IsClean, IsReady, IsTurn, IsWalk, KeepsQueues, Parts};
+ghost use Rattle.flow_solve.specs.Growth.{PaysIfAny};
 ghost use Rattle.flow_solve.specs.Steps.{PaysLooks};
 
 use crate::growth::branches::send_by_branches;
@@ -75,7 +76,7 @@ struct Walk {
 }
 
 /// Lets a walk enter a node that is seen: at the first time its place is that of its first half-arc.
-#[tactic(auto, using(crate::proofs::GrowthLemmas::SeenCells::places_marked, crate::proofs::GrowthLemmas::SeenCells::queued_same))]
+#[tactic(auto, using(crate::proofs::GrowthLemmas::SeenCells::node_marked))]
 fn walk_into(turn: Turn<'_>, cells: &mut [u32], current: &mut [u32], node: u32)
     requires turn { IsTurn turn }
     requires cells { HavePlaces turn cells.old }

@@ -9,7 +9,8 @@ ghost use Rattle.flow_net.specs.Flows.{Fits};
 ghost use Rattle.flow_net.specs.Residual.{tail_of, head_of, residual};
 ghost use Rattle.flow_net.specs.Paths.{IsApart, push_all};
 ghost use Rattle.flow_solve.specs.residual.Packs.{IsPacked};
-ghost use Rattle.flow_solve.specs.levels.Phases.{cell_of, HasLooked, IsAt, IsCurrent, IsDeadIn, IsFilling, IsNext, IsPhase};
+ghost use Rattle.flow_solve.specs.levels.Phases.{cell_of, HasLooked, IsAt, IsCurrent, IsDeadIn, IsFilling, IsNext};
+ghost use Rattle.flow_solve.specs.levels.Phases.{IsPhase};
 ghost use Rattle.flow_solve.specs.levels.Phases.{KeepsGentle, Looks, PaysOwed};
 
 use crate::residual::half_arcs::{head, tail};

@@ -24,12 +24,13 @@ mod excess;
 mod levelling;
 mod settling;
 
+use crate::levels::spending::spend;
 use crate::residual::half_arcs::head;
 use crate::residual::packing::Packed;
 use crate::residual::searching::FAR;
 use crate::task::Task;
 use discharging::discharge;
-use excess::{Wave, afford, at_rest, book, level_cell, set_levels, take_listed};
+use excess::{Wave, at_rest, book, level_cell, set_levels, take_listed};
 use flow_net::FlowTable;
 use levelling::{BARRED, search_levels};
 use settling::settle;
@@ -74,7 +75,7 @@ fn release_all(
 {
     let begin = packed.first[node as usize - 1];
     let end = packed.first[node as usize];
-    if afford(wave, 2 * u64::from(end - begin)) {
+    if spend(&mut wave.left, 2 * u64::from(end - begin)) {
         for spot in begin..end {
             release(packed, flow, cells, packed.halves[spot as usize]);
         }
@@ -108,7 +109,7 @@ fn sweep(packed: Packed<'_>, flow: &mut FlowTable, cells: &mut [u32], wave: &mut
     ensures paid { PaysSteps flow.old wave.old.left flow.new wave.new.left }
 {
     let nodes = packed.net.nodes();
-    'turns: while wave.farthest > 0 && wave.fuel > 0 && afford(wave, 1) {
+    'turns: while wave.farthest > 0 && wave.fuel > 0 && spend(&mut wave.left, 1) {
         let node = take_listed(cells, nodes, wave.farthest);
         if 1 <= node && node <= nodes {
             discharge(packed, flow, cells, wave, node);

@@ -19,7 +19,8 @@ ghost use Rattle.flow_solve.specs.Steps.{OnlyLooks};
 ghost use Rattle.flow_solve.specs.residual.HalfArcs.{twin_of, crossed};
 ghost use Rattle.flow_solve.specs.residual.Searches.{AreCells, Brings, EndsSoon, HasArrived, HasDone};
 ghost use Rattle.flow_solve.specs.residual.Searches.{HasFollowed, HasGrown, HasMissed, HasSearched, IsArrival, IsCount};
-ghost use Rattle.flow_solve.specs.residual.Searches.{IsMarked, IsNear, IsNoArrival, IsQueue, IsSearch, next_in, place_over};
+ghost use Rattle.flow_solve.specs.residual.Searches.{IsMarked, IsNear, IsNoArrival, IsQueue, IsSearch, next_in};
+ghost use Rattle.flow_solve.specs.residual.Searches.{place_over};
 ghost use Rattle.flow_solve.specs.residual.Searches.{unseen_cell};
 
 use crate::residual::half_arcs::{Direction, cross, head};

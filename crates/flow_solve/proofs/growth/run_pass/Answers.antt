@@ -1,9 +1,10 @@
--- `run_pass`: a turn for each node raises the flow between it and the nodes before it, so that the least number so far is
--- that of some set, and no set that parts a node passed from those before it has fewer.
+-- `run_pass`: a turn for each node raises the flow between it and the nodes before it, so that the least number so far
+-- is that of some set, and no set that parts a node passed from those before it has fewer.
 use Rattle.std.proofs.Common.{◌≡◌, ◌<◌, ℕ, List, length, replicate, ◌∙◌, sym, ap, subst, inl, inr, arith}
 use Rattle.std.proofs.lemmas.Bool.{cases_eq, cases_lt}
 use Rattle.flow_solve.specs.Growth.{IsBalanced, IsBelow}
-use Rattle.flow_solve.proofs.GrowthLemmas.Growing.{balanced_zeros, balanced_next, raised_none, raised_below, parted_proper}
+use Rattle.flow_solve.proofs.GrowthLemmas.Growing.{balanced_zeros, balanced_next, raised_none, raised_below}
+use Rattle.flow_solve.proofs.GrowthLemmas.Growing.{parted_proper}
 use Rattle.flow_solve.proofs.growth.run_pass.Goals as goal
 
 -- no flow, and no turn yet

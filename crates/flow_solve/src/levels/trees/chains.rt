@@ -32,10 +32,12 @@ pub(crate) fn supply_half(direction: Direction, half: u32) -> u32
     }
 }
 
-/// Writes the chain of parents of a node in the tree of the sources, the root's half-arc first. Its nodes get their
-/// labels, the first of which is given, and the time.
-fn lead_in(
+/// Writes the chain of parents of a node: in the tree of the sources the root's half-arc first, and in that of the
+/// sinks the node's own. Its nodes get their labels, the first of which is given, and the time.
+#[inline(always)]
+fn write_chain(
     packed: Packed<'_>,
+    direction: Direction,
     cells: &mut [u32],
     path: &mut [u32],
     node: u32,
@@ -53,38 +55,11 @@ fn lead_in(
         if half as usize >= packed.halves.len() {
             return;
         }
-        let at = path.len() - 1 - i;
-        path[at] = supply_half(Direction::Forwards, half);
-        cells[label_cell(node)] = label;
-        cells[stamp_cell(node)] = time;
-        label = label.saturating_sub(2);
-        node = head(packed.net, half);
-    }
-    cells[stamp_cell(node)] = time;
-}
-
-/// Writes the chain of parents of a node in the tree of the sinks, the node's own half-arc first. Its nodes get their
-/// labels, the first of which is given, and the time.
-fn lead_out(
-    packed: Packed<'_>,
-    cells: &mut [u32],
-    path: &mut [u32],
-    node: u32,
-    label: u32,
-    time: u32,
-)
-    requires packed { IsPacked packed.net.now packed.first.now packed.halves.now }
-    requires size { 4 * packed.net.now.nodes ≤ length cells.old }
-    requires node { IsNode packed.net.now node }
-{
-    let mut node = node;
-    let mut label = label;
-    for i in 0..path.len() {
-        let half = cells[parent_cell(node)];
-        if half as usize >= packed.halves.len() {
-            return;
-        }
-        path[i] = half;
+        let at = match direction {
+            Direction::Forwards => path.len() - 1 - i,
+            Direction::Backwards => i,
+        };
+        path[at] = supply_half(direction, half);
         cells[label_cell(node)] = label;
         cells[stamp_cell(node)] = time;
         label = label.saturating_sub(2);
@@ -142,9 +117,17 @@ pub(crate) fn gather(
     let near = touch.before.saturating_mul(2).saturating_add(2);
     let far = touch.behind.saturating_mul(2).saturating_add(3);
     let (front, rest) = path.split_at_mut(touch.before as usize);
-    lead_in(packed, cells, front, from, near, time);
+    write_chain(packed, Direction::Forwards, cells, front, from, near, time);
     rest[0] = touch.half;
-    lead_out(packed, cells, &mut rest[1..], to, far, time);
+    write_chain(
+        packed,
+        Direction::Backwards,
+        cells,
+        &mut rest[1..],
+        to,
+        far,
+        time,
+    );
 }
 
 /// A number that rises along a path through the trees, made of a node's label.

@@ -51,19 +51,6 @@ pub(crate) fn is_tired(trees: &Trees) -> bool
     trees.left <= trees.floor
 }
 
-/// Takes as many as some half-arcs off what may still be done, or all that is left. Answers whether there were so many.
-pub(crate) fn spend(trees: &mut Trees, count: u32) -> bool
-    ensures some { IsTrue result → trees.new.left + count ≡ trees.old.left }
-    ensures none { IsFalse result → trees.new.left ≡ 0 }
-{
-    if trees.left < u64::from(count) {
-        trees.left = 0;
-        return false;
-    }
-    trees.left -= u64::from(count);
-    true
-}
-
 /// Where a node's label stands: twice one more than its distance from the root when that was last looked at, and 1 more
 /// in the tree of the sinks. A free node has 0.
 #[inline(always)]
@@ -84,7 +71,8 @@ pub(crate) fn parent_cell(node: u32) -> usize
     4 * node as usize - 3
 }
 
-/// Where a node's stamp stands: the time when its parents were last known to lead to a root; for an orphan the next one.
+/// Where a node's stamp stands: the time when its parents were last known to lead to a root; for an orphan the next
+/// one.
 #[inline(always)]
 pub(crate) fn stamp_cell(node: u32) -> usize
     requires { 1 ≤ node }

@@ -6,10 +6,11 @@ ghost use Rattle.flow_net.specs.Flows.{Fits};
 ghost use Rattle.flow_solve.specs.residual.Packs.{IsPacked};
 ghost use Rattle.flow_solve.specs.Steps.{OnlyLooks, PaysLooks};
 
+use crate::levels::spending::spend;
 use crate::levels::trees::chains::{Bottleneck, supply_half};
 use crate::levels::trees::forest::{
     LEAST_CHILD, NO_PARENT, Trees, abandon_first, abandon_last, activate, direction_of, is_tired,
-    label_cell, next_active_cell, next_orphan, parent_cell, spend, stamp_cell,
+    label_cell, next_active_cell, next_orphan, parent_cell, stamp_cell,
 };
 use crate::residual::cells::{END, get};
 use crate::residual::half_arcs::{head, tail, twin};
@@ -67,7 +68,7 @@ fn walk_to_root(packed: Packed<'_>, trees: &mut Trees, cells: &[u32], node: u32)
         if label < LEAST_CHILD || cells[stamp_cell(node)] == trees.time {
             return walked.saturating_add(label / 2);
         }
-        if half as usize >= packed.halves.len() || !spend(trees, 1) {
+        if half as usize >= packed.halves.len() || !spend(&mut trees.left, 1) {
             return FAR;
         }
         walked = walked.saturating_add(1);
@@ -154,7 +155,7 @@ fn find_parent(
     let own = cells[label_cell(node)];
     let begin = packed.first[node as usize - 1];
     let end = packed.first[node as usize];
-    if !spend(trees, end - begin) {
+    if !spend(&mut trees.left, u64::from(end - begin)) {
         return true;
     }
     let mut nearest = FAR;
@@ -225,7 +226,7 @@ fn set_free(
     cells[label_cell(node)] = 0;
     let begin = packed.first[node as usize - 1];
     let end = packed.first[node as usize];
-    if spend(trees, end - begin) {
+    if spend(&mut trees.left, u64::from(end - begin)) {
         for spot in begin..end {
             part(
                 packed,

@@ -7,8 +7,9 @@ ghost use Rattle.flow_solve.specs.residual.Packs.{IsPacked};
 ghost use Rattle.flow_solve.specs.residual.Packs.{degree_of};
 ghost use Rattle.flow_solve.specs.Steps.{OnlyLooks, PaysLooks, PaysSteps, TakesSteps};
 
+use crate::levels::spending::spend;
 use crate::levels::waves::excess::{
-    Wave, afford, book, count_cell, excess_of, level_cell, list_excess, set_excess,
+    Wave, book, count_cell, excess_of, level_cell, list_excess, set_excess,
 };
 use crate::residual::cells::{get, put};
 use crate::residual::half_arcs::head;
@@ -120,7 +121,7 @@ fn pass(
     let end = packed.first[sender.node as usize];
     let from = sender.from.min(end - begin);
     let ahead = u64::from(end - begin - from);
-    if !afford(wave, 1 + 2 * ahead) {
+    if !spend(&mut wave.left, 1 + 2 * ahead) {
         return amount;
     }
     wave.fuel = wave.fuel.saturating_sub(ahead);
@@ -202,7 +203,7 @@ fn lift(
 {
     let nodes = packed.net.nodes();
     let degree = packed.first[sender.node as usize] - packed.first[sender.node as usize - 1];
-    if !leave_level(cells, nodes, wave, sender.node) || !afford(wave, u64::from(degree)) {
+    if !leave_level(cells, nodes, wave, sender.node) || !spend(&mut wave.left, u64::from(degree)) {
         return None;
     }
     wave.fuel = wave.fuel.saturating_sub(u64::from(degree));

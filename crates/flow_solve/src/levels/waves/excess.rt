@@ -48,20 +48,6 @@ pub(super) fn at_rest(allowance: u64) -> Wave
     }
 }
 
-/// Takes a cost off what may still be done. Answers whether there was so much; where there wasn't, nothing more may be
-/// done.
-pub(super) fn afford(wave: &mut Wave, cost: u64) -> bool
-    ensures some { result ≡ true → wave.new.left + cost ≡ wave.old.left }
-    ensures none { result ≡ false → wave.new.left ≡ 0 }
-{
-    if wave.left < cost {
-        wave.left = 0;
-        return false;
-    }
-    wave.left -= cost;
-    true
-}
-
 /// Where a node's level stands.
 pub(super) fn level_cell(node: u32) -> usize
     requires { 1 ≤ node }

@@ -6,8 +6,9 @@ ghost use Rattle.flow_net.specs.Flows.{Fits};
 ghost use Rattle.flow_solve.specs.residual.Packs.{IsPacked};
 ghost use Rattle.flow_solve.specs.Steps.{OnlyLooks, PaysLooks};
 
+use crate::levels::spending::spend;
 use crate::levels::waves::excess::{
-    Wave, afford, count_cell, excess_of, level_cell, list_excess, queue_cell, set_levels,
+    Wave, count_cell, excess_of, level_cell, list_excess, queue_cell, set_levels,
 };
 use crate::residual::cells::{get, put};
 use crate::residual::half_arcs::{Direction, cross, head};
@@ -90,7 +91,7 @@ fn scan(packed: Packed<'_>, flow: &mut FlowTable, cells: &mut [u32], wave: &mut 
     let begin = packed.first[node as usize - 1];
     let end = packed.first[node as usize];
     let level = cells[level_cell(node)].saturating_add(1);
-    if afford(wave, u64::from(end - begin)) {
+    if spend(&mut wave.left, u64::from(end - begin)) {
         for spot in begin..end {
             let half = packed.halves[spot as usize];
             if cells[level_cell(head(packed.net, half))] == FAR {
@@ -166,7 +167,7 @@ pub(super) fn search_levels(
     ensures spent { result ≡ true → wave.new.left < wave.old.left }
 {
     let nodes = packed.net.nodes();
-    if !afford(wave, u64::from(nodes)) {
+    if !spend(&mut wave.left, u64::from(nodes)) {
         return false;
     }
     wave.queued = 0;

@@ -1,4 +1,5 @@
--- `search_frontier`: the seen nodes wait in the queue, of which one more is looked at each turn, and the looks are paid.
+-- `search_frontier`: the seen nodes wait in the queue, of which one more is looked at each turn, and the looks are
+-- paid.
 use Rattle.std.proofs.Common.{◌≡◌, ◌-◌, length}
 use Rattle.flow_net.specs.Flows.{Fits}
 use Rattle.flow_solve.specs.Growth.{AreQueued, HavePlaces}

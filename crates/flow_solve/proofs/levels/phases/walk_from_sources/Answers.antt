@@ -7,7 +7,8 @@ use Rattle.flow_solve.specs.levels.Phases.{cell_of, place_of, IsDead}
 use Rattle.flow_net.proofs.NodeLists.{place_in}
 use Rattle.flow_solve.proofs.ResidualLemmas.Searched.{unmarked_unseen}
 use Rattle.flow_solve.proofs.LevelLemmas.Walks.{dead_on}
-use Rattle.flow_solve.proofs.levels.phases.walk_from_sources.Goals.{then-phase-source-lt-WANTED, else-phase-source-lt-WANTED}
+use Rattle.flow_solve.proofs.levels.phases.walk_from_sources.Goals.{then-phase-source-lt-WANTED}
+use Rattle.flow_solve.proofs.levels.phases.walk_from_sources.Goals.{else-phase-source-lt-WANTED}
 use Rattle.flow_solve.proofs.levels.phases.walk_from_sources.Goals as goal
 
 -- one more source is dead, or isn't seen

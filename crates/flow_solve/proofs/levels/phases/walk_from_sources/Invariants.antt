@@ -1,4 +1,5 @@
--- `walk_from_sources`: the sources passed are dead or unseen, the flow keeps the phase's levels, and the steps are paid.
+-- `walk_from_sources`: the sources passed are dead or unseen, the flow keeps the phase's levels, and the steps are
+-- paid.
 use Rattle.std.proofs.Common.{ℕ, ◌+◌, ◌<◌, ◌≤◌, IsTrue}
 use Rattle.std.specs.Prelude.{slice_index}
 use Rattle.flow_net.specs.NodeSets.{one_of}

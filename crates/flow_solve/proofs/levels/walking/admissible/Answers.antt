@@ -3,7 +3,8 @@ use Rattle.std.proofs.Common.{◌≡◌, ℕ, List, ◌+◌, ◌-◌, get_or, se
 use Rattle.flow_net.specs.Residual.{residual}
 use Rattle.flow_solve.specs.levels.Phases.{cell_of, place_of, HasMoved, AreWithin, IsBlocked, IsAdmissible, left, any}
 use Rattle.flow_solve.proofs.LevelLemmas.Places.{IsMine, cell_set}
-use Rattle.flow_solve.proofs.LevelLemmas.Walks.{IsLooking, looking_start, looking_skip, looking_fail, looking_found, mine_at}
+use Rattle.flow_solve.proofs.LevelLemmas.Walks.{IsLooking, looking_start, looking_skip, looking_fail, looking_found}
+use Rattle.flow_solve.proofs.LevelLemmas.Walks.{mine_at}
 use Rattle.flow_solve.proofs.LevelLemmas.Walks.{set_moved, moved_within, rank_falls, rank_rises}
 use Rattle.flow_solve.proofs.levels.walking.admissible.Goals.{then-rank-head+else-room-gt0, else-rank-head}
 use Rattle.flow_solve.proofs.levels.walking.admissible.Goals as goal

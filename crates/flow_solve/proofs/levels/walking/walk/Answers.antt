@@ -10,9 +10,12 @@ use Rattle.flow_solve.specs.levels.Phases.{cell_of, place_of, owed, IsInPhase, I
 use Rattle.flow_solve.proofs.LevelLemmas.Places.{cell_at}
 use Rattle.flow_solve.proofs.Raises.{value_most, capacities_fit}
 use Rattle.flow_solve.proofs.LevelLemmas.Walks.{moved_up, on_up, set_next}
-use Rattle.flow_solve.proofs.LevelLemmas.Turning.{turning_as, turning_augment, turning_gentle, turning_advance, turning_retreat}
-use Rattle.flow_solve.proofs.LevelLemmas.Turning.{turning_end, turning_apart, some_path, half_on, looked_phase, dead_here}
-use Rattle.flow_solve.proofs.LevelLemmas.Turning.{at_source, sink_here, no_sink_here, stepped, to_go, to_go_fill, to_go_longer}
+use Rattle.flow_solve.proofs.LevelLemmas.Turning.{turning_as, turning_augment, turning_gentle, turning_advance}
+use Rattle.flow_solve.proofs.LevelLemmas.Turning.{turning_retreat}
+use Rattle.flow_solve.proofs.LevelLemmas.Turning.{turning_end, turning_apart, some_path, half_on, looked_phase}
+use Rattle.flow_solve.proofs.LevelLemmas.Turning.{dead_here}
+use Rattle.flow_solve.proofs.LevelLemmas.Turning.{at_source, sink_here, no_sink_here, stepped, to_go, to_go_fill}
+use Rattle.flow_solve.proofs.LevelLemmas.Turning.{to_go_longer}
 use Rattle.flow_solve.proofs.LevelLemmas.Turning.{to_go_pass}
 use Rattle.flow_solve.proofs.levels.walking.walk.Goals as goal
 

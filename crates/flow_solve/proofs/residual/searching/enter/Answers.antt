@@ -1,6 +1,7 @@
 -- `enter`: the place joins the queue behind all seen ones.
 use Rattle.std.proofs.Common.{length-set, get_or-set_same, get_or-set_other, arith}
-use Rattle.flow_solve.proofs.ResidualLemmas.Queues.{queue_short, queue_room, queue_more, count_more, near_more, unseen_other}
+use Rattle.flow_solve.proofs.ResidualLemmas.Queues.{queue_short, queue_room, queue_more, count_more, near_more}
+use Rattle.flow_solve.proofs.ResidualLemmas.Queues.{unseen_other}
 use Rattle.flow_solve.proofs.residual.searching.enter.Goals as goal
 
 -- the queue has a cell for each node, so there is one left for an unseen one

@@ -2,7 +2,8 @@
 use Rattle.std.proofs.Common.{◌≡◌, ℕ, List, get_or, refl, ◌∙◌, ap, arith}
 use Rattle.flow_net.proofs.Zips.{against}
 use Rattle.flow_solve.proofs.LevelLemmas.Settled.{IsTallied, sums_more}
-use Rattle.flow_solve.proofs.levels.waves.settling.tally.Goals.{else-arc-via-then-arc+else-amount-gt0, else-arc-via-else-arc}
+use Rattle.flow_solve.proofs.levels.waves.settling.tally.Goals.{else-arc-via-then-arc+else-amount-gt0}
+use Rattle.flow_solve.proofs.levels.waves.settling.tally.Goals.{else-arc-via-else-arc}
 use Rattle.flow_solve.proofs.levels.waves.settling.tally.Goals as goal
 
 pub loop-i-preserved : goal.loop-i-preserved

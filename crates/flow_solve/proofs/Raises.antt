@@ -18,13 +18,13 @@ use Rattle.flow_net.specs.Laws.{AreApart}
 use Rattle.flow_net.proofs.AugmentingPaths.{climbs_apart, augmented, no_loops_climbed}
 use Rattle.flow_net.proofs.ZeroFlows.{value_bounded, zeros_feasible, zeros_value, zeros_no_loops}
 use Rattle.flow_net.proofs.NodeLists.{terminals_apart}
-use Rattle.flow_solve.specs.declared.searching.Direction.TheVariants.{Backwards}
-use Rattle.flow_solve.specs.Searches.{IsMarked, IsSearched, IsWhole}
+use Rattle.flow_solve.specs.declared.residual.half_arcs.Direction.TheVariants.{Backwards}
+use Rattle.flow_solve.specs.residual.Searches.{IsMarked, IsSearched, IsWhole}
 use Rattle.flow_solve.specs.Bounds.{capacities}
-use Rattle.flow_solve.specs.Raising.{IsFlow}
-use Rattle.flow_solve.specs.Trails.{trail_from}
-use Rattle.flow_solve.proofs.Routes.{nearness, searched_trails, trail_is, sink_at, sink_no_source}
-use Rattle.flow_solve.proofs.Outcomes.{backward_tight}
+use Rattle.flow_solve.specs.Solving.{IsFlow}
+use Rattle.flow_solve.specs.residual.Trails.{trail_from}
+use Rattle.flow_solve.proofs.ResidualLemmas.Routes.{nearness, searched_trails, trail_is, sink_at, sink_no_source}
+use Rattle.flow_solve.proofs.SideLemmas.Outcomes.{backward_tight}
 
 -- a cut's capacity is at most the sum of all, and that is below 2^87
 some_of : (b : Bool) (x m k : ℕ) → m ≤ k → cond b x 0 + m ≤ x + k

@@ -10,13 +10,13 @@ use Rattle.flow_net.specs.Connectivity.{leaving, IsProper}
 use Rattle.flow_net.specs.Cuts.{leaves, IsCut}
 use Rattle.flow_net.specs.Arcs.{enters}
 use Rattle.flow_solve.specs.declared.growth.raising.Walk.{Walk}
-use Rattle.flow_solve.specs.declared.growth.turns.Raised.{Raised}
+use Rattle.flow_solve.specs.declared.growth.turns.Budgeted.{Budgeted}
 use Rattle.flow_solve.specs.declared.growth.turns.Turn.{Turn}
-use Rattle.flow_solve.specs.declared.searching.Direction.{Direction}
-use Rattle.flow_solve.specs.declared.searching.Direction.TheVariants.{Forwards, Backwards}
+use Rattle.flow_solve.specs.declared.residual.half_arcs.Direction.{Direction}
+use Rattle.flow_solve.specs.declared.residual.half_arcs.Direction.TheVariants.{Forwards, Backwards}
 use Rattle.flow_net.specs.Residual.{Table, head_of, residual}
-use Rattle.flow_solve.specs.Packs.{IsPacked, group_of}
-use Rattle.flow_solve.specs.Searches.{crossed, IsClosedFor}
+use Rattle.flow_solve.specs.residual.Packs.{IsPacked, group_of}
+use Rattle.flow_solve.specs.residual.HalfArcs.{crossed, IsClosedFor}
 use Rattle.flow_solve.specs.Steps.{PaysSteps, TakesSteps}
 
 -- a set of nodes that is neither empty nor all has so many arcs out of it
@@ -49,8 +49,8 @@ abbrev pub BringsUnit : Turn → List ℕ → List ℕ → Type 0
 BringsUnit turn before after = (value : ℕ) → Carries turn before value → Carries turn after (value + 1)
 
 -- Where something is answered the steps taken are paid, and else they are no more than could be.
-abbrev pub Pays : Table → ℕ → Table → Option Raised → Type 0
-Pays before given after answer =
+abbrev pub PaysIfAny : Table → ℕ → Table → Option Budgeted → Type 0
+PaysIfAny before given after answer =
     MatchOption answer (TakesSteps before after given) (λ r. PaysSteps before given after r.left)
 
 -- a flow that each node enters as it leaves it, but for those before a place

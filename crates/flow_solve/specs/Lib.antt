@@ -1,12 +1,8 @@
 pub mod Bounds
-pub mod Packs
-pub mod Raising
-pub mod Searches
-pub mod Sides
 pub mod Steps
-pub mod Trails
-pub mod Levels
-pub mod Trees
+pub mod residual
+pub mod Solving
+pub mod Task
+pub mod Sides
+pub mod levels
 pub mod Growth
-pub mod Settling
-pub mod Stages

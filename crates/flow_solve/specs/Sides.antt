@@ -6,10 +6,10 @@ use Rattle.flow_net.specs.Flows.{HasValue}
 use Rattle.flow_net.specs.GreatestFlows.{HasGreatestValue}
 use Rattle.flow_net.specs.Cuts.{capacity, IsMinimumCut}
 use Rattle.flow_net.specs.LeastSides.{IsInLeastSourceSide, IsInLeastSinkSide}
-use Rattle.flow_solve.specs.declared.searching.Direction.{Direction}
-use Rattle.flow_solve.specs.declared.searching.Direction.TheVariants.{Forwards, Backwards}
-use Rattle.flow_solve.specs.declared.stages.Task.{Task}
-use Rattle.flow_solve.specs.Searches.{seen}
+use Rattle.flow_solve.specs.declared.residual.half_arcs.Direction.{Direction}
+use Rattle.flow_solve.specs.declared.residual.half_arcs.Direction.TheVariants.{Forwards, Backwards}
+use Rattle.flow_solve.specs.declared.task.Task.{Task}
+use Rattle.flow_solve.specs.residual.Searches.{seen}
 
 -- The set has exactly the nodes that lie in the source side of every minimum cut. It makes a minimum cut itself, whose
 -- capacity is the flow's value.
@@ -41,8 +41,8 @@ until_of Backwards s t = s
 
 -- of a task: the flow's value is the greatest; the nodes that a search has seen, whose distances stand in the first
 -- cells, are the least side
-abbrev pub IsRaised : Task → List ℕ → Type 0
-IsRaised task xs = HasGreatestValue task.packed.net.now (one_of task.s.now) (one_of task.t.now) xs
+abbrev pub HasGreatestFlow : Task → List ℕ → Type 0
+HasGreatestFlow task xs = HasGreatestValue task.packed.net.now (one_of task.s.now) (one_of task.t.now) xs
 
 abbrev pub SeesSide : Direction → Task → List ℕ → List ℕ → Type 0
 SeesSide dir task xs cells =

@@ -19,9 +19,10 @@ ghost use Rattle.flow_net.specs.Flows.{Fits};
 ghost use Rattle.flow_net.specs.Orders.{IsOrder};
 ghost use Rattle.flow_net.specs.Connectivity.{leaving, IsProper};
 ghost use Rattle.flow_net.specs.LeastCuts.{IsConnectivity};
-ghost use Rattle.flow_solve.specs.Packs.{IsPacked};
+ghost use Rattle.flow_solve.specs.residual.Packs.{IsPacked};
 ghost use Rattle.flow_solve.specs.Bounds.{work_cells};
-ghost use Rattle.flow_solve.specs.Growth.{AreBelow, ArePlaces, HavePlaces, IsClean, IsReached, IsReady, IsTurn, Pays};
+ghost use Rattle.flow_solve.specs.Growth.{AreBelow, ArePlaces, HavePlaces, IsClean, IsReached, IsReady, IsTurn};
+ghost use Rattle.flow_solve.specs.Growth.{PaysIfAny};
 
 mod branches;
 mod direct;
@@ -32,24 +33,24 @@ mod prefixes;
 mod raising;
 mod turns;
 
-use crate::packing::{Packed, pack};
-use crate::searching::Direction;
+use crate::residual::half_arcs::Direction;
+use crate::residual::packing::{Packed, pack};
 use flow_net::{FlowTable, Network};
 use mirrors::is_both_ways;
 use ordering::order_nodes;
 use prefixes::bound_by_prefix;
 use raising::raise;
-use turns::{Raised, Turn};
+use turns::{Budgeted, Turn};
 
 /// One pass over the order: each node behind that of the first turn has its own. `least` holds the least number so far
 /// and how many looks and pushes are left; the answer is the same after the pass, or nothing where they are used up.
-fn grow(
+fn run_pass(
     first: Turn<'_>,
     flow: &mut FlowTable,
     cells: &mut [u32],
     rest: &mut [u32],
-    least: Raised,
-) -> Option<Raised>
+    least: Budgeted,
+) -> Option<Budgeted>
     requires unit { All (λ a. a.cap ≡ 1) first.packed.net.now.arcs }
     requires fits { Fits first.packed.net.now flow.old.flows }
     requires turn { IsTurn first }
@@ -61,7 +62,7 @@ fn grow(
     ensures ready { IfSome result (λ _. IsReady first.entry cells.new) }
     ensures reached { IfSome result (λ r. IsReached first.entry.packed.net.now r.value) }
     ensures below { IfSome result (λ r. AreBelow first.entry r.value × r.value ≤ least.value) }
-    ensures paid { Pays flow.old least.left flow.new result }
+    ensures paid { PaysIfAny flow.old least.left flow.new result }
 {
     let n = first.packed.net.nodes();
     flow.clear();
@@ -143,7 +144,7 @@ pub fn connectivity_by_growth(
     let packed = Packed { net, first, halves };
     let value = arrange(packed, order, cells, three, least)?;
     let order: &[u32] = order;
-    let start = Raised {
+    let start = Budgeted {
         value,
         left: budget,
     };
@@ -153,7 +154,7 @@ pub fn connectivity_by_growth(
         direction: Direction::Forwards,
         place: 0,
     };
-    let forth = grow(first, flow, cells, three, start)?;
+    let forth = run_pass(first, flow, cells, three, start)?;
     // The two directions are then alike.
     if is_both_ways(net) {
         return Some(forth.value);
@@ -164,6 +165,6 @@ pub fn connectivity_by_growth(
         direction: Direction::Backwards,
         place: 0,
     };
-    let back = grow(first, flow, cells, three, forth)?;
+    let back = run_pass(first, flow, cells, three, forth)?;
     Some(back.value)
 }

@@ -41,13 +41,19 @@
 ghost use Rattle.std.specs.Prelude.{◌+◌, ◌*◌, ◌≤◌, length};
 ghost use Rattle.flow_solve.specs.Bounds.{levels_bound};
 
+pub(crate) mod phases;
+mod spending;
+pub(crate) mod trees;
+mod walking;
+pub(crate) mod waves;
+
 use crate::method::Method;
-use crate::phases::run_phases;
-use crate::raising::{Raise, solve};
-use crate::stages::Task;
-use crate::trees::grow_trees;
-use crate::waves::send_waves;
+use crate::solving::{Raise, solve};
+use crate::task::Task;
 use flow_net::{FlowTable, Network};
+use phases::run_phases;
+use trees::grow_trees;
+use waves::send_waves;
 
 /// How many times the number of arcs the trees may take, in steps and in half-arcs that they pass by.
 const TREES_SHARE: u64 = 64;

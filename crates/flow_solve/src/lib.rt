@@ -61,33 +61,22 @@
 //! | `n` | the half-arcs of the walk's path |
 #![tactic(auto)]
 
-mod chains;
-mod forest;
 mod growth;
 mod levels;
 mod method;
 mod naming;
-mod orphans;
-mod packing;
 mod paths;
-mod phases;
-mod raising;
-mod reaching;
-mod searching;
-mod settling;
-mod stages;
-mod trees;
-mod walking;
-mod waves;
+mod residual;
+mod sides;
+mod solving;
+mod task;
 
 pub use growth::connectivity_by_growth;
 pub use levels::Levels;
 pub use method::{Method, work_len};
 pub use naming::{is_scattered, name_nodes};
 pub use paths::Paths;
-pub use reaching::{
-    cut_nearest_sinks, cut_nearest_sources, has_augmenting_path, reach, reach_back,
-};
+pub use sides::{cut_nearest_sinks, cut_nearest_sources, has_augmenting_path, reach, reach_back};
 
 #[cfg(test)]
 mod tests;

@@ -6,7 +6,7 @@ ghost use Rattle.flow_net.specs.NodeSets.{one_of};
 ghost use Rattle.flow_net.specs.Flows.{Fits, IsFeasible, HasValue, IsGreatest, HasNoLoops};
 ghost use Rattle.flow_net.specs.LeastCuts.{IsLeastCapacity};
 ghost use Rattle.flow_solve.specs.Bounds.{work_cells};
-ghost use Rattle.flow_solve.specs.Packs.{ArePackedBehind};
+ghost use Rattle.flow_solve.specs.residual.Packs.{ArePackedBehind};
 
 use flow_net::{FlowTable, Network};
 

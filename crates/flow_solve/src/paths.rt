@@ -7,19 +7,21 @@ ghost use Rattle.std.specs.Prelude.{◌≡◌, ℕ, ◌+◌, ◌-◌, ◌*◌, �
 ghost use Rattle.std.specs.Prelude.{slice_index, sum_by};
 ghost use Rattle.std.specs.List.{All};
 ghost use Rattle.flow_net.specs.Nets.{Net, IsNode};
+ghost use Rattle.flow_net.specs.Limits.{IsNet};
 ghost use Rattle.flow_net.specs.NodeSets.{one_of};
 ghost use Rattle.flow_net.specs.Flows.{Fits};
 ghost use Rattle.flow_net.specs.Paths.{HasRoom, push_all};
-ghost use Rattle.flow_solve.specs.Packs.{IsPacked};
-ghost use Rattle.flow_solve.specs.Searches.{AreCells, HasMissed, HasSearched, IsMarked, seen};
+ghost use Rattle.flow_solve.specs.residual.Packs.{IsPacked};
+ghost use Rattle.flow_solve.specs.residual.Searches.{AreCells, HasMissed, HasSearched, IsMarked, seen};
 ghost use Rattle.flow_solve.specs.Bounds.{paths_bound};
 ghost use Rattle.flow_solve.specs.Steps.{OnlyLooks};
-ghost use Rattle.flow_solve.specs.Trails.{AreTrails, IsFirstSeen, IsMost, IsSeenOf, trail_from};
+ghost use Rattle.flow_solve.specs.residual.Trails.{AreTrails, IsFirstSeen, IsMost, IsSeenOf, trail_from};
 
 use crate::method::Method;
-use crate::raising::{Raise, solve};
-use crate::searching::{Direction, Plan, WANTED, head, search};
-use crate::stages::Task;
+use crate::residual::half_arcs::{Direction, head};
+use crate::residual::searching::{Plan, WANTED, search};
+use crate::solving::{Raise, solve};
+use crate::task::Task;
 use flow_net::{FlowTable, Network};
 
 /// The first of some nodes that a search has seen.
@@ -56,8 +58,6 @@ fn find_trail(
     ensures missed { IfNone result (HasMissed plan.entry flow.old.flows dist.new) }
     ensures looks { OnlyLooks flow.old flow.new (2 * length plan.entry.packed.net.now.arcs) }
 {
-    // Brings the network's limits, `IsNet`, into the proof.
-    let _ = plan.packed.net.nodes();
     search(plan, flow, dist, via, queue);
     first_seen(plan.until, dist)
 }
@@ -110,7 +110,8 @@ fn push_along(
 }
 
 /// Pushes as much as it can along the trail from a source, and answers how much that is.
-fn augment(net: &Network, flow: &mut FlowTable, dist: &[u32], via: &[u32], source: u32) -> u64
+fn augment_along(net: &Network, flow: &mut FlowTable, dist: &[u32], via: &[u32], source: u32) -> u64
+    requires limits { IsNet net.now }
     requires fits { Fits net.now flow.old.flows }
     requires trails { AreTrails net.now flow.old.flows dist.now via.now }
     requires node { IsNode net.now source }
@@ -122,8 +123,6 @@ fn augment(net: &Network, flow: &mut FlowTable, dist: &[u32], via: &[u32], sourc
     ensures never_lowered { flow.old.steps ≤ flow.new.steps }
     ensures steps { flow.new.steps ≤ flow.old.steps + 2 * net.now.nodes }
 {
-    // Brings the network's limits, `IsNet`, into the proof.
-    let _ = net.nodes();
     let amount = least_room(net, flow, dist, via, source);
     push_along(net, flow, dist, via, source, amount);
     amount
@@ -154,7 +153,7 @@ impl Raise for Paths {
         };
         let mut raised = value;
         while let Some(source) = find_trail(plan, flow, dist, via, queue) {
-            raised += u128::from(augment(packed.net, flow, dist, via, source));
+            raised += u128::from(augment_along(packed.net, flow, dist, via, source));
         }
         raised
     }

@@ -4,17 +4,17 @@ ghost use Rattle.flow_net.specs.Nets.{IsNode};
 ghost use Rattle.flow_net.specs.Limits.{AreTerminals, AreDistinct};
 ghost use Rattle.std.specs.List.{All};
 ghost use Rattle.flow_solve.specs.Bounds.{work_cells};
-ghost use Rattle.flow_solve.specs.Raising.{IsFlow};
+ghost use Rattle.flow_solve.specs.Solving.{IsFlow};
 
 mod trees;
 mod wave_tests;
 
 use super::*;
-use crate::packing::{Packed, pack};
-use crate::phases::run_phases;
-use crate::stages::Task;
-use crate::trees::grow_trees;
-use crate::waves::send_waves;
+use crate::levels::phases::run_phases;
+use crate::levels::trees::grow_trees;
+use crate::levels::waves::send_waves;
+use crate::residual::packing::{Packed, pack};
+use crate::task::Task;
 use flow_net::{Arc, FEWEST_NODES, FlowTable, MOST_ARCS_BOTH_WAYS, MOST_NODES, Network};
 use std::alloc::Global;
 

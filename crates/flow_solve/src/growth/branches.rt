@@ -8,12 +8,13 @@
 ghost use Rattle.std.specs.Prelude.{◌≡◌, ◌+◌, ◌*◌, ◌<◌, ◌≤◌, IfSome, IsTrue, length};
 ghost use Rattle.flow_net.specs.Nets.{IsNode};
 ghost use Rattle.flow_net.specs.Flows.{Fits};
-ghost use Rattle.flow_solve.specs.Growth.{AreQueued, Carries, HavePlaces, IsClean, IsReady, IsTurn, KeepsQueues, Pays};
+ghost use Rattle.flow_solve.specs.Growth.{AreQueued, Carries, HavePlaces, IsClean, IsReady, IsTurn, KeepsQueues};
+ghost use Rattle.flow_solve.specs.Growth.{PaysIfAny};
 ghost use Rattle.flow_solve.specs.Steps.{PaysLooks};
 
 use crate::growth::frontier::forget;
-use crate::growth::turns::{Raised, Turn, far, near, send_along};
-use crate::searching::{cross, head};
+use crate::growth::turns::{Budgeted, Turn, send_along};
+use crate::residual::half_arcs::{cross, far, head, near};
 use flow_net::{FlowTable, MOST_NODES};
 
 /// How many times as many nodes as were seen when a search last came to a terminal it goes through at most.
@@ -49,8 +50,8 @@ fn branch_of(nodes: u32, number: u32, node: u32) -> u32
 
 /// Lets the node behind a half-arc be seen, in the branch of the node before it, or in its own if that is the node of
 /// the turn.
-#[tactic(auto, using(crate::proofs::SeenCells::places_marked, crate::proofs::SeenCells::queued_more))]
-fn enter(
+#[tactic(auto, using(crate::proofs::GrowthLemmas::SeenCells::node_entered))]
+fn enter_branch(
     turn: Turn<'_>,
     cells: &mut [u32],
     queue: &mut [u32],
@@ -95,7 +96,7 @@ fn is_followed(nodes: u32, cells: &[u32], node: u32) -> bool
 }
 
 /// Gives up the branch of a node.
-#[tactic(auto, using(crate::proofs::SeenCells::places_marked, crate::proofs::SeenCells::queued_same))]
+#[tactic(auto, using(crate::proofs::GrowthLemmas::SeenCells::node_marked))]
 fn give_up(turn: Turn<'_>, cells: &mut [u32], node: u32)
     requires turn { IsTurn turn }
     requires cells { HavePlaces turn cells.old }
@@ -116,7 +117,7 @@ fn give_up(turn: Turn<'_>, cells: &mut [u32], node: u32)
 
 /// Looks at the half-arc that a search has come to, if it leads to a node that isn't seen, and enters that node, or has
 /// met a terminal.
-fn meet(
+fn spread_over(
     turn: Turn<'_>,
     flow: &mut FlowTable,
     cells: &mut [u32],
@@ -154,7 +155,7 @@ fn meet(
         reached.met = true;
         return reached;
     }
-    reached.tail = enter(turn, cells, queue, via, reached.tail, reached.half);
+    reached.tail = enter_branch(turn, cells, queue, via, reached.tail, reached.half);
     reached
 }
 
@@ -192,7 +193,7 @@ fn spread_on(
     }
     for spot in packed.first[node as usize - 1]..packed.first[node as usize] {
         reached.half = packed.halves[spot as usize];
-        reached = meet(turn, flow, cells, queue, via, reached);
+        reached = spread_over(turn, flow, cells, queue, via, reached);
         if reached.met {
             return reached;
         }
@@ -235,9 +236,9 @@ pub(crate) fn send_by_branches(
     flow: &mut FlowTable,
     cells: &mut [u32],
     rest: &mut [u32],
-    sent: Raised,
+    sent: Budgeted,
     wanted: u64,
-) -> Option<Raised>
+) -> Option<Budgeted>
     requires fits { Fits turn.packed.net.now flow.old.flows }
     requires turn { IsTurn turn }
     requires cells { HavePlaces turn cells.old }
@@ -249,7 +250,7 @@ pub(crate) fn send_by_branches(
     ensures ready { IfSome result (λ _. IsReady turn.entry cells.new) }
     ensures raised { IfSome result (λ r. Carries turn.entry flow.new.flows r.value) }
     ensures below { IfSome result (λ r. r.value ≤ wanted) }
-    ensures paid { Pays flow.old sent.left flow.new result }
+    ensures paid { PaysIfAny flow.old sent.left flow.new result }
 {
     let n = turn.packed.net.nodes();
     let (via, rest) = rest.split_at_mut(n as usize);

@@ -4,16 +4,16 @@ ghost use Rattle.std.specs.Prelude.{◌≡◌, ◌+◌, ◌-◌, ◌*◌, ◌<�
 ghost use Rattle.flow_net.specs.Flows.{Fits};
 ghost use Rattle.flow_net.specs.Orders.{before};
 ghost use Rattle.flow_net.specs.Residual.{head_of};
-ghost use Rattle.flow_solve.specs.Packs.{group_of};
-ghost use Rattle.flow_solve.specs.Growth.{Carries, HavePlaces, IsTurn, Pays};
+ghost use Rattle.flow_solve.specs.residual.Packs.{group_of};
+ghost use Rattle.flow_solve.specs.Growth.{Carries, HavePlaces, IsTurn, PaysIfAny};
 
-use crate::growth::turns::{Raised, Turn};
-use crate::searching::{cross, head};
+use crate::growth::turns::{Budgeted, Turn};
+use crate::residual::half_arcs::{cross, head};
 use flow_net::{FlowTable, GREATEST_CAPACITY};
 
 /// Sends a unit over a half-arc from the node of the turn to a node before it, if something remains on it. Answers
 /// nothing where the looks and pushes are used up.
-fn send(turn: Turn<'_>, flow: &mut FlowTable, half: u32, sent: Raised) -> Option<Raised>
+fn send_over(turn: Turn<'_>, flow: &mut FlowTable, half: u32, sent: Budgeted) -> Option<Budgeted>
     requires fits { Fits turn.packed.net.now flow.old.flows }
     requires turn { IsTurn turn }
     requires half { half < 2 * length turn.packed.net.now.arcs }
@@ -24,12 +24,10 @@ fn send(turn: Turn<'_>, flow: &mut FlowTable, half: u32, sent: Raised) -> Option
     ensures fits { Fits turn.entry.packed.net.now flow.new.flows }
     ensures raised { IfSome result (λ r. Carries turn.entry flow.new.flows r.value) }
     ensures below { IfSome result (λ r. r.value ≤ sent.value + 1) }
-    ensures paid { Pays flow.old sent.left flow.new result }
+    ensures paid { PaysIfAny flow.old sent.left flow.new result }
 {
     let net = turn.packed.net;
-    // Brings the network's limits, `IsNet`, into the proof.
-    let _ = net.nodes();
-    let Raised { value, left } = sent;
+    let Budgeted { value, left } = sent;
     if left < 2 {
         return None;
     }
@@ -37,12 +35,12 @@ fn send(turn: Turn<'_>, flow: &mut FlowTable, half: u32, sent: Raised) -> Option
     let (_, room) = flow.look(net, over);
     if room == 0 {
         let left = left - 1;
-        return Some(Raised { value, left });
+        return Some(Budgeted { value, left });
     }
     flow.push(net, over, 1);
     let value = value + 1;
     let left = left - 2;
-    Some(Raised { value, left })
+    Some(Budgeted { value, left })
 }
 
 /// Sends a unit over each half-arc from the node of the turn straight to a node before it, where something remains on
@@ -54,7 +52,7 @@ pub(crate) fn send_directly(
     cells: &[u32],
     wanted: u64,
     left: u64,
-) -> Option<Raised>
+) -> Option<Budgeted>
     requires fits { Fits turn.packed.net.now flow.old.flows }
     requires turn { IsTurn turn }
     requires cells { HavePlaces turn cells.now }
@@ -62,18 +60,18 @@ pub(crate) fn send_directly(
     ensures fits { Fits turn.entry.packed.net.now flow.new.flows }
     ensures raised { IfSome result (λ r. Carries turn.entry flow.new.flows r.value) }
     ensures below { IfSome result (λ r. r.value ≤ wanted) }
-    ensures paid { Pays flow.old left flow.new result }
+    ensures paid { PaysIfAny flow.old left flow.new result }
 {
     let packed = turn.packed;
     let node = turn.order[turn.place as usize];
-    let mut sent = Raised { value: 0, left };
+    let mut sent = Budgeted { value: 0, left };
     for spot in packed.first[node as usize - 1]..packed.first[node as usize] {
         if sent.value >= wanted {
             return Some(sent);
         }
         let half = packed.halves[spot as usize];
         if cells[head(packed.net, half) as usize - 1] < turn.place {
-            sent = send(turn, flow, half, sent)?;
+            sent = send_over(turn, flow, half, sent)?;
         }
     }
     Some(sent)

@@ -2,11 +2,12 @@
 ghost use Rattle.std.specs.Prelude.{◌≡◌, ◌+◌, ◌*◌, ◌<◌, ◌≤◌, MatchOption, IfSome, length};
 ghost use Rattle.flow_net.specs.Nets.{IsNode};
 ghost use Rattle.flow_net.specs.Flows.{Fits};
-ghost use Rattle.flow_solve.specs.Growth.{AreNodes, ArePlaces, AreQueued, HavePlaces, IsClean, IsQueued, IsTurn, IsTurnClosed, IsTurnCut, Passes};
+ghost use Rattle.flow_solve.specs.Growth.{AreNodes, ArePlaces, AreQueued, HavePlaces, IsClean, IsQueued, IsTurn};
+ghost use Rattle.flow_solve.specs.Growth.{IsTurnClosed, IsTurnCut, Passes};
 ghost use Rattle.flow_solve.specs.Steps.{OnlyLooks, PaysLooks};
 
 use crate::growth::turns::Turn;
-use crate::searching::{cross, head};
+use crate::residual::half_arcs::{cross, head};
 use flow_net::{FlowTable, MOST_NODES};
 
 /// How far a search has come.
@@ -45,8 +46,8 @@ pub(crate) fn above(nodes: u32, cell: u32) -> u32
 
 /// Looks at a half-arc that leaves a node which is seen, if it leads to one that isn't: a terminal is counted, and
 /// another node is entered with the number for its cell.
-#[tactic(auto, using(crate::proofs::SeenCells::places_marked, crate::proofs::SeenCells::queued_more))]
-fn meet(
+#[tactic(auto, using(crate::proofs::GrowthLemmas::SeenCells::node_entered))]
+fn expand_over(
     turn: Turn<'_>,
     flow: &mut FlowTable,
     cells: &mut [u32],
@@ -116,14 +117,14 @@ fn expand(
             return reached;
         }
         let half = packed.halves[spot as usize];
-        reached = meet(turn, flow, cells, queue, reached, Exit { half, level });
+        reached = expand_over(turn, flow, cells, queue, reached, Exit { half, level });
     }
     reached
 }
 
 /// Searches from the node of the turn, until so many terminals are met, the level is done from which the first was met,
 /// or no further node can be seen.
-pub(crate) fn search(
+pub(crate) fn search_frontier(
     turn: Turn<'_>,
     flow: &mut FlowTable,
     cells: &mut [u32],
@@ -232,7 +233,7 @@ pub(crate) fn is_closed(
 }
 
 /// Puts the place of each node in the queue back into its cell.
-#[tactic(auto, using(crate::proofs::SeenCells::left_all, crate::proofs::SeenCells::left_next, crate::proofs::SeenCells::places_back, crate::proofs::SeenCells::clean_after))]
+#[tactic(auto, using(crate::proofs::GrowthLemmas::SeenCells::nodes_forgotten))]
 pub(crate) fn forget(order: &[u32], cells: &mut [u32], queue: &[u32], tail: u32)
     requires size { length cells.old ≡ length order.now }
     requires queue_size { length queue.now ≡ length order.now }

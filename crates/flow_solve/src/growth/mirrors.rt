@@ -2,7 +2,6 @@
 ghost use Rattle.std.specs.Prelude.{IsTrue};
 ghost use Rattle.flow_solve.specs.Growth.{IsEitherWay};
 
-use crate::searching::Direction;
 use flow_net::Network;
 
 /// Whether the second half of the arcs is the first with each arc turned round, in order, as [`Network::both_ways`]

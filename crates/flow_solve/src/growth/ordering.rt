@@ -3,17 +3,17 @@
 //! the order goes round a ring one way, and the flow of each node stays near it.
 //!
 //! Nodes that are joined and have no place yet stand on lists, one for each number of half-arcs, linked both ways, the
-//! one joined last in front. Nothing is proved of these lists but that they stay within the cells: whether the order has
-//! all nodes is tested when it is done.
+//! one joined last in front. Nothing is proved of these lists but that they stay within the cells: whether the order
+//! has all nodes is tested when it is done.
 ghost use Rattle.std.specs.Prelude.{◌≡◌, ◌<◌, ◌≤◌, IfSome, IsTrue, length};
 ghost use Rattle.flow_net.specs.Nets.{IsNode};
 ghost use Rattle.flow_net.specs.Orders.{IsOrder};
-ghost use Rattle.flow_solve.specs.Packs.{IsPacked};
+ghost use Rattle.flow_solve.specs.residual.Packs.{IsPacked};
 ghost use Rattle.flow_solve.specs.Growth.{ArePlaces, IsClean, IsInOrder};
 
-use crate::forest::{END, get, put};
-use crate::packing::Packed;
-use crate::searching::head;
+use crate::residual::cells::{END, get, put};
+use crate::residual::half_arcs::head;
+use crate::residual::packing::Packed;
 use flow_net::MOST_NODES;
 
 /// A sweep over the sets of nodes before each place.
@@ -251,8 +251,6 @@ pub(crate) fn order_nodes(
     ensures places { IfSome result (λ _. ArePlaces packed.entry.net.now.nodes order.new cells.new) }
     ensures clean { IfSome result (λ _. IsClean packed.entry.net.now.nodes cells.new) }
 {
-    // Brings the network's limits, `IsNet`, into the proof.
-    let _ = packed.net.nodes();
     let (firsts, _) = cells.split_at_mut(lists);
     let sweep = take_all(packed, order, joins, links, firsts)?;
     stand_all(order, cells);

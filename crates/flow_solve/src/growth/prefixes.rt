@@ -2,6 +2,7 @@
 //! back.
 ghost use Rattle.std.specs.Prelude.{◌≡◌, ℕ, Bool, ◌<◌, length};
 ghost use Rattle.flow_net.specs.Nets.{arc_at};
+ghost use Rattle.flow_net.specs.Limits.{IsNet};
 ghost use Rattle.flow_net.specs.Cuts.{leaves};
 ghost use Rattle.flow_net.specs.Arcs.{enters};
 ghost use Rattle.flow_net.specs.Orders.{IsOrder};
@@ -9,18 +10,17 @@ ghost use Rattle.flow_net.specs.Connectivity.{leaving, IsProper};
 ghost use Rattle.flow_solve.specs.Growth.{ArePlaces, IsClean, earlier_in, parted};
 
 use crate::growth::ordering::Sweep;
-use crate::searching::Direction;
+use crate::residual::half_arcs::Direction;
 use flow_net::Network;
 
 /// Whether an arc leaves the nodes before a place, and whether it enters them.
 fn crosses(net: &Network, cells: &[u32], place: u32, arc: u32) -> (bool, bool)
+    requires limits { IsNet net.now }
     requires size { length cells.now ≡ net.now.nodes }
     requires arc { arc < length net.now.arcs }
     ensures out { result.0 ≡ leaves (earlier_in cells.now place) (arc_at net.now arc) }
     ensures back { result.1 ≡ enters (earlier_in cells.now place) (arc_at net.now arc) }
 {
-    // Brings the network's limits, `IsNet`, into the proof.
-    let _ = net.nodes();
     let arc = net.arc(arc);
     let from = cells[arc.src as usize - 1] < place;
     let to = cells[arc.dst as usize - 1] < place;

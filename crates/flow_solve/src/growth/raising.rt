@@ -4,14 +4,15 @@ ghost use Rattle.std.specs.List.{All};
 ghost use Rattle.flow_net.specs.Nets.{IsNode};
 ghost use Rattle.flow_net.specs.Flows.{Fits};
 ghost use Rattle.flow_net.specs.Orders.{before};
-ghost use Rattle.flow_solve.specs.Growth.{Carries, HavePlaces, IsClean, IsReady, IsTurn, IsWalk, KeepsQueues, Parts, Pays};
+ghost use Rattle.flow_solve.specs.Growth.{Carries, HavePlaces, IsClean, IsReady, IsTurn, IsWalk, KeepsQueues, Parts};
+ghost use Rattle.flow_solve.specs.Growth.{PaysIfAny};
 ghost use Rattle.flow_solve.specs.Steps.{PaysLooks};
 
 use crate::growth::branches::send_by_branches;
 use crate::growth::direct::send_directly;
-use crate::growth::frontier::{above, forget, is_closed, search};
-use crate::growth::turns::{Raised, Turn, far, near, send_along};
-use crate::searching::{cross, head};
+use crate::growth::frontier::{above, forget, is_closed, search_frontier};
+use crate::growth::turns::{Budgeted, Turn, send_along};
+use crate::residual::half_arcs::{cross, far, near};
 use flow_net::FlowTable;
 
 /// A half-arc that a walk may go over, if there is one, and how many looks and pushes are left.
@@ -75,8 +76,8 @@ struct Walk {
 }
 
 /// Lets a walk enter a node that is seen: at the first time its place is that of its first half-arc.
-#[tactic(auto, using(crate::proofs::SeenCells::places_marked, crate::proofs::SeenCells::queued_same))]
-fn enter(turn: Turn<'_>, cells: &mut [u32], current: &mut [u32], node: u32)
+#[tactic(auto, using(crate::proofs::GrowthLemmas::SeenCells::node_marked))]
+fn walk_into(turn: Turn<'_>, cells: &mut [u32], current: &mut [u32], node: u32)
     requires turn { IsTurn turn }
     requires cells { HavePlaces turn cells.old }
     requires current_size { length current.old ≡ turn.packed.net.now.nodes }
@@ -117,7 +118,7 @@ fn go_on(
     }
     path[walk.depth as usize] = half;
     let node = far(net, turn.direction, half);
-    enter(turn, cells, current, node);
+    walk_into(turn, cells, current, node);
     let depth = walk.depth + 1;
     Some(Walk { node, depth })
 }
@@ -130,8 +131,6 @@ fn go_back(turn: Turn<'_>, current: &mut [u32], path: &[u32], walk: Walk) -> Opt
     ensures walk { IfSome result (λ r. IsWalk turn.entry r) }
 {
     let net = turn.packed.net;
-    // Brings the network's limits, `IsNet`, into the proof.
-    let _ = net.nodes();
     if walk.depth == 0 || walk.depth as usize > path.len() {
         return None;
     }
@@ -173,14 +172,14 @@ fn move_on(
 /// Lets walks go out from the node of the turn, up one level at each half-arc, and at a terminal a unit along the path,
 /// until the flow's value has come up to what is wanted or no walk comes to a terminal. Answers nothing where its looks
 /// and pushes are used up.
-fn walk_all(
+fn send_by_walks(
     turn: Turn<'_>,
     flow: &mut FlowTable,
     cells: &mut [u32],
     rest: &mut [u32],
-    raised: Raised,
+    raised: Budgeted,
     wanted: u64,
-) -> Option<Raised>
+) -> Option<Budgeted>
     requires fits { Fits turn.packed.net.now flow.old.flows }
     requires turn { IsTurn turn }
     requires cells { HavePlaces turn cells.old }
@@ -192,7 +191,7 @@ fn walk_all(
     ensures cells { HavePlaces turn.entry cells.new }
     ensures queued { KeepsQueues turn.entry cells.old cells.new }
     ensures raised { IfSome result (λ r. Carries turn.entry flow.new.flows r.value) }
-    ensures paid { Pays flow.old raised.left flow.new result }
+    ensures paid { PaysIfAny flow.old raised.left flow.new result }
 {
     let n = turn.packed.net.nodes();
     let (current, path) = rest.split_at_mut(n as usize);
@@ -228,7 +227,7 @@ pub(crate) fn raise(
     rest: &mut [u32],
     wanted: u64,
     left: u64,
-) -> Option<Raised>
+) -> Option<Budgeted>
     requires unit { All (λ a. a.cap ≡ 1) turn.packed.net.now.arcs }
     requires turn { IsTurn turn }
     requires cells { HavePlaces turn cells.old }
@@ -240,7 +239,7 @@ pub(crate) fn raise(
     ensures raised { IfSome result (λ r. Carries turn.entry flow.new.flows r.value) }
     ensures below { IfSome result (λ r. r.value ≤ wanted) }
     ensures parted { IfSome result (λ r. r.value < wanted → Parts turn.entry r.value) }
-    ensures paid { Pays flow.old left flow.new result }
+    ensures paid { PaysIfAny flow.old left flow.new result }
 {
     let n = turn.packed.net.nodes() as usize;
     let mut raised = send_directly(turn, flow, cells, wanted, left)?;
@@ -254,15 +253,15 @@ pub(crate) fn raise(
             return None;
         }
         let need = wanted - raised.value;
-        let frontier = search(turn, flow, cells, queue, need, raised.left - 1);
+        let frontier = search_frontier(turn, flow, cells, queue, need, raised.left - 1);
         raised.left = frontier.left;
         if frontier.met == 0 {
             let left = is_closed(turn, flow, cells, queue, frontier.tail, frontier.left)?;
             forget(turn.order, cells, queue, frontier.tail);
             let value = raised.value;
-            return Some(Raised { value, left });
+            return Some(Budgeted { value, left });
         }
-        raised = walk_all(turn, flow, cells, rest, raised, wanted)?;
+        raised = send_by_walks(turn, flow, cells, rest, raised, wanted)?;
         forget(turn.order, cells, queue, frontier.tail);
     }
     Some(raised)

@@ -2,11 +2,11 @@
 ghost use Rattle.std.specs.Prelude.{◌≡◌, ◌+◌, ◌*◌, ◌<◌, ◌≤◌, IfSome, IsTrue, length};
 ghost use Rattle.flow_net.specs.Nets.{IsNode};
 ghost use Rattle.flow_net.specs.Flows.{Fits};
-ghost use Rattle.flow_solve.specs.Searches.{near_end, far_end};
-ghost use Rattle.flow_solve.specs.Growth.{BringsUnit, Carries, HavePlaces, IsTurn, Pays};
+ghost use Rattle.flow_solve.specs.residual.HalfArcs.{near_end, far_end};
+ghost use Rattle.flow_solve.specs.Growth.{BringsUnit, Carries, HavePlaces, IsTurn, PaysIfAny};
 
-use crate::packing::Packed;
-use crate::searching::{Direction, head};
+use crate::residual::half_arcs::{Direction, far, near};
+use crate::residual::packing::Packed;
 use flow_net::{FlowTable, GREATEST_CAPACITY, Network};
 
 /// What the searches and walks of a turn go by.
@@ -24,38 +24,14 @@ pub(crate) struct Turn<'a> {
 
 /// The value of the flow of a turn, and how many looks and pushes are left.
 #[derive(Clone, Copy)]
-pub(crate) struct Raised {
+pub(crate) struct Budgeted {
     pub value: u64,
     pub left: u64,
 }
 
-/// The node that a half-arc leads to, as seen from the node of the turn.
-pub(crate) fn far(net: &Network, direction: Direction, half: u32) -> u32
-    requires { half < 2 * length net.now.arcs }
-    ensures far { result ≡ far_end direction net.now half }
-    ensures node { IsNode net.now result }
-{
-    match direction {
-        Direction::Forwards => head(net, half),
-        Direction::Backwards => head(net, half ^ 1),
-    }
-}
-
-/// The node that a half-arc comes from, as seen from the node of the turn.
-pub(crate) fn near(net: &Network, direction: Direction, half: u32) -> u32
-    requires { half < 2 * length net.now.arcs }
-    ensures near { result ≡ near_end direction net.now half }
-    ensures node { IsNode net.now result }
-{
-    match direction {
-        Direction::Forwards => head(net, half ^ 1),
-        Direction::Backwards => head(net, half),
-    }
-}
-
 /// Pushes one unit over the half-arcs of a path, one by one from the node of the turn on, and answers whether all had
 /// room and led on, to a node before the place.
-pub(crate) fn augment(turn: Turn<'_>, flow: &mut FlowTable, cells: &[u32], path: &[u32]) -> bool
+pub(crate) fn push_unit(turn: Turn<'_>, flow: &mut FlowTable, cells: &[u32], path: &[u32]) -> bool
     requires fits { Fits turn.packed.net.now flow.old.flows }
     requires turn { IsTurn turn }
     requires cells { HavePlaces turn cells.now }
@@ -86,8 +62,8 @@ pub(crate) fn send_along(
     flow: &mut FlowTable,
     cells: &[u32],
     path: &[u32],
-    sent: Raised,
-) -> Option<Raised>
+    sent: Budgeted,
+) -> Option<Budgeted>
     requires fits { Fits turn.packed.net.now flow.old.flows }
     requires turn { IsTurn turn }
     requires cells { HavePlaces turn cells.now }
@@ -96,13 +72,13 @@ pub(crate) fn send_along(
     ensures fits { Fits turn.entry.packed.net.now flow.new.flows }
     ensures raised { IfSome result (λ r. Carries turn.entry flow.new.flows r.value) }
     ensures value { IfSome result (λ r. r.value ≡ sent.value + 1) }
-    ensures paid { Pays flow.old sent.left flow.new result }
+    ensures paid { PaysIfAny flow.old sent.left flow.new result }
 {
     let cost = 2 * path.len() as u64;
-    if sent.left < cost || !augment(turn, flow, cells, path) {
+    if sent.left < cost || !push_unit(turn, flow, cells, path) {
         return None;
     }
     let value = sent.value + 1;
     let left = sent.left - cost;
-    Some(Raised { value, left })
+    Some(Budgeted { value, left })
 }

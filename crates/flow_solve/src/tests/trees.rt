@@ -2,7 +2,7 @@
 ghost use Rattle.std.specs.Prelude.{◌≤◌};
 
 use super::*;
-use crate::trees::Reached;
+use crate::levels::trees::Reached;
 
 /// What the trees alone reach with an allowance, if the terminals are good and there is memory. The first `k` terminals
 /// are the sources.

@@ -1,6 +1,6 @@
 -- `connectivity_by_growth`: no set has fewer arcs leaving it, by the law of growth along the order.
 use Rattle.std.proofs.Common.{◌≡◌, length, arith}
-use Rattle.flow_solve.proofs.Growing.{connected}
+use Rattle.flow_solve.proofs.GrowthLemmas.Growing.{connected}
 use Rattle.flow_solve.proofs.growth.connectivity_by_growth.Goals as goal
 
 -- one pass each way

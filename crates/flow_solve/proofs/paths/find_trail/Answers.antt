@@ -1,6 +1,6 @@
 -- `find_trail`: where no sink is seen the search has missed them all.
 use Rattle.std.proofs.Common.{arith}
-use Rattle.flow_solve.proofs.Searched.{none_wanted, if_none}
+use Rattle.flow_solve.proofs.ResidualLemmas.Searched.{none_wanted, if_none}
 use Rattle.flow_solve.proofs.paths.find_trail.Goals as goal
 
 pub returns-clause-missed : goal.returns-clause-missed

@@ -1,8 +1,8 @@
 -- `first_seen`: the nodes of the list in turn.
 use Rattle.std.proofs.Common.{◌≡◌, false, get_or, subst, refl, arith}
-use Rattle.flow_solve.specs.Searches.{seen}
+use Rattle.flow_solve.specs.residual.Searches.{seen}
 use Rattle.flow_net.proofs.NodeLists.{one_of-at, place_in}
-use Rattle.flow_solve.proofs.Searched.{unmarked_unseen}
+use Rattle.flow_solve.proofs.ResidualLemmas.Searched.{unmarked_unseen}
 use Rattle.flow_solve.proofs.paths.first_seen.Goals as goal
 
 -- this one is seen

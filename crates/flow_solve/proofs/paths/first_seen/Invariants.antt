@@ -1,7 +1,7 @@
 -- `first_seen`: none of the nodes passed is seen.
 use Rattle.std.proofs.Common.{ℕ, ◌-◌, ◌<◌, ◌≤◌}
 use Rattle.std.specs.Prelude.{slice_index}
-use Rattle.flow_solve.specs.declared.searching.TheConstants.{WANTED}
+use Rattle.flow_solve.specs.declared.residual.searching.TheConstants.{WANTED}
 use Rattle.flow_solve.proofs.paths.first_seen.Given as goal
 
 abbrev pub invariant-loop-node : goal.invariant-loop-node

@@ -2,9 +2,9 @@
 use Rattle.std.proofs.Common.{◌≡◌, ◌-◌, get_or, subst, sym, ap, ◌∙◌, arith}
 use Rattle.flow_net.specs.Paths.{HasRoom}
 use Rattle.flow_net.specs.Residual.{head_of, residual}
-use Rattle.flow_solve.specs.Searches.{IsMarked}
-use Rattle.flow_solve.specs.Trails.{trail_from}
-use Rattle.flow_solve.proofs.Routes.{next_on}
+use Rattle.flow_solve.specs.residual.Searches.{IsMarked}
+use Rattle.flow_solve.specs.residual.Trails.{trail_from}
+use Rattle.flow_solve.proofs.ResidualLemmas.Routes.{next_on}
 use Rattle.flow_solve.proofs.paths.least_room.Goals as goal
 
 -- one more half-arc

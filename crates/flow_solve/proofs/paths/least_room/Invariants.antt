@@ -6,8 +6,8 @@ use Rattle.flow_net.specs.declared.limits.TheConstants.{GREATEST_CAPACITY}
 use Rattle.flow_net.specs.Nets.{IsNode}
 use Rattle.flow_net.specs.Flows.{Fits}
 use Rattle.flow_net.specs.Paths.{HasRoom}
-use Rattle.flow_solve.specs.Searches.{IsMarked}
-use Rattle.flow_solve.specs.Trails.{trail_from}
+use Rattle.flow_solve.specs.residual.Searches.{IsMarked}
+use Rattle.flow_solve.specs.residual.Trails.{trail_from}
 use Rattle.flow_solve.proofs.paths.least_room.Given as goal
 
 abbrev pub invariant-loop-node : goal.invariant-loop-node

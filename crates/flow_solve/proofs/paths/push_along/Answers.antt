@@ -3,9 +3,9 @@ use Rattle.std.proofs.Common.{◌≡◌, ℕ, ◌-◌, List, get_or, subst, sym,
 use Rattle.flow_net.specs.Paths.{HasRoom, push_all}
 use Rattle.flow_net.specs.Residual.{head_of, pushed}
 use Rattle.flow_net.proofs.AugmentingPaths.{room_after}
-use Rattle.flow_solve.specs.Searches.{IsMarked}
-use Rattle.flow_solve.specs.Trails.{trail_from}
-use Rattle.flow_solve.proofs.Routes.{next_on, trail_apart}
+use Rattle.flow_solve.specs.residual.Searches.{IsMarked}
+use Rattle.flow_solve.specs.residual.Trails.{trail_from}
+use Rattle.flow_solve.proofs.ResidualLemmas.Routes.{next_on, trail_apart}
 use Rattle.flow_solve.proofs.paths.push_along.Goals as goal
 
 -- there is room for the push

@@ -5,8 +5,8 @@ use Rattle.std.specs.Prelude.{slice_index}
 use Rattle.flow_net.specs.Nets.{IsNode}
 use Rattle.flow_net.specs.Flows.{Fits}
 use Rattle.flow_net.specs.Paths.{HasRoom, push_all}
-use Rattle.flow_solve.specs.Searches.{IsMarked}
-use Rattle.flow_solve.specs.Trails.{trail_from}
+use Rattle.flow_solve.specs.residual.Searches.{IsMarked}
+use Rattle.flow_solve.specs.residual.Trails.{trail_from}
 use Rattle.flow_solve.proofs.paths.push_along.Given as goal
 
 abbrev pub invariant-loop-node : goal.invariant-loop-node

@@ -3,7 +3,7 @@ use Rattle.std.proofs.Common.{subst, sym}
 use Rattle.flow_net.specs.Flows.{IsFeasible}
 use Rattle.flow_net.specs.Residual.{Table}
 use Rattle.flow_net.proofs.ZeroFlows.{zeros_feasible}
-use Rattle.flow_solve.specs.Raising.{IsFlow}
+use Rattle.flow_solve.specs.Solving.{IsFlow}
 use Rattle.flow_solve.proofs.Raises.{zero_flow}
 use Rattle.flow_solve.proofs.tests.empty_flow.Goals as goal
 

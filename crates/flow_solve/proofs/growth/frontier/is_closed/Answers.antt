@@ -1,7 +1,7 @@
 -- `is_closed`: each seen node was tested, so the seen nodes are a cut that no residual half-arc leaves.
 use Rattle.std.proofs.Common.{◌≤◌, ◌-◌, arith}
 use Rattle.std.specs.Prelude.{slice_index}
-use Rattle.flow_solve.proofs.SeenCells.{seen_cut, seen_closed}
+use Rattle.flow_solve.proofs.GrowthLemmas.SeenCells.{seen_cut, seen_closed}
 use Rattle.flow_solve.proofs.growth.frontier.is_closed.Goals as goal
 
 -- a cut: the turn's node is seen, and no node before it

@@ -2,7 +2,7 @@
 use Rattle.std.proofs.Common.{◌≡◌, ◌≤◌, ◌<◌, ◌+◌, ◌-◌, sym, ap, subst, arith}
 use Rattle.std.specs.Prelude.{slice_index}
 use Rattle.flow_net.specs.Residual.{head_of, residual}
-use Rattle.flow_solve.specs.Searches.{crossed}
+use Rattle.flow_solve.specs.residual.HalfArcs.{crossed}
 use Rattle.flow_solve.proofs.growth.frontier.is_done.Goals as goal
 
 pub returns-clause-done : goal.returns-clause-done

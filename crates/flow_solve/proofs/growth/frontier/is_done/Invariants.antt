@@ -3,7 +3,7 @@ use Rattle.std.proofs.Common.{ℕ, ◌-◌, ◌<◌, ◌≤◌}
 use Rattle.std.specs.Prelude.{slice_index}
 use Rattle.flow_net.specs.Flows.{Fits}
 use Rattle.flow_net.specs.Residual.{head_of, residual}
-use Rattle.flow_solve.specs.Searches.{crossed}
+use Rattle.flow_solve.specs.residual.HalfArcs.{crossed}
 use Rattle.flow_solve.specs.Steps.{PaysLooks}
 use Rattle.flow_solve.proofs.growth.frontier.is_done.Given as goal
 

@@ -1,7 +1,7 @@
 -- `is_both_ways`: each arc of the second half is the reverse of its like in the first, so as many leave a set as
 -- enter it.
 use Rattle.std.proofs.Common.{◌/◌, arith}
-use Rattle.flow_solve.proofs.BothWays.{counts_even}
+use Rattle.flow_solve.proofs.GrowthLemmas.BothWays.{counts_even}
 use Rattle.flow_solve.proofs.growth.mirrors.is_both_ways.Goals as goal
 
 pub returns : goal.returns

@@ -1,7 +1,7 @@
 -- `order_nodes`: the order was tested as a whole in the end.
 use Rattle.std.proofs.Common.{◌≡◌, length, refl, subst}
 use Rattle.flow_solve.specs.Growth.{IsInOrder}
-use Rattle.flow_solve.proofs.SeenCells.{whole_order}
+use Rattle.flow_solve.proofs.GrowthLemmas.SeenCells.{whole_order}
 use Rattle.flow_solve.proofs.growth.ordering.order_nodes.Goals as goal
 
 -- it is an order of the nodes

@@ -1,6 +1,6 @@
 -- `bound_by_prefix`: the nodes before the place are a set, neither empty nor all, with the arcs that were counted.
 use Rattle.std.proofs.Common.{arith}
-use Rattle.flow_solve.proofs.Prefixes.{prefix_out, prefix_back}
+use Rattle.flow_solve.proofs.GrowthLemmas.Prefixes.{prefix_out, prefix_back}
 use Rattle.flow_solve.proofs.growth.prefixes.bound_by_prefix.Goals as goal
 
 -- fewer arcs leave it than the least so far

@@ -1,6 +1,6 @@
 -- `next_way`: a half-arc that stands packed is one of the network's, turned round or not.
 use Rattle.std.proofs.Common.{◌<◌, ◌-◌, ◌+◌, ◌≡◌, ◌*◌, length, get_or, sym, subst, ap, arith}
-use Rattle.flow_solve.proofs.Crossings.{crossed_within}
+use Rattle.flow_solve.proofs.ResidualLemmas.Crossings.{crossed_within}
 use Rattle.flow_solve.proofs.growth.raising.next_way.Goals as goal
 
 pub far-requires : goal.far-requires

@@ -3,15 +3,15 @@
 use Rattle.std.proofs.Common.{◌<◌, ◌-◌, ◌+◌, length, arith}
 use Rattle.flow_net.specs.NodeSets.{one_of}
 use Rattle.flow_net.proofs.NodeLists.{terminals_apart}
-use Rattle.flow_solve.specs.Searches.{seen}
+use Rattle.flow_solve.specs.residual.Searches.{seen}
 use Rattle.flow_solve.specs.Bounds.{capacities}
-use Rattle.flow_solve.proofs.Routes.{searched_trails}
+use Rattle.flow_solve.proofs.ResidualLemmas.Routes.{searched_trails}
 use Rattle.flow_solve.proofs.Raises.{raised_by, settled, value_most, capacities_fit, paid_more, paid_all}
 use Rattle.flow_solve.proofs.paths.PathsRaise.raise.Goals as goal
 
 -- the search leaves the trail on which to augment
-pub augment-requires-clause-trails : goal.augment-requires-clause-trails
-augment-requires-clause-trails c =
+pub augment_along-requires-clause-trails : goal.augment_along-requires-clause-trails
+augment_along-requires-clause-trails c =
     let found = c.in-Some.ensures in
     rw found.looks.flows (searched_trails (omega arith) found.searched)
 
@@ -22,11 +22,11 @@ overflow_add-raised c =
     let found = c.in-Some.ensures in
     let node = found.some in
     let net = c.args.task.packed.net.now in
-    let now = raised_by c.augment.result c.in-Some.source old.flow (omega arith) found.searched node.0
-    (node.1, omega (arith, node.2)) node.3 c.requires.task.terminals found.looks.flows c.augment.ensures.room
-    c.augment.ensures.flows in
-    let most = value_most net (one_of c.args.task.s.now) (one_of c.args.task.t.now) c.augment.new.flow.flows
-    (c.loop-source.raised + c.augment.result) c.nodes-n.ensures.is_net
+    let now = raised_by c.augment_along.result c.in-Some.source old.flow (omega arith) found.searched node.0
+    (node.1, omega (arith, node.2)) node.3 c.requires.task.terminals found.looks.flows c.augment_along.ensures.room
+    c.augment_along.ensures.flows in
+    let most = value_most net (one_of c.args.task.s.now) (one_of c.args.task.t.now) c.augment_along.new.flow.flows
+    (c.loop-source.raised + c.augment_along.result) c.nodes-n.ensures.is_net
     (terminals_apart net c.args.task.s.now c.args.task.t.now c.requires.task.terminals) now.feasible now.value in
     let fit = capacities_fit net c.nodes-n.ensures.is_net in
     omega (arith, most, fit, c.from-raised.ensures)
@@ -38,14 +38,14 @@ loop-source-smaller c =
     let found = c.in-Some.ensures in
     let node = found.some in
     let net = c.args.task.packed.net.now in
-    let now = raised_by c.augment.result c.in-Some.source old.flow (omega arith) found.searched node.0
-    (node.1, omega (arith, node.2)) node.3 c.requires.task.terminals found.looks.flows c.augment.ensures.room
-    c.augment.ensures.flows in
-    let most = value_most net (one_of c.args.task.s.now) (one_of c.args.task.t.now) c.augment.new.flow.flows
-    (c.loop-source.raised + c.augment.result) c.nodes-n.ensures.is_net
+    let now = raised_by c.augment_along.result c.in-Some.source old.flow (omega arith) found.searched node.0
+    (node.1, omega (arith, node.2)) node.3 c.requires.task.terminals found.looks.flows c.augment_along.ensures.room
+    c.augment_along.ensures.flows in
+    let most = value_most net (one_of c.args.task.s.now) (one_of c.args.task.t.now) c.augment_along.new.flow.flows
+    (c.loop-source.raised + c.augment_along.result) c.nodes-n.ensures.is_net
     (terminals_apart net c.args.task.s.now c.args.task.t.now c.requires.task.terminals) now.feasible now.value in
     let less : capacities net - (c.loop-source.raised + c.from-raised.result) < capacities net - c.loop-source.raised =
-    omega (arith, most, c.augment.ensures.positive, c.from-raised.ensures) in
+    omega (arith, most, c.augment_along.ensures.positive, c.from-raised.ensures) in
     less
 
 -- after an augmentation
@@ -55,17 +55,17 @@ loop-source-preserved c =
     let found = c.in-Some.ensures in
     let node = found.some in
     let net = c.args.task.packed.net.now in
-    let now = raised_by c.augment.result c.in-Some.source old.flow (omega arith) found.searched node.0
-    (node.1, omega (arith, node.2)) node.3 c.requires.task.terminals found.looks.flows c.augment.ensures.room
-    c.augment.ensures.flows in
+    let now = raised_by c.augment_along.result c.in-Some.source old.flow (omega arith) found.searched node.0
+    (node.1, omega (arith, node.2)) node.3 c.requires.task.terminals found.looks.flows c.augment_along.ensures.room
+    c.augment_along.ensures.flows in
     record {
       flow = rw c.from-raised.ensures now;
-      never_lowered = omega (arith, old.never_lowered, found.looks.never_lowered, c.augment.ensures.never_lowered);
+      never_lowered = omega (arith, old.never_lowered, found.looks.never_lowered, c.augment_along.ensures.never_lowered);
       steps =
           rw c.from-raised.ensures
-          (paid_more c.args.flow.now.steps c.augment.new.flow.steps c.loop-source.raised c.augment.result net.nodes
-          (length net.arcs) (omega (arith, old.steps, found.looks.steps, c.augment.ensures.steps))
-          c.augment.ensures.positive);
+          (paid_more c.args.flow.now.steps c.augment_along.new.flow.steps c.loop-source.raised c.augment_along.result net.nodes
+          (length net.arcs) (omega (arith, old.steps, found.looks.steps, c.augment_along.ensures.steps))
+          c.augment_along.ensures.positive);
     }
 
 -- a search that finds no way leaves a closed cut: the value is the greatest, and the cut's capacity the least

@@ -1,7 +1,7 @@
 -- `raise`: the flow has grown by what the augmentations have raised, which pays for their steps.
 use Rattle.std.proofs.Common.{◌+◌, ◌-◌, ◌*◌, ◌≤◌, length}
 use Rattle.flow_solve.specs.Bounds.{capacities}
-use Rattle.flow_solve.specs.Stages.{HasFlow}
+use Rattle.flow_solve.specs.Task.{HasFlow}
 use Rattle.flow_solve.proofs.paths.PathsRaise.raise.Given as goal
 
 abbrev pub invariant-loop-source : goal.invariant-loop-source

@@ -1,0 +1,4 @@
+pub mod Growing
+pub mod SeenCells
+pub mod Prefixes
+pub mod BothWays

@@ -1,0 +1,14 @@
+pub mod Falls
+pub mod Places
+pub mod Descents
+pub mod Bounds
+pub mod Distances
+pub mod LeastOnPath
+pub mod PushesAhead
+pub mod Ranks
+pub mod Walks
+pub mod Levelled
+pub mod WalkPaths
+pub mod Turning
+pub mod Rising
+pub mod Settled

@@ -1,0 +1,9 @@
+pub mod Counting
+pub mod Crossings
+pub mod Searched
+pub mod SearchStarts
+pub mod Packed
+pub mod Behind
+pub mod Queues
+pub mod Routes
+pub mod Sweeps

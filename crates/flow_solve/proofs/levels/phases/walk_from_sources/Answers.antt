@@ -1,0 +1,58 @@
+-- `walk_from_sources`: from each source until it is dead; a dead node stays so.
+use Rattle.std.proofs.Common.{ℕ, IsTrue, get_or, below_more, sym, subst, arith}
+use Rattle.std.specs.Prelude.{slice_index}
+use Rattle.flow_net.specs.NodeSets.{one_of}
+use Rattle.flow_solve.specs.residual.Searches.{seen}
+use Rattle.flow_solve.specs.levels.Phases.{cell_of, place_of, IsDead}
+use Rattle.flow_net.proofs.NodeLists.{place_in}
+use Rattle.flow_solve.proofs.ResidualLemmas.Searched.{unmarked_unseen}
+use Rattle.flow_solve.proofs.LevelLemmas.Walks.{dead_on}
+use Rattle.flow_solve.proofs.levels.phases.walk_from_sources.Goals.{then-phase-source-lt-WANTED}
+use Rattle.flow_solve.proofs.levels.phases.walk_from_sources.Goals.{else-phase-source-lt-WANTED}
+use Rattle.flow_solve.proofs.levels.phases.walk_from_sources.Goals as goal
+
+-- one more source is dead, or isn't seen
+pub loop-source-preserved : goal.loop-source-preserved
+loop-source-preserved c =
+    let old = c.loop-source.invariant in
+    let net = c.args.phase.packed.net.now in let s = c.args.phase.s.now in let dist = c.args.phase.dist.now in
+    let source = get_or s c.loop-source.source-index 0 in
+    let node = c.requires.run.terminals.sources_within c.loop-source.source-index 0 c.loop-source-test.true in
+    elim c.if-phase-source-lt-WANTED.branch [
+      | then-phase-source-lt-WANTED w ↦
+          let now = w.walk-raised.ensures in
+          rw (w.flow-is, w.current-is, w.raised-is) (record {
+            phase = now.phase;
+            dead =
+                below_more (λ k. IsTrue (seen dist (slice_index s k))
+                → IsDead net (one_of c.args.phase.t.now) (place_of c.args.phase.packed.halves.now)
+                (cell_of w.walk-raised.new.current) (slice_index s k)) c.loop-source.source-index
+                (λ k l i. dead_on net (one_of c.args.phase.t.now) (place_of c.args.phase.packed.halves.now)
+                (cell_of c.loop-source.current) (cell_of w.walk-raised.new.current) (slice_index s k) now.risen
+                (old.dead k l i)) (λ i. now.dead);
+            gentle = λ level o g. now.gentle level o (old.gentle level o g);
+            never_lowered = omega (arith, old.never_lowered, now.never_lowered);
+            steps = omega (arith, old.steps, now.steps);
+          })
+      | else-phase-source-lt-WANTED w ↦
+          rw (w.flow-is, w.current-is, w.raised-is) (record {
+            phase = old.phase;
+            dead =
+                below_more (λ k. IsTrue (seen dist (slice_index s k))
+                → IsDead net (one_of c.args.phase.t.now) (place_of c.args.phase.packed.halves.now)
+                (cell_of c.loop-source.current) (slice_index s k)) c.loop-source.source-index old.dead
+                (λ i. let out = unmarked_unseen dist source node.0 w.if-phase-source-lt-WANTED.false in absurd (cc));
+            gentle = old.gentle;
+            never_lowered = old.never_lowered;
+            steps = old.steps;
+          })
+    ]
+
+-- all seen sources are dead
+pub returns-clause-dead : goal.returns-clause-dead
+returns-clause-dead c = λ v i k.
+    let p = place_in c.args.phase.s.now v i in
+    let Seen : ℕ → Type 0 = λ w. IsTrue (seen c.args.phase.dist.now w) in
+    subst (λ w. IsDead c.args.phase.packed.net.now (one_of c.args.phase.t.now) (place_of c.args.phase.packed.halves.now)
+    (cell_of c.loop-source.current) w) p.2
+    (c.loop-source.invariant.dead p.0 (omega (arith, p.1, c.loop-source-test.false)) (subst Seen (sym p.2) k))

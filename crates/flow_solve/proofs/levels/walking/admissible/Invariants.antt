@@ -1,0 +1,18 @@
+-- `admissible`: the half-arcs passed are filled, or lead to no lower rank, and each took a look at most.
+use Rattle.std.proofs.Common.{◌≡◌, ◌-◌, ◌≤◌}
+use Rattle.flow_net.specs.Flows.{Fits}
+use Rattle.flow_solve.proofs.LevelLemmas.Walks.{IsLooking}
+use Rattle.flow_solve.proofs.levels.walking.admissible.Given as goal
+
+abbrev pub invariant-loop-place : goal.invariant-loop-place
+invariant-loop-place l = record {
+  fits : Fits l.packed.net.now l.flow.flows;
+  flows : l.flow.flows ≡ l.fn.flow.flows;
+  current : l.current ≡ l.fn.current;
+  looking : IsLooking l.packed.net.now l.packed.first.now l.packed.halves.now l.rank l.fn.current l.fn.flow.flows l.node
+      l.place l.fn.flow.steps l.flow.steps;
+  never_lowered : l.fn.flow.steps ≤ l.flow.steps;
+}
+
+abbrev pub decreases-loop-place : goal.decreases-loop-place
+decreases-loop-place l = l.end - l.place

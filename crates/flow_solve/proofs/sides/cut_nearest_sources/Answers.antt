@@ -1,0 +1,11 @@
+-- `cut_nearest_sources`: the nodes that are marked are those that the search has seen.
+use Rattle.std.proofs.Common.{arith}
+use Rattle.flow_solve.specs.declared.residual.half_arcs.Direction.TheVariants.{Forwards}
+use Rattle.flow_solve.proofs.SideLemmas.LeastSides.{side_marked}
+use Rattle.flow_solve.proofs.sides.cut_nearest_sources.Goals as goal
+
+pub returns-clause-side : goal.returns-clause-side
+returns-clause-side g c =
+    let after = c.solve_and_search-value.new in
+    side_marked Forwards c.args.net.now c.args.s.now c.args.t.now after.flow.flows after.work c.mark.new.side
+    (omega arith) c.mark.ensures c.solve_and_search-value.ensures.side

@@ -1,0 +1,10 @@
+-- `reach`: the nodes that are marked are those that the search has seen.
+use Rattle.std.proofs.Common.{arith}
+use Rattle.flow_solve.specs.declared.residual.half_arcs.Direction.TheVariants.{Forwards}
+use Rattle.flow_solve.proofs.SideLemmas.LeastSides.{side_marked}
+use Rattle.flow_solve.proofs.sides.reach.Goals as goal
+
+pub returns-then-not-rises-clause-side : goal.returns-then-not-rises-clause-side
+returns-then-not-rises-clause-side c = λ e.
+    side_marked Forwards c.args.net.now c.args.s.now c.args.t.now c.args.flow.now.flows c.leads_on_packed-rises.new.work
+    c.mark.new.side (omega arith) c.mark.ensures (c.leads_on_packed-rises.ensures.side e)

@@ -1,9 +1,0 @@
--- `link_all`: the cells stay as many.
-use Rattle.std.proofs.Common.{◌≡◌, ◌*◌, length}
-use Rattle.flow_solve.proofs.waves.levelling.link_all.Given as goal
-
-abbrev pub invariant-loop-place : goal.invariant-loop-place
-invariant-loop-place l = record {
-  size : length l.cells ≡ 5 * l.nodes;
-  left : l.wave.left ≡ l.fn.wave.left;
-}

@@ -1,9 +1,0 @@
--- `search`: what may still be done is less by the nodes.
-use Rattle.std.proofs.Common.{◌≡◌, ◌+◌, ◌*◌, length}
-use Rattle.flow_solve.proofs.waves.levelling.search.Given as goal
-
-abbrev pub invariant-loop-node : goal.invariant-loop-node
-invariant-loop-node l = record {
-  size : length l.cells ≡ 5 * l.packed.net.now.nodes;
-  left : l.wave.left + l.packed.net.now.nodes ≡ l.fn.wave.left;
-}

@@ -1,0 +1,3 @@
+pub mod Phases
+pub mod Trees
+pub mod Settling

@@ -1,0 +1,4 @@
+pub mod HalfArcs
+pub mod Packs
+pub mod Searches
+pub mod Trails

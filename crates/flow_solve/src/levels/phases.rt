@@ -1,0 +1,174 @@
+//! Phases of the method by levels, as in Dinic's algorithm: the ranks that a search backwards gives, a refinement of
+//! the levels of the layered network, and the walks from all sources, which push a blocking flow.
+ghost use Rattle.std.specs.Prelude.{◌≡◌, ◌⊎◌, ℕ, List, true, false, ◌+◌, ◌-◌, ◌*◌, ◌<◌, ◌≤◌, min, IsTrue, IsFalse};
+ghost use Rattle.std.specs.Prelude.{length, slice_index};
+ghost use Rattle.std.specs.List.{All};
+ghost use Rattle.flow_net.specs.Nets.{Net, IsNode};
+ghost use Rattle.flow_net.specs.Limits.{AreTerminals};
+ghost use Rattle.flow_net.specs.NodeSets.{one_of};
+ghost use Rattle.flow_net.specs.Flows.{Fits, IsGreatest};
+ghost use Rattle.flow_net.specs.LeastCuts.{IsLeastCapacity};
+ghost use Rattle.flow_solve.specs.Bounds.{phase_bound, phases_bound};
+ghost use Rattle.flow_solve.specs.residual.Packs.{IsPacked};
+ghost use Rattle.flow_solve.specs.Solving.{IsFlow};
+ghost use Rattle.flow_solve.specs.residual.Searches.{AreCells, HasMissed};
+ghost use Rattle.flow_solve.specs.Task.{HasFlow, IsTask};
+ghost use Rattle.flow_solve.specs.Steps.{OnlyLooks};
+ghost use Rattle.flow_solve.specs.levels.Phases.{AreDead, FindsLevels, HasLevels, AreRankedIn, HasRank, IsAt, IsFarIn};
+ghost use Rattle.flow_solve.specs.levels.Phases.{IsPhase, KeepsGentle, PaysOwed};
+
+use crate::levels::walking::{Phase, walk};
+use crate::residual::half_arcs::Direction;
+use crate::residual::packing::Packed;
+use crate::residual::searching::{FAR, Plan, WANTED, search};
+use crate::task::Task;
+use flow_net::FlowTable;
+
+/// Gives the node at each place in the queue its number in the queue as its rank, and every other node none.
+fn rank_all(queue: &[u32], all: u32, rank: &mut [u32])
+    requires all { all ≤ length queue.now }
+    requires places { (i : ℕ) → i < all → slice_index queue.now i < length rank.old }
+    ensures size { length rank.new ≡ length rank.old }
+    ensures ranked { (i : ℕ) → i < all → slice_index rank.new (slice_index queue.now i) < all }
+    ensures ranks { (p : ℕ) → p < length rank.old → HasRank queue.now all rank.new p }
+{
+    rank.fill(FAR);
+    for i in 0..all {
+        rank[queue[i as usize] as usize] = i;
+    }
+}
+
+/// How many nodes there are, as far as 32 bits hold it.
+fn count(nodes: &[u32]) -> u32
+    ensures { result ≡ min (length nodes.now) u32.MAX }
+{
+    nodes.len().min(u32::MAX as usize) as u32
+}
+
+/// Searches backwards from the sinks until all sources are seen, and ranks what it has seen, the nearest first. Answers
+/// whether a source was seen.
+fn find_levels(
+    plan: Plan<'_>,
+    flow: &mut FlowTable,
+    dist: &mut [u32],
+    rank: &mut [u32],
+    queue: &mut [u32],
+) -> bool
+    requires fits { Fits plan.packed.net.now flow.old.flows }
+    requires packed { IsPacked plan.packed.net.now plan.packed.first.now plan.packed.halves.now }
+    requires terminals { AreTerminals plan.packed.net.now plan.until.now plan.starts.now }
+    requires backwards { plan.direction ≡ Direction.Backwards }
+    requires enough { plan.enough ≡ min (length plan.until.now) u32.MAX }
+    requires cells { AreCells plan.packed.net.now dist.old rank.old queue.old }
+    ensures levels { result ≡ true → FindsLevels plan.entry flow.old.flows dist.new rank.new }
+    ensures missed { result ≡ false → HasMissed plan.entry flow.old.flows dist.new }
+    ensures looks { OnlyLooks flow.old flow.new (2 * length plan.entry.packed.net.now.arcs) }
+{
+    let progress = search(plan, flow, dist, rank, queue);
+    if progress.wanted == 0 {
+        return false;
+    }
+    rank_all(queue, progress.seen, rank);
+    true
+}
+
+/// Walks from each source that the search has seen, until all of them are dead. Answers the flow's value.
+fn walk_from_sources(
+    phase: Phase<'_>,
+    flow: &mut FlowTable,
+    current: &mut [u32],
+    path: &mut [u32],
+    value: u128,
+) -> u128
+    requires run { IsPhase phase }
+    requires path_size { length path.old ≡ phase.packed.net.now.nodes }
+    requires ranked { AreRankedIn phase }
+    requires phase { IsAt phase current.old flow.old.flows value }
+    ensures phase { IsAt phase.entry current.new flow.new.flows result }
+    ensures dead { AreDead phase.entry current.new }
+    ensures gentle { KeepsGentle phase.entry flow.old.flows flow.new.flows }
+    ensures never_lowered { flow.old.steps ≤ flow.new.steps }
+    ensures steps { PaysOwed phase.entry current.old flow.old current.new flow.new }
+{
+    let mut raised = value;
+    for source in phase.s {
+        if phase.dist[*source as usize - 1] < WANTED {
+            raised = walk(phase, flow, current, path, *source, raised);
+        }
+    }
+    raised
+}
+
+/// A phase after its search: every node begins at its first half-arc again, and each source walks. Answers the flow's
+/// value.
+fn run_phase(
+    phase: Phase<'_>,
+    flow: &mut FlowTable,
+    current: &mut [u32],
+    path: &mut [u32],
+    value: u128,
+) -> u128
+    requires run { IsPhase phase }
+    requires size { length current.old ≡ phase.packed.net.now.nodes }
+    requires path_size { length path.old ≡ phase.packed.net.now.nodes }
+    requires levels { HasLevels phase flow.old.flows }
+    requires flow { IsFlow phase.packed.net.now phase.s.now phase.t.now flow.old.flows value }
+    ensures flow { IsFlow phase.entry.packed.net.now phase.entry.s.now phase.entry.t.now flow.new.flows result }
+    ensures few { (j : ℕ) → IsFarIn phase.entry flow.old.flows j → j + 1 < phase.entry.packed.net.now.nodes }
+    ensures far { (j : ℕ) → IsFarIn phase.entry flow.old.flows j → IsFarIn phase.entry flow.new.flows (j + 1) }
+    ensures never_lowered { flow.old.steps ≤ flow.new.steps }
+    ensures steps { flow.new.steps ≤ flow.old.steps + phase_bound phase.entry.packed.net.now }
+{
+    let n = phase.packed.net.nodes() as usize;
+    current.copy_from_slice(&phase.packed.first[..n]);
+    walk_from_sources(phase, flow, current, path, value)
+}
+
+/// Raises a feasible flow by phases until a search backwards from the sinks sees no source, and answers its value,
+/// which is the greatest. `value` is the flow's value before. It takes at most `3·n²·m` steps, whatever flow it starts
+/// from.
+pub(crate) fn run_phases(
+    task: Task<'_>,
+    flow: &mut FlowTable,
+    cells: &mut [u32],
+    value: u128,
+) -> u128
+    requires task { IsTask task }
+    requires cells { length cells.old ≡ 5 * task.packed.net.now.nodes }
+    requires flow { HasFlow task flow.old.flows value }
+    ensures flow { HasFlow task.entry flow.new.flows result }
+    ensures greatest { IsGreatest task.entry.packed.net.now (one_of task.entry.s.now) (one_of task.entry.t.now) result }
+    ensures least { IsLeastCapacity task.entry.packed.net.now (one_of task.entry.s.now) (one_of task.entry.t.now)
+        result }
+    ensures never_lowered { flow.old.steps ≤ flow.new.steps }
+    ensures steps { flow.new.steps ≤ flow.old.steps + phases_bound task.entry.packed.net.now }
+{
+    let Task { packed, s, t } = task;
+    let n = packed.net.nodes() as usize;
+    let (dist, rest) = cells.split_at_mut(n);
+    let (rank, walks) = rest.split_at_mut(n);
+    let plan = Plan {
+        packed,
+        direction: Direction::Backwards,
+        starts: t,
+        until: s,
+        enough: count(s),
+    };
+    let mut value = value;
+    // Read by the loop's invariant alone, `invariant-phases`: after so many phases the sources are farther than that.
+    let mut phases = 0u32;
+    'phases: while find_levels(plan, flow, dist, rank, &mut walks[2 * n..]) {
+        let (current, path) = walks[..2 * n].split_at_mut(n);
+        let phase = Phase {
+            packed,
+            s,
+            t,
+            dist,
+            rank,
+        };
+        value = run_phase(phase, flow, current, path, value);
+        // Each phase brings the sources farther from the sinks, so there are fewer than `n`.
+        phases += 1;
+    }
+    value
+}

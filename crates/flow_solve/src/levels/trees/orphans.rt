@@ -1,0 +1,267 @@
+//! Orphans: nodes of two search trees whose half-arc to their parent was filled, and their adoption by the nearest node
+//! whose own parents lead to a root (Boykov and Kolmogorov 2004, and so are the stamps).
+ghost use Rattle.std.specs.Prelude.{◌≡◌, ◌+◌, ◌<◌, ◌≤◌, ◌*◌, length};
+ghost use Rattle.flow_net.specs.Nets.{IsNode};
+ghost use Rattle.flow_net.specs.Flows.{Fits};
+ghost use Rattle.flow_solve.specs.residual.Packs.{IsPacked};
+ghost use Rattle.flow_solve.specs.Steps.{OnlyLooks, PaysLooks};
+
+use crate::levels::spending::spend;
+use crate::levels::trees::chains::{Bottleneck, supply_half};
+use crate::levels::trees::forest::{
+    LEAST_CHILD, NO_PARENT, Trees, abandon_first, abandon_last, activate, direction_of, is_tired,
+    label_cell, next_active_cell, next_orphan, parent_cell, stamp_cell,
+};
+use crate::residual::cells::{END, get};
+use crate::residual::half_arcs::{head, tail, twin};
+use crate::residual::packing::Packed;
+use crate::residual::searching::FAR;
+use flow_net::FlowTable;
+
+/// Makes orphans of the nodes on a path whose half-arc to their parent was filled: those that half-arcs lead to before
+/// the one where the trees touch, and those that half-arcs leave behind it. In each tree the nearest to the root comes
+/// first.
+pub(crate) fn abandon_filled(
+    packed: Packed<'_>,
+    flow: &mut FlowTable,
+    trees: &mut Trees,
+    cells: &mut [u32],
+    path: &[u32],
+    touch: usize,
+    bottleneck: Bottleneck,
+)
+    requires fits { Fits packed.net.now flow.old.flows }
+    requires packed { IsPacked packed.net.now packed.first.now packed.halves.now }
+    ensures looks { OnlyLooks flow.old flow.new (length path.now) }
+    ensures left { trees.new.left ≡ trees.old.left }
+{
+    for i in bottleneck.first.min(path.len())..path.len() {
+        let half = path[i];
+        if i >= bottleneck.end || half as usize >= packed.halves.len() {
+            return;
+        }
+        let (next, room) = flow.look(packed.net, half);
+        if room == 0 && i < touch {
+            abandon_last(trees, cells, next);
+        } else if room == 0 && i > touch {
+            abandon_first(trees, cells, tail(packed.net, half));
+        }
+    }
+}
+
+/// Walks over the parents of a node to a root, or to a node that is known at this time to lead to one. Answers one more
+/// than the node's distance from the root, or `FAR` where the walk ends at an orphan or no more may be done.
+fn walk_to_root(packed: Packed<'_>, trees: &mut Trees, cells: &[u32], node: u32) -> u32
+    requires packed { IsPacked packed.net.now packed.first.now packed.halves.now }
+    requires size { 4 * packed.net.now.nodes ≤ length cells.now }
+    requires node { IsNode packed.net.now node }
+    ensures left { trees.new.left ≤ trees.old.left }
+{
+    let mut node = node;
+    let mut walked: u32 = 0;
+    'chain: loop {
+        let half = cells[parent_cell(node)];
+        if half == NO_PARENT {
+            return FAR;
+        }
+        let label = cells[label_cell(node)];
+        if label < LEAST_CHILD || cells[stamp_cell(node)] == trees.time {
+            return walked.saturating_add(label / 2);
+        }
+        if half as usize >= packed.halves.len() || !spend(&mut trees.left, 1) {
+            return FAR;
+        }
+        walked = walked.saturating_add(1);
+        node = head(packed.net, half);
+    }
+}
+
+/// Gives the nodes that such a walk went over the labels for their distances, and the time.
+fn mark_walk(packed: Packed<'_>, cells: &mut [u32], node: u32, distance: u32, time: u32)
+    requires packed { IsPacked packed.net.now packed.first.now packed.halves.now }
+    requires size { 4 * packed.net.now.nodes ≤ length cells.old }
+    requires node { IsNode packed.net.now node }
+{
+    let mut node = node;
+    let side = cells[label_cell(node)] % 2;
+    let mut label = distance.saturating_mul(2).saturating_add(side);
+    'walk: for _ in 0..distance {
+        let half = cells[parent_cell(node)];
+        if cells[stamp_cell(node)] == time {
+            return;
+        }
+        cells[label_cell(node)] = label;
+        cells[stamp_cell(node)] = time;
+        if half as usize >= packed.halves.len() {
+            return;
+        }
+        label = label.saturating_sub(2);
+        node = head(packed.net, half);
+    }
+}
+
+/// One more than the distance from the root of a node that may adopt an orphan, if that is nearer than any so far and
+/// something remains on the half-arc between them, or else `FAR`. The half-arc is given that leads to the node.
+fn offer(
+    packed: Packed<'_>,
+    flow: &mut FlowTable,
+    trees: &mut Trees,
+    cells: &mut [u32],
+    own: u32,
+    half: u32,
+    nearest: u32,
+) -> u32
+    requires fits { Fits packed.net.now flow.old.flows }
+    requires packed { IsPacked packed.net.now packed.first.now packed.halves.now }
+    requires size { 4 * packed.net.now.nodes ≤ length cells.old }
+    requires half { half < 2 * length packed.net.now.arcs }
+    ensures looks { OnlyLooks flow.old flow.new 1 }
+    ensures left { trees.new.left ≤ trees.old.left }
+{
+    let node = head(packed.net, half);
+    let label = cells[label_cell(node)];
+    if label <= 1 || label % 2 != own % 2 || cells[parent_cell(node)] == NO_PARENT {
+        return FAR;
+    }
+    if cells[stamp_cell(node)] == trees.time && label / 2 >= nearest {
+        return FAR;
+    }
+    let (_, room) = flow.look(packed.net, supply_half(direction_of(own), half));
+    if room == 0 {
+        return FAR;
+    }
+    let distance = walk_to_root(packed, trees, cells, node);
+    if distance != FAR {
+        mark_walk(packed, cells, node, distance, trees.time);
+    }
+    distance
+}
+
+/// Gives an orphan the nearest parent in its tree that leads to a root. Answers whether that, or all that may still be
+/// done, is done.
+fn find_parent(
+    packed: Packed<'_>,
+    flow: &mut FlowTable,
+    trees: &mut Trees,
+    cells: &mut [u32],
+    node: u32,
+) -> bool
+    requires fits { Fits packed.net.now flow.old.flows }
+    requires packed { IsPacked packed.net.now packed.first.now packed.halves.now }
+    requires size { 4 * packed.net.now.nodes ≤ length cells.old }
+    requires node { IsNode packed.net.now node }
+    ensures paid { PaysLooks flow.old trees.old.left flow.new trees.new.left }
+{
+    let own = cells[label_cell(node)];
+    let begin = packed.first[node as usize - 1];
+    let end = packed.first[node as usize];
+    if !spend(&mut trees.left, u64::from(end - begin)) {
+        return true;
+    }
+    let mut nearest = FAR;
+    let mut parent = NO_PARENT;
+    for spot in begin..end {
+        let half = packed.halves[spot as usize];
+        let distance = offer(packed, flow, trees, cells, own, half, nearest);
+        if distance < nearest {
+            nearest = distance;
+            parent = half;
+        }
+    }
+    if parent == NO_PARENT {
+        return false;
+    }
+    cells[label_cell(node)] = nearest.saturating_mul(2).saturating_add(2 + own % 2);
+    cells[parent_cell(node)] = parent;
+    cells[stamp_cell(node)] = trees.time;
+    true
+}
+
+/// Leaves the node that a half-arc leads to from a node that comes free: a child becomes an orphan, and a node of the
+/// same tree that could take the free node back becomes active.
+fn part(
+    packed: Packed<'_>,
+    flow: &mut FlowTable,
+    trees: &mut Trees,
+    cells: &mut [u32],
+    own: u32,
+    half: u32,
+)
+    requires fits { Fits packed.net.now flow.old.flows }
+    requires half { half < 2 * length packed.net.now.arcs }
+    ensures looks { OnlyLooks flow.old flow.new 1 }
+    ensures left { trees.new.left ≡ trees.old.left }
+{
+    let node = head(packed.net, half);
+    let label = get(cells, label_cell(node));
+    if label <= 1 || label % 2 != own % 2 {
+        return;
+    }
+    if label >= LEAST_CHILD && get(cells, parent_cell(node)) == twin(half) {
+        abandon_last(trees, cells, node);
+    }
+    if get(cells, next_active_cell(node)) == 0 {
+        let (_, room) = flow.look(packed.net, supply_half(direction_of(own), half));
+        if room > 0 {
+            activate(trees, cells, node);
+        }
+    }
+}
+
+/// Sets an orphan free that found no parent.
+fn set_free(
+    packed: Packed<'_>,
+    flow: &mut FlowTable,
+    trees: &mut Trees,
+    cells: &mut [u32],
+    node: u32,
+)
+    requires fits { Fits packed.net.now flow.old.flows }
+    requires packed { IsPacked packed.net.now packed.first.now packed.halves.now }
+    requires size { 4 * packed.net.now.nodes ≤ length cells.old }
+    requires node { IsNode packed.net.now node }
+    ensures paid { PaysLooks flow.old trees.old.left flow.new trees.new.left }
+{
+    let own = cells[label_cell(node)];
+    cells[label_cell(node)] = 0;
+    let begin = packed.first[node as usize - 1];
+    let end = packed.first[node as usize];
+    if spend(&mut trees.left, u64::from(end - begin)) {
+        for spot in begin..end {
+            part(
+                packed,
+                flow,
+                trees,
+                cells,
+                own,
+                packed.halves[spot as usize],
+            );
+        }
+    }
+}
+
+/// Adopts all orphans, or sets them free. Answers whether that was done before the trees had to end.
+pub(crate) fn adopt(
+    packed: Packed<'_>,
+    flow: &mut FlowTable,
+    trees: &mut Trees,
+    cells: &mut [u32],
+) -> bool
+    requires fits { Fits packed.net.now flow.old.flows }
+    requires packed { IsPacked packed.net.now packed.first.now packed.halves.now }
+    requires size { 4 * packed.net.now.nodes ≤ length cells.old }
+    ensures paid { PaysLooks flow.old trees.old.left flow.new trees.new.left }
+{
+    let nodes = packed.net.nodes();
+    'orphans: while !is_tired(trees) {
+        trees.left -= 1;
+        let node = next_orphan(trees, cells);
+        if node < 1 || nodes < node {
+            return node == END;
+        }
+        if !find_parent(packed, flow, trees, cells, node) {
+            set_free(packed, flow, trees, cells, node);
+        }
+    }
+    false
+}

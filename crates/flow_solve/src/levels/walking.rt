@@ -1,0 +1,196 @@
+//! Walks from a source to sinks, along half-arcs that lead to lower ranks (Dinitz 1970).
+ghost use Rattle.std.specs.Prelude.{◌≡◌, ℕ, Bool, List, ◌+◌, ◌-◌, ◌*◌, ◌<◌, ◌≤◌, IsTrue, IfSome, IfNone, length};
+ghost use Rattle.std.specs.Prelude.{slice_index};
+ghost use Rattle.std.specs.List.{All};
+ghost use Rattle.flow_net.specs.Nets.{Net, IsNode};
+ghost use Rattle.flow_net.specs.Limits.{IsNet, AreTerminals};
+ghost use Rattle.flow_net.specs.NodeSets.{one_of};
+ghost use Rattle.flow_net.specs.Flows.{Fits};
+ghost use Rattle.flow_net.specs.Residual.{tail_of, head_of, residual};
+ghost use Rattle.flow_net.specs.Paths.{IsApart, push_all};
+ghost use Rattle.flow_solve.specs.residual.Packs.{IsPacked};
+ghost use Rattle.flow_solve.specs.levels.Phases.{cell_of, HasLooked, IsAt, IsCurrent, IsDeadIn, IsFilling, IsNext};
+ghost use Rattle.flow_solve.specs.levels.Phases.{IsPhase};
+ghost use Rattle.flow_solve.specs.levels.Phases.{KeepsGentle, Looks, PaysOwed};
+
+use crate::residual::half_arcs::{head, tail};
+use crate::residual::packing::Packed;
+use flow_net::{FlowTable, Network};
+
+/// The first half-arc of a path on which the least remains, by its place on the path, and how much that is.
+fn least_on(net: &Network, flow: &mut FlowTable, path: &[u32]) -> (u32, u64)
+    requires limits { IsNet net.now }
+    requires fits { Fits net.now flow.old.flows }
+    requires some { 1 ≤ length path.now }
+    requires few { length path.now ≤ net.now.nodes }
+    requires halves { All (λ h. h < 2 * length net.now.arcs) path.now }
+    ensures filling { IsFilling net.now flow.old.flows path.now result.0 result.1 }
+    ensures flows { flow.new.flows ≡ flow.old.flows }
+    ensures steps { flow.new.steps ≡ flow.old.steps + length path.now }
+{
+    let (_, mut least) = flow.look(net, path[0]);
+    let mut place = 0;
+    for i in 1..path.len() {
+        let (_, room) = flow.look(net, path[i]);
+        if room < least {
+            least = room;
+            place = i as u32;
+        }
+    }
+    (place, least)
+}
+
+/// Pushes an amount through each half-arc of a path.
+pub(crate) fn push_over(net: &Network, flow: &mut FlowTable, path: &[u32], amount: u64)
+    requires fits { Fits net.now flow.old.flows }
+    requires halves { All (λ h. h < 2 * length net.now.arcs) path.now }
+    requires apart { IsApart path.now }
+    requires room { All (λ h. amount ≤ residual net.now flow.old.flows h) path.now }
+    ensures flows { flow.new.flows ≡ push_all flow.old.flows path.now amount }
+    ensures steps { flow.new.steps ≡ flow.old.steps + length path.now }
+{
+    for half in path {
+        flow.push(net, *half, amount);
+    }
+}
+
+/// What an augmentation has pushed, and where the walk goes on after it.
+#[derive(Clone, Copy)]
+struct Augmentation {
+    /// How much was pushed along the path.
+    amount: u64,
+    /// How many half-arcs of the path the walk keeps: those before the first that was filled.
+    depth: u32,
+    /// The node that the first filled half-arc leaves.
+    node: u32,
+}
+
+/// Pushes along a path as much as remains on each of its half-arcs, and retreats to the first half-arc that this
+/// fills: the walk goes on from the node that it leaves, and keeps the half-arcs before it.
+fn augment(net: &Network, flow: &mut FlowTable, path: &[u32]) -> Augmentation
+    requires limits { IsNet net.now }
+    requires fits { Fits net.now flow.old.flows }
+    requires some { 1 ≤ length path.now }
+    requires few { length path.now ≤ net.now.nodes }
+    requires halves { All (λ h. h < 2 * length net.now.arcs) path.now }
+    requires apart { IsApart path.now }
+    ensures filling { IsFilling net.now flow.old.flows path.now result.depth result.amount }
+    ensures filled { residual net.now flow.new.flows (slice_index path.now result.depth) ≡ 0 }
+    ensures open_before { (i : ℕ) → i < result.depth → 0 < residual net.now flow.new.flows (slice_index path.now i) }
+    ensures tail { result.node ≡ tail_of net.now (slice_index path.now result.depth) }
+    ensures flows { flow.new.flows ≡ push_all flow.old.flows path.now result.amount }
+    ensures steps { flow.new.steps ≡ flow.old.steps + 2 * length path.now }
+{
+    let (depth, amount) = least_on(net, flow, path);
+    push_over(net, flow, path, amount);
+    let node = tail(net, path[depth as usize]);
+    Augmentation {
+        amount,
+        depth,
+        node,
+    }
+}
+
+/// Moves a node's place on to its first half-arc that leads to a lower rank and has a residual capacity, or behind all.
+fn admissible(
+    packed: Packed<'_>,
+    flow: &mut FlowTable,
+    rank: &[u32],
+    current: &mut [u32],
+    node: u32,
+) -> Option<u32>
+    requires fits { Fits packed.net.now flow.old.flows }
+    requires packed { IsPacked packed.net.now packed.first.now packed.halves.now }
+    requires rank_size { length rank.now ≡ packed.net.now.nodes }
+    requires current { IsCurrent packed.net.now packed.first.now current.old }
+    requires node { IsNode packed.net.now node }
+    ensures looked { HasLooked packed.entry rank.now current.old current.new flow.old.flows node }
+    ensures some { IfSome result (λ h. IsNext packed.entry rank.now current.new flow.old.flows node h) }
+    ensures none { IfNone result (cell_of current.new node ≡ slice_index packed.entry.first.now node) }
+    ensures flows { flow.new.flows ≡ flow.old.flows }
+    ensures never_lowered { flow.old.steps ≤ flow.new.steps }
+    ensures steps_some { IfSome result (λ h. Looks packed.entry rank.now current.old flow.old current.new flow.new 1) }
+    ensures steps_none { IfNone result (Looks packed.entry rank.now current.old flow.old current.new flow.new 0) }
+{
+    let end = packed.first[node as usize];
+    let own = rank[node as usize - 1];
+    let mut place = current[node as usize - 1];
+    while place < end {
+        let half = packed.halves[place as usize];
+        if rank[head(packed.net, half) as usize - 1] < own {
+            let (_, room) = flow.look(packed.net, half);
+            if room > 0 {
+                current[node as usize - 1] = place;
+                return Some(half);
+            }
+        }
+        place += 1;
+    }
+    current[node as usize - 1] = end;
+    None
+}
+
+/// What the walks of a phase go by.
+#[derive(Clone, Copy)]
+pub(crate) struct Phase<'a> {
+    /// The network with its half-arcs side by side.
+    pub packed: Packed<'a>,
+    /// The sources.
+    pub s: &'a [u32],
+    /// The sinks.
+    pub t: &'a [u32],
+    /// The distance of each node to a sink; of an unseen node `FAR`, or `WANTED` where it was looked out for.
+    pub dist: &'a [u32],
+    /// The rank of each node, the nearest first, or [`FAR`](crate::residual::searching::FAR) for an unseen node.
+    pub rank: &'a [u32],
+}
+
+/// Walks from a source until it is dead: it goes on along admissible half-arcs, augments where it comes to a sink, goes
+/// back to where the first half-arc was filled, and takes one back from a node that has none. Answers the flow's value.
+///
+/// The half-arcs that it passes and fills pay for its steps. What a filled one pays is enough for its path and for the
+/// looks from where it begins to a sink, but not for looks from the source: the walk goes on where [`augment`] says.
+pub(crate) fn walk(
+    phase: Phase<'_>,
+    flow: &mut FlowTable,
+    current: &mut [u32],
+    path: &mut [u32],
+    source: u32,
+    value: u128,
+) -> u128
+    requires run { IsPhase phase }
+    requires path_size { length path.old ≡ phase.packed.net.now.nodes }
+    requires phase { IsAt phase current.old flow.old.flows value }
+    requires source { IsTrue (one_of phase.s.now source) }
+    requires node { IsNode phase.packed.net.now source }
+    requires ranked { cell_of phase.rank.now source < phase.packed.net.now.nodes }
+    ensures phase { IsAt phase.entry current.new flow.new.flows result }
+    ensures dead { IsDeadIn phase.entry current.new source }
+    ensures gentle { KeepsGentle phase.entry flow.old.flows flow.new.flows }
+    ensures risen { (v : ℕ) → cell_of current.old v ≤ cell_of current.new v }
+    ensures never_lowered { flow.old.steps ≤ flow.new.steps }
+    ensures steps { PaysOwed phase.entry current.old flow.old current.new flow.new }
+{
+    let packed = phase.packed;
+    let mut raised = value;
+    let mut node = source;
+    let mut depth: u32 = 0;
+    'turns: loop {
+        if phase.dist[node as usize - 1] == 0 {
+            let done = augment(packed.net, flow, &path[..depth as usize]);
+            raised += u128::from(done.amount);
+            depth = done.depth;
+            node = done.node;
+        } else if let Some(half) = admissible(packed, flow, phase.rank, current, node) {
+            path[depth as usize] = half;
+            depth += 1;
+            node = head(packed.net, half);
+        } else if depth == 0 {
+            return raised;
+        } else {
+            depth -= 1;
+            node = tail(packed.net, path[depth as usize]);
+            current[node as usize - 1] += 1;
+        }
+    }
+}

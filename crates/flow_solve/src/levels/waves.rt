@@ -1,0 +1,177 @@
+//! Waves of excess that lift: what each node has received and not sent on, its *excess*, goes to the next nearer level,
+//! and a node that is stuck is lifted.
+//!
+//! All that can leave the sources does. Then a search backwards from the sinks gives the nodes their levels
+//! (`levelling`), and the farthest level with excess is emptied first, node by node, over half-arcs that lead exactly
+//! one level nearer. A node that is stuck is lifted at once to one more than the nearest node that it leads to, and
+//! goes on (`discharging`). A level from which the last node was lifted away becomes the *ceiling*: nothing there or
+//! farther leads to a sink any more, and what comes there waits for the next search. A wave ends when no excess below
+//! the ceiling is left, or after so many half-arcs that a new search is worth its cost. Every other node passes its
+//! half-arcs from the last to the first, by turns in waves, lest excess drift to one side.
+//!
+//! In the end the same waves bring home to the sources what no sink takes. A push is held to what a look has shown to
+//! remain; nothing else is claimed of levels, lists and excess: at the end the table is settled (`settling`).
+ghost use Rattle.std.specs.Prelude.{◌≡◌, ◌*◌, ◌<◌, length};
+ghost use Rattle.std.specs.List.{All};
+ghost use Rattle.flow_net.specs.Nets.{IsNode};
+ghost use Rattle.flow_net.specs.Flows.{Fits};
+ghost use Rattle.flow_solve.specs.residual.Packs.{IsPacked};
+ghost use Rattle.flow_solve.specs.Task.{HasFlow, IsTask};
+ghost use Rattle.flow_solve.specs.Steps.{PaysSteps, TakesSteps};
+
+mod discharging;
+mod excess;
+mod levelling;
+mod settling;
+
+use crate::levels::spending::spend;
+use crate::residual::half_arcs::head;
+use crate::residual::packing::Packed;
+use crate::residual::searching::FAR;
+use crate::task::Task;
+use discharging::discharge;
+use excess::{Wave, at_rest, book, level_cell, set_levels, take_listed};
+use flow_net::FlowTable;
+use levelling::{BARRED, search_levels};
+use settling::settle;
+
+/// Sends as much over a half-arc of a source as remains there and as can be booked: nothing to a source, and to a sink
+/// without booking.
+fn release(packed: Packed<'_>, flow: &mut FlowTable, cells: &mut [u32], half: u32)
+    requires fits { Fits packed.net.now flow.old.flows }
+    requires half { half < 2 * length packed.net.now.arcs }
+    requires cells { length cells.old ≡ 5 * packed.net.now.nodes }
+    ensures fits { Fits packed.entry.net.now flow.new.flows }
+    ensures steps { TakesSteps flow.old flow.new 2 }
+{
+    let node = head(packed.net, half);
+    let level = cells[level_cell(node)];
+    if level == BARRED {
+        return;
+    }
+    let (_, room) = flow.look(packed.net, half);
+    let sent = if level == 0 {
+        room
+    } else {
+        book(cells, packed.net.nodes(), node, room)
+    };
+    flow.push(packed.net, half, sent);
+}
+
+/// Sends what can leave a source over each of its half-arcs.
+fn release_all(
+    packed: Packed<'_>,
+    flow: &mut FlowTable,
+    cells: &mut [u32],
+    wave: &mut Wave,
+    node: u32,
+)
+    requires fits { Fits packed.net.now flow.old.flows }
+    requires packed { IsPacked packed.net.now packed.first.now packed.halves.now }
+    requires cells { length cells.old ≡ 5 * packed.net.now.nodes }
+    requires node { IsNode packed.net.now node }
+    ensures fits { Fits packed.entry.net.now flow.new.flows }
+    ensures paid { PaysSteps flow.old wave.old.left flow.new wave.new.left }
+{
+    let begin = packed.first[node as usize - 1];
+    let end = packed.first[node as usize];
+    if spend(&mut wave.left, 2 * u64::from(end - begin)) {
+        for spot in begin..end {
+            release(packed, flow, cells, packed.halves[spot as usize]);
+        }
+    }
+}
+
+/// Sends all that can leave the sources to the nodes next to them.
+fn supply(task: Task<'_>, flow: &mut FlowTable, cells: &mut [u32], wave: &mut Wave)
+    requires task { IsTask task }
+    requires fits { Fits task.packed.net.now flow.old.flows }
+    requires cells { length cells.old ≡ 5 * task.packed.net.now.nodes }
+    ensures fits { Fits task.entry.packed.net.now flow.new.flows }
+    ensures paid { PaysSteps flow.old wave.old.left flow.new wave.new.left }
+{
+    let n = task.packed.net.nodes() as usize;
+    cells[..n].fill(FAR);
+    cells[2 * n..4 * n].fill(0);
+    set_levels(cells, task.s, BARRED);
+    set_levels(cells, task.t, 0);
+    for node in task.s {
+        release_all(task.packed, flow, cells, wave, *node);
+    }
+}
+
+/// Empties the levels of a wave, the farthest first.
+fn sweep(packed: Packed<'_>, flow: &mut FlowTable, cells: &mut [u32], wave: &mut Wave)
+    requires fits { Fits packed.net.now flow.old.flows }
+    requires packed { IsPacked packed.net.now packed.first.now packed.halves.now }
+    requires cells { length cells.old ≡ 5 * packed.net.now.nodes }
+    ensures fits { Fits packed.entry.net.now flow.new.flows }
+    ensures paid { PaysSteps flow.old wave.old.left flow.new wave.new.left }
+{
+    let nodes = packed.net.nodes();
+    'turns: while wave.farthest > 0 && wave.fuel > 0 && spend(&mut wave.left, 1) {
+        let node = take_listed(cells, nodes, wave.farthest);
+        if 1 <= node && node <= nodes {
+            discharge(packed, flow, cells, wave, node);
+        } else {
+            wave.farthest = wave.farthest.saturating_sub(1);
+        }
+    }
+}
+
+/// Waves towards some roots, until no search finds excess that leads there, or no more may be done.
+fn send(
+    packed: Packed<'_>,
+    roots: &[u32],
+    barred: &[u32],
+    flow: &mut FlowTable,
+    cells: &mut [u32],
+    wave: &mut Wave,
+)
+    requires fits { Fits packed.net.now flow.old.flows }
+    requires packed { IsPacked packed.net.now packed.first.now packed.halves.now }
+    requires roots { All (IsNode packed.net.now) roots.now }
+    requires barred { All (IsNode packed.net.now) barred.now }
+    requires cells { length cells.old ≡ 5 * packed.net.now.nodes }
+    ensures fits { Fits packed.entry.net.now flow.new.flows }
+    ensures paid { PaysSteps flow.old wave.old.left flow.new wave.new.left }
+{
+    'waves: while search_levels(packed, roots, barred, flow, cells, wave) {
+        sweep(packed, flow, cells, wave);
+    }
+}
+
+/// Sends waves from a flow of some value on, and settles what they leave. Answers the flow's value: 0, with the table
+/// cleared, where something couldn't be brought home.
+pub(crate) fn send_waves(
+    task: Task<'_>,
+    flow: &mut FlowTable,
+    cells: &mut [u32],
+    value: u128,
+    allowance: u64,
+) -> u128
+    requires task { IsTask task }
+    requires cells { length cells.old ≡ 5 * task.packed.net.now.nodes }
+    requires flow { HasFlow task flow.old.flows value }
+    ensures flow { HasFlow task.entry flow.new.flows result }
+    ensures steps { TakesSteps flow.old flow.new allowance }
+{
+    let Task { packed, s, t } = task;
+    let looks = u64::from(packed.net.len());
+    if allowance <= looks {
+        return value;
+    }
+    let share = (allowance - looks) / 2;
+    let mut there = at_rest(share);
+    supply(task, flow, cells, &mut there);
+    send(packed, t, s, flow, cells, &mut there);
+    let mut home = at_rest(share);
+    send(packed, s, t, flow, cells, &mut home);
+    match settle(task, flow, cells) {
+        Some(settled) => settled,
+        None => {
+            flow.clear();
+            0
+        }
+    }
+}

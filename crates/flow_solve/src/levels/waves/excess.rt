@@ -1,0 +1,148 @@
+//! The cells of waves: levels, the nodes with excess on each level, and their excess.
+//!
+//! What these cells hold is a hint: nothing is claimed of it, and a push is held to what a look has shown. Nodes count
+//! from 1, and 0 stands for none; levels count from 0.
+ghost use Rattle.std.specs.Prelude.{◌≡◌, ◌+◌, ◌-◌, ◌*◌, ◌≤◌, true, false, length};
+ghost use Rattle.std.specs.List.{All};
+
+use crate::residual::cells::{get, put};
+
+/// How far waves are.
+#[derive(Clone, Copy)]
+pub(super) struct Wave {
+    /// What may still be done: steps, and half-arcs that are passed by.
+    pub left: u64,
+    /// How many half-arcs may still be passed before the next search.
+    pub fuel: u64,
+    /// Which nodes pass their half-arcs from the last to the first: the odd ones where this is even, and the even ones
+    /// where it is odd.
+    pub turn: u32,
+    /// No excess that takes part is on a farther level.
+    pub farthest: u32,
+    /// The nodes on this level and all farther ones take no part until the next search.
+    pub ceiling: u32,
+    /// How many nodes the search has put in its queue.
+    pub queued: u32,
+    /// How many of these have excess.
+    pub seen: u32,
+    /// How many nodes with excess it looks out for.
+    pub wanted: u32,
+    /// How many nodes have excess that leads to no root.
+    pub lost: u32,
+}
+
+/// Waves before the first one, which may do so much.
+pub(super) fn at_rest(allowance: u64) -> Wave
+    ensures { result.left ≡ allowance }
+{
+    Wave {
+        left: allowance,
+        fuel: 0,
+        turn: 0,
+        farthest: 0,
+        ceiling: 0,
+        queued: 0,
+        seen: 0,
+        wanted: 0,
+        lost: 0,
+    }
+}
+
+/// Where a node's level stands.
+pub(super) fn level_cell(node: u32) -> usize
+    requires { 1 ≤ node }
+    ensures { result ≡ node - 1 }
+{
+    node as usize - 1
+}
+
+/// Where the node after a node stands, of those with excess on its level.
+fn next_listed_cell(nodes: u32, node: u32) -> usize
+    requires { 1 ≤ node }
+{
+    nodes as usize + node as usize - 1
+}
+
+/// Where the node of a place in the search's queue stands: as long as it searches, no node is on a list.
+pub(super) fn queue_cell(nodes: u32, place: u32) -> usize {
+    nodes as usize + place as usize
+}
+
+/// Where a node's excess begins, in two cells, behind levels and lists.
+fn excess_cell(nodes: u32, node: u32) -> usize
+    requires { 1 ≤ node }
+    ensures { result ≡ 2 * (nodes + (node - 1)) }
+{
+    2 * (nodes as usize + (node as usize - 1))
+}
+
+/// A node's excess.
+pub(super) fn excess_of(cells: &[u32], nodes: u32, node: u32) -> u64
+    requires size { length cells.now ≡ 5 * nodes }
+    requires node { (1 ≤ node) × (node ≤ nodes) }
+{
+    let at = excess_cell(nodes, node);
+    u64::from(cells[at]) + u64::from(cells[at + 1]) * 4_294_967_296
+}
+
+/// Sets a node's excess.
+pub(super) fn set_excess(cells: &mut [u32], nodes: u32, node: u32, amount: u64)
+    requires size { length cells.old ≡ 5 * nodes }
+    requires node { (1 ≤ node) × (node ≤ nodes) }
+{
+    let at = excess_cell(nodes, node);
+    cells[at] = (amount % 4_294_967_296) as u32;
+    cells[at + 1] = (amount / 4_294_967_296) as u32;
+}
+
+/// Where the first node with excess on a level stands.
+fn first_cell(nodes: u32, level: u32) -> usize {
+    4 * nodes as usize + 2 * level as usize
+}
+
+/// Where the number of nodes on a level stands. There are cells for the levels below half the number of nodes.
+pub(super) fn count_cell(nodes: u32, level: u32) -> usize {
+    4 * nodes as usize + 2 * level as usize + 1
+}
+
+/// Puts a node with excess on the list of its level.
+pub(super) fn list_excess(cells: &mut [u32], nodes: u32, wave: &mut Wave, node: u32, level: u32)
+    requires { 1 ≤ node }
+    ensures left { wave.new.left ≡ wave.old.left }
+{
+    let first = get(cells, first_cell(nodes, level));
+    put(cells, next_listed_cell(nodes, node), first);
+    put(cells, first_cell(nodes, level), node);
+    wave.farthest = wave.farthest.max(level);
+}
+
+/// Takes the first node off the list of a level, and answers it: 0 where there is none.
+pub(super) fn take_listed(cells: &mut [u32], nodes: u32, level: u32) -> u32 {
+    let node = get(cells, first_cell(nodes, level));
+    if node > 0 {
+        let next = get(cells, next_listed_cell(nodes, node));
+        put(cells, first_cell(nodes, level), next);
+    }
+    node
+}
+
+/// Adds an amount to a node's excess, as far as 64 bits hold it. Answers how much.
+pub(super) fn book(cells: &mut [u32], nodes: u32, node: u32, amount: u64) -> u64
+    requires size { length cells.old ≡ 5 * nodes }
+    requires node { (1 ≤ node) × (node ≤ nodes) }
+    ensures { result ≤ amount }
+{
+    let had = excess_of(cells, nodes, node);
+    let booked = amount.min(u64::MAX - had);
+    set_excess(cells, nodes, node, had + booked);
+    booked
+}
+
+/// Gives some nodes a level.
+pub(super) fn set_levels(cells: &mut [u32], some: &[u32], level: u32)
+    requires { All (λ v. 1 ≤ v) some.now }
+{
+    for node in some {
+        put(cells, level_cell(*node), level);
+    }
+}

@@ -1,0 +1,195 @@
+//! The test at the end of a stage of which nothing is claimed on the way: whether a table carries a feasible flow, and
+//! of which value.
+//!
+//! It goes over the arcs once, in their order. Each node that is no terminal has a *balance* in two cells, what enters
+//! it less what leaves it, counted from [`EVEN`]; a balance that is too great for 64 bits fails the test, and so does a
+//! self-loop with flow.
+ghost use Rattle.std.specs.Prelude.{◌≡◌, ◌≢◌, ℕ, ◌+◌, ◌-◌, ◌*◌, ◌<◌, ◌≤◌, ◌==◌, if◌then◌else◌};
+ghost use Rattle.std.specs.Prelude.{true, IfSome, length, slice_index};
+ghost use Rattle.std.specs.List.{All};
+ghost use Rattle.flow_net.specs.NodeSets.{one_of};
+ghost use Rattle.flow_net.specs.Flows.{Fits};
+ghost use Rattle.flow_solve.specs.levels.Settling.{pair_at, HasRoles, HasSums};
+ghost use Rattle.flow_solve.specs.Task.{HasFlow, IsTask};
+ghost use Rattle.flow_solve.specs.Steps.{OnlyLooks};
+
+use crate::residual::cells::get;
+use crate::task::Task;
+use flow_net::FlowTable;
+
+/// Each of the two cells of a balance of [`EVEN`].
+const HALF: u32 = 2_147_483_648;
+
+/// The balance of a node that as much enters as leaves: in the middle, since it rises and falls while arcs are booked.
+const EVEN: u64 = 9_223_372_039_002_259_456;
+
+/// The role of a node that is no terminal.
+const INNER: u32 = 0;
+
+/// The role of a source.
+const SOURCE: u32 = 1;
+
+/// The role of a sink.
+const SINK: u32 = 2;
+
+/// The number of 64 bits in two cells, the lower half first.
+fn get_pair(cells: &[u32], place: u32) -> u64
+    ensures { result ≡ pair_at cells.now place }
+{
+    let at = 2 * place as usize;
+    u64::from(get(cells, at)) + u64::from(get(cells, at + 1)) * 4_294_967_296
+}
+
+/// Sets the number in two cells, if there are such cells.
+fn put_pair(cells: &mut [u32], place: u32, number: u64)
+    ensures size { length cells.new ≡ length cells.old }
+    ensures here { 2 * place + 1 < length cells.old → pair_at cells.new place ≡ number }
+    ensures others { (k : ℕ) → k ≢ place → pair_at cells.new k ≡ pair_at cells.old k }
+{
+    let at = 2 * place as usize;
+    if at + 1 < cells.len() {
+        cells[at] = (number % 4_294_967_296) as u32;
+        cells[at + 1] = (number / 4_294_967_296) as u32;
+    }
+}
+
+/// Gives some terminals their role.
+fn cast(roles: &mut [u32], terminals: &[u32], role: u32)
+    requires { All (λ v. (1 ≤ v) × (v ≤ length roles.old)) terminals.now }
+    ensures size { length roles.new ≡ length roles.old }
+    ensures roles { (p : ℕ) → p < length roles.old
+        → slice_index roles.new p ≡ (if one_of terminals.now (p + 1) then role else slice_index roles.old p) }
+{
+    for node in terminals {
+        roles[*node as usize - 1] = role;
+    }
+}
+
+/// Books an amount that leaves a node, if it is no terminal. Answers whether its balance has room for that.
+fn lose(roles: &[u32], balances: &mut [u32], node: u32, amount: u64) -> bool
+    requires node { (1 ≤ node) × (node ≤ length roles.now) }
+    requires size { length balances.old ≡ 2 * length roles.now }
+    ensures size { length balances.new ≡ length balances.old }
+    ensures booked { result ≡ true → (v : ℕ) → 1 ≤ v → slice_index roles.now (v - 1) ≡ INNER
+        → pair_at balances.new (v - 1) + (if node == v then amount else 0) ≡ pair_at balances.old (v - 1) }
+{
+    if amount == 0 || roles[node as usize - 1] != INNER {
+        return true;
+    }
+    match get_pair(balances, node - 1).checked_sub(amount) {
+        None => false,
+        Some(balance) => {
+            put_pair(balances, node - 1, balance);
+            true
+        }
+    }
+}
+
+/// Books an amount that enters a node, if it is no terminal. Answers whether its balance has room for that.
+fn gain(roles: &[u32], balances: &mut [u32], node: u32, amount: u64) -> bool
+    requires node { (1 ≤ node) × (node ≤ length roles.now) }
+    requires size { length balances.old ≡ 2 * length roles.now }
+    ensures size { length balances.new ≡ length balances.old }
+    ensures booked { result ≡ true → (v : ℕ) → 1 ≤ v → slice_index roles.now (v - 1) ≡ INNER
+        → pair_at balances.new (v - 1) ≡ pair_at balances.old (v - 1) + (if node == v then amount else 0) }
+{
+    if amount == 0 || roles[node as usize - 1] != INNER {
+        return true;
+    }
+    match get_pair(balances, node - 1).checked_add(amount) {
+        None => false,
+        Some(balance) => {
+            put_pair(balances, node - 1, balance);
+            true
+        }
+    }
+}
+
+/// An amount at a source, and 0 at any other node.
+fn at_source(roles: &[u32], node: u32, amount: u64) -> u128
+    requires node { (1 ≤ node) × (node ≤ length roles.now) }
+    ensures { result ≡ (if slice_index roles.now (node - 1) == SOURCE then amount else 0) }
+{
+    if amount > 0 && roles[node as usize - 1] == SOURCE {
+        u128::from(amount)
+    } else {
+        0
+    }
+}
+
+/// Books what each arc carries. Answers what leaves the sources and what enters them, unless a self-loop carries
+/// something or a balance has no room.
+fn tally(
+    task: Task<'_>,
+    flow: &mut FlowTable,
+    roles: &[u32],
+    balances: &mut [u32],
+) -> Option<(u128, u128)>
+    requires task { IsTask task }
+    requires fits { Fits task.packed.net.now flow.old.flows }
+    requires roles { HasRoles task roles.now }
+    requires sums { HasSums task flow.old.flows balances.old 0 0 0 }
+    ensures sums { IfSome result (λ r. HasSums task.entry flow.old.flows balances.new
+        (length task.entry.packed.net.now.arcs) r.0 r.1) }
+    ensures size { length balances.new ≡ length balances.old }
+    ensures looks { OnlyLooks flow.old flow.new (length task.entry.packed.net.now.arcs) }
+{
+    let net = task.packed.net;
+    let (mut out, mut inward) = (0, 0);
+    for i in 0..net.len() {
+        let arc = net.arc(i);
+        let (_, amount) = flow.look(net, 2 * i + 1);
+        if arc.src == arc.dst && amount > 0 {
+            return None;
+        }
+        if !lose(roles, balances, arc.src, amount) {
+            return None;
+        }
+        if !gain(roles, balances, arc.dst, amount) {
+            return None;
+        }
+        out += at_source(roles, arc.src, amount);
+        inward += at_source(roles, arc.dst, amount);
+    }
+    Some((out, inward))
+}
+
+/// Whether as much enters as leaves each node that is no terminal.
+fn are_even(roles: &[u32], balances: &[u32]) -> bool
+    requires few { length roles.now ≤ 1000000 }
+    ensures { result ≡ true → (p : ℕ) → p < length roles.now → slice_index roles.now p ≡ INNER
+        → pair_at balances.now p ≡ EVEN }
+{
+    for place in 0..roles.len() {
+        if roles[place] == INNER && get_pair(balances, place as u32) != EVEN {
+            return false;
+        }
+    }
+    true
+}
+
+/// The value of the flow in a table, if it is feasible and nothing is on self-loops. One look at each arc, and `3·n`
+/// cells.
+pub(crate) fn settle(task: Task<'_>, flow: &mut FlowTable, cells: &mut [u32]) -> Option<u128>
+    requires task { IsTask task }
+    requires fits { Fits task.packed.net.now flow.old.flows }
+    requires cells { 3 * task.packed.net.now.nodes ≤ length cells.old }
+    ensures flow { IfSome result (HasFlow task.entry flow.new.flows) }
+    ensures looks { OnlyLooks flow.old flow.new (length task.entry.packed.net.now.arcs) }
+{
+    let n = task.packed.net.nodes() as usize;
+    let (balances, rest) = cells.split_at_mut(2 * n);
+    let (roles, _) = rest.split_at_mut(n);
+    balances.fill(HALF);
+    roles.fill(INNER);
+    cast(roles, task.s, SOURCE);
+    cast(roles, task.t, SINK);
+    let Some((out, inward)) = tally(task, flow, roles, balances) else {
+        return None;
+    };
+    if are_even(roles, balances) {
+        out.checked_sub(inward)
+    } else {
+        None
+    }
+}

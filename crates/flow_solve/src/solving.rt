@@ -1,0 +1,87 @@
+//! What the methods share: from no flow, over packed half-arcs, to a flow of the greatest value.
+ghost use Rattle.std.specs.Prelude.{◌≡◌, ℕ, ◌+◌, ◌*◌, ◌≤◌, length, drop};
+ghost use Rattle.flow_net.specs.Nets.{Net};
+ghost use Rattle.flow_net.specs.Limits.{AreTerminals};
+ghost use Rattle.flow_net.specs.NodeSets.{one_of};
+ghost use Rattle.flow_net.specs.Flows.{Fits, IsFeasible, HasValue, IsGreatest, HasNoLoops};
+ghost use Rattle.flow_net.specs.LeastCuts.{IsLeastCapacity};
+ghost use Rattle.flow_solve.specs.Bounds.{work_cells};
+ghost use Rattle.flow_solve.specs.residual.Packs.{ArePackedBehind};
+ghost use Rattle.flow_solve.specs.Solving.{IsFlow};
+ghost use Rattle.flow_solve.specs.Task.{HasFlow, IsTask};
+ghost use Rattle.flow_solve.specs.Steps.{TakesSteps};
+
+use crate::residual::packing::{Packed, halves_in, pack_behind};
+use crate::task::Task;
+use flow_net::{FlowTable, Network};
+
+/// A way to raise a feasible flow to one of the greatest value, once the half-arcs are packed.
+pub(crate) trait Raise {
+    /// How many steps it takes at most, for each network.
+    ghost steps_bound: { Net → ℕ };
+
+    /// Raises a flow of some value, whichever feasible flow it is, and answers the greatest value. It works in `5·n`
+    /// cells.
+    fn raise(task: Task<'_>, flow: &mut FlowTable, cells: &mut [u32], value: u128) -> u128
+        requires task { IsTask task }
+        requires cells { length cells.old ≡ 5 * task.packed.net.now.nodes }
+        requires flow { HasFlow task flow.old.flows value }
+        ensures flow { HasFlow task.entry flow.new.flows result }
+        ensures greatest { IsGreatest task.entry.packed.net.now (one_of task.entry.s.now) (one_of task.entry.t.now)
+            result }
+        ensures least { IsLeastCapacity task.entry.packed.net.now (one_of task.entry.s.now) (one_of task.entry.t.now)
+            result }
+        ensures steps { TakesSteps flow.old flow.new (steps_bound task.entry.packed.net.now) };
+}
+
+/// Raises the flow that carries nothing, where the half-arcs stand packed in the cells. Answers the greatest value.
+fn raise_from_zero<'a, R: Raise>(
+    net: &'a Network,
+    s: &'a [u32],
+    t: &'a [u32],
+    flow: &mut FlowTable,
+    work: &mut [u32],
+) -> u128
+    requires terminals { AreTerminals net.now s.now t.now }
+    requires cells { work_cells net.now ≤ length work.old }
+    requires packed { ArePackedBehind net.now work.old }
+    requires flow { IsFlow net.now s.now t.now flow.old.flows 0 }
+    ensures flow { IsFlow net.now s.now t.now flow.new.flows result }
+    ensures greatest { IsGreatest net.now (one_of s.now) (one_of t.now) result }
+    ensures least { IsLeastCapacity net.now (one_of s.now) (one_of t.now) result }
+    ensures never_lowered { flow.old.steps ≤ flow.new.steps }
+    ensures steps { flow.new.steps ≤ flow.old.steps + R.steps_bound net.now }
+    ensures behind { drop (5 * net.now.nodes) work.new ≡ drop (5 * net.now.nodes) work.old }
+{
+    let n = net.nodes() as usize;
+    let (cells, behind) = work.split_at_mut(5 * n);
+    let (first, halves) = halves_in(net, behind);
+    let packed = Packed { net, first, halves };
+    R::raise(Task { packed, s, t }, flow, cells, 0)
+}
+
+/// Clears the table, packs the half-arcs, and raises the flow in the first [`work_len`](crate::work_len) cells.
+pub(crate) fn solve<R: Raise>(
+    net: &Network,
+    s: &[u32],
+    t: &[u32],
+    flow: &mut FlowTable,
+    work: &mut [u32],
+) -> u128
+    requires fits { Fits net.now flow.old.flows }
+    requires terminals { AreTerminals net.now s.now t.now }
+    requires cells { work_cells net.now ≤ length work.old }
+    ensures feasible { IsFeasible net.now (one_of s.now) (one_of t.now) flow.new.flows }
+    ensures value { HasValue net.now (one_of s.now) flow.new.flows result }
+    ensures greatest { IsGreatest net.now (one_of s.now) (one_of t.now) result }
+    ensures least { IsLeastCapacity net.now (one_of s.now) (one_of t.now) result }
+    ensures loops { HasNoLoops net.now flow.new.flows }
+    ensures never_lowered { flow.old.steps ≤ flow.new.steps }
+    ensures steps { flow.new.steps ≤ flow.old.steps + R.steps_bound net.now }
+    ensures packed { ArePackedBehind net.now work.new }
+    ensures rest { drop (work_cells net.now) work.new ≡ drop (work_cells net.now) work.old }
+{
+    flow.clear();
+    pack_behind(net, work);
+    raise_from_zero::<R>(net, s, t, flow, work)
+}

@@ -7,6 +7,7 @@
 ghost use Rattle.std.specs.Prelude.{◌≡◌, ◌≢◌, ℕ, ◌+◌, ◌-◌, ◌*◌, ◌<◌, ◌≤◌, ◌==◌, if◌then◌else◌};
 ghost use Rattle.std.specs.Prelude.{true, IfSome, length, slice_index};
 ghost use Rattle.std.specs.List.{All};
+ghost use Rattle.flow_net.specs.declared.limits.TheConstants.{MOST_NODES};
 ghost use Rattle.flow_net.specs.NodeSets.{one_of};
 ghost use Rattle.flow_net.specs.Flows.{Fits};
 ghost use Rattle.flow_solve.specs.levels.Settling.{pair_at, HasRoles, HasSums};
@@ -156,7 +157,7 @@ fn tally(
 
 /// Whether as much enters as leaves each node that is no terminal.
 fn are_even(roles: &[u32], balances: &[u32]) -> bool
-    requires few { length roles.now ≤ 1000000 }
+    requires few { length roles.now ≤ MOST_NODES }
     ensures { result ≡ true → (p : ℕ) → p < length roles.now → slice_index roles.now p ≡ INNER
         → pair_at balances.now p ≡ EVEN }
 {

@@ -119,7 +119,8 @@ impl Method for Levels {
     ghost steps_bound = { levels_bound };
 
     fn spare_steps(net: &Network) -> u64 {
-        u64::from(net.nodes()) * u64::from(net.nodes()) * u64::from(net.len())
+        let n = u64::from(net.nodes());
+        (n * n).saturating_mul(u64::from(net.len()))
     }
 
     fn greatest(

@@ -3,6 +3,9 @@
 ghost use Rattle.std.specs.Prelude.{◌<◌, ◌≤◌};
 
 use crate::solving::arranging::{arrange_problem, make_lists};
+use crate::tests::runs::{
+    CHECK, CUT, CUT_SINK, DIRECTED, DIRECTED_PAIR, SOLVE, UNDIRECTED, UNDIRECTED_PAIR, VALUE,
+};
 use crate::{Job, run_on_texts};
 use flow_net::{Arc, MOST_ARCS, Network};
 use flow_solve::{is_scattered, work_len};
@@ -116,31 +119,13 @@ fn answer(alloc: Global, job: Job, problem: &[u8], solution: &[u8]) -> Option<Ve
 
 /// Jobs whose answers are the same in whichever order the arcs come.
 const JOBS: [Job; 7] = [
-    Job::Solve { value_only: true },
-    Job::Cut {
-        arcs: false,
-        sink: false,
-    },
-    Job::Cut {
-        arcs: false,
-        sink: true,
-    },
-    Job::Connect {
-        undirected: false,
-        pair: false,
-    },
-    Job::Connect {
-        undirected: false,
-        pair: true,
-    },
-    Job::Connect {
-        undirected: true,
-        pair: false,
-    },
-    Job::Connect {
-        undirected: true,
-        pair: true,
-    },
+    VALUE,
+    CUT,
+    CUT_SINK,
+    DIRECTED,
+    DIRECTED_PAIR,
+    UNDIRECTED,
+    UNDIRECTED_PAIR,
 ];
 
 /// The one order counts as none, and the other as an order.
@@ -182,13 +167,9 @@ fn files_in_no_order_are_answered_as_those_in_order(rt: HostRuntime) -> Result<(
             assert!(rt; here.is_some());
             assert_eq!(rt; here, there);
         }
-        let solve = Job::Solve { value_only: false };
-        let check = Job::Check {
-            feasible_only: false,
-        };
-        let solution = answer(alloc, solve, scattered.as_slice(), b"").unwrap_or(Vec::new(alloc));
+        let solution = answer(alloc, SOLVE, scattered.as_slice(), b"").unwrap_or(Vec::new(alloc));
         for problem in [ordered.as_slice(), scattered.as_slice()] {
-            let verdict = answer(alloc, check, problem, solution.as_slice());
+            let verdict = answer(alloc, CHECK, problem, solution.as_slice());
             assert!(rt; verdict.is_some());
         }
     }

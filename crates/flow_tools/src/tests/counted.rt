@@ -1,7 +1,8 @@
 //! Readers and writers that fail once and then work, with their calls counted: no contract counts the calls of a
 //! device.
 use crate::tests::nets::{NET_A, SOLVED_A};
-use crate::{Counted, Failed, Input, Job, Output, put_all, run};
+use crate::tests::runs::SOLVE;
+use crate::{Counted, Failed, Input, Output, put_all, run};
 use std::alloc::Global;
 use std::io::{ErrorKind, Read, Write};
 use std::process::Abort;
@@ -128,8 +129,7 @@ fn solve<'a>(
     let mut unread = Counted::new(b"".as_slice());
     let mut out = Counted::new(writer);
     let mut err = Counted::new(Vec::<u8>::new(alloc));
-    let job = Job::Solve { value_only: false };
-    let status = run(alloc, job, &mut problem, &mut unread, &mut out, &mut err);
+    let status = run(alloc, SOLVE, &mut problem, &mut unread, &mut out, &mut err);
     (
         problem.into_inner(),
         out.into_inner(),

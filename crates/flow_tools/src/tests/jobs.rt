@@ -3,7 +3,9 @@
 use crate::Job;
 use crate::streams::memory::Script;
 use crate::tests::nets::{NET_A, NET_B, NET_C, NET_D, NO_ARCS};
-use crate::tests::runs::{answer, answer_both};
+use crate::tests::runs::{
+    CUT, DIRECTED, DIRECTED_PAIR, UNDIRECTED, UNDIRECTED_PAIR, VALUE, answer, answer_both,
+};
 use flow_net::Arc;
 use flow_text::{arc_line, flow_line};
 use std::alloc::Global;
@@ -16,26 +18,6 @@ const RING: &[u8] = b"p max 3 3\nn 1 s\nn 3 t\na 1 2 0\na 2 3 0\na 3 1 0\n";
 const OPPOSITE: &[u8] = b"p max 2 3\nn 1 s\nn 2 t\na 1 2 1\na 1 2 1\na 2 1 1\n";
 
 const ONLY_A_LOOP: &[u8] = b"p max 2 1\nn 1 s\nn 2 t\na 1 1 5\n";
-
-const DIRECTED: Job = Job::Connect {
-    undirected: false,
-    pair: false,
-};
-
-const UNDIRECTED: Job = Job::Connect {
-    undirected: true,
-    pair: false,
-};
-
-const DIRECTED_PAIR: Job = Job::Connect {
-    undirected: false,
-    pair: true,
-};
-
-const UNDIRECTED_PAIR: Job = Job::Connect {
-    undirected: true,
-    pair: true,
-};
 
 /// Which connectivity is asked for, a problem, and the line that tells it.
 type Connected = (Job, &'static [u8], &'static [u8]);
@@ -195,11 +177,6 @@ fn a_ring_of_2000_nodes(rt: HostRuntime) -> Result<(), Fail> {
     Ok(())
 }
 
-const CUT: Job = Job::Cut {
-    arcs: false,
-    sink: false,
-};
-
 #[test]
 fn a_chain_of_100000_nodes(rt: HostRuntime) -> Result<(), Fail> {
     let mut text = b"p max 100000 99999\nn 1 s\nn 100000 t\n".to_vec(rt.alloc())?;
@@ -225,8 +202,7 @@ fn a_star_of_200002_nodes(rt: HostRuntime) -> Result<(), Fail> {
         add_arc(&mut text, 1, v, 1)?;
         add_arc(&mut text, v, 200002, 1)?;
     }
-    let job = Job::Solve { value_only: true };
-    expect(&rt, rt.alloc(), job, text.as_slice(), b"s 200000\n");
+    expect(&rt, rt.alloc(), VALUE, text.as_slice(), b"s 200000\n");
     Ok(())
 }
 

@@ -1,8 +1,57 @@
-//! Runs over memory, for tests, and what they leave behind.
+//! Jobs, runs over memory, for tests, and what they leave behind.
 
 use crate::streams::memory::{Collector, Script};
 use crate::{Input, Job, run};
 use std::alloc::Global;
+
+/// The jobs, with each of their flags as tests want it.
+pub(crate) const SOLVE: Job = Job::Solve { value_only: false };
+
+pub(crate) const VALUE: Job = Job::Solve { value_only: true };
+
+pub(crate) const CUT: Job = Job::Cut {
+    arcs: false,
+    sink: false,
+};
+
+pub(crate) const CUT_ARCS: Job = Job::Cut {
+    arcs: true,
+    sink: false,
+};
+
+pub(crate) const CUT_SINK: Job = Job::Cut {
+    arcs: false,
+    sink: true,
+};
+
+pub(crate) const CUT_SINK_ARCS: Job = Job::Cut {
+    arcs: true,
+    sink: true,
+};
+
+pub(crate) const DIRECTED: Job = Job::Connect {
+    undirected: false,
+    pair: false,
+};
+
+pub(crate) const UNDIRECTED: Job = Job::Connect {
+    undirected: true,
+    pair: false,
+};
+
+pub(crate) const DIRECTED_PAIR: Job = Job::Connect {
+    undirected: false,
+    pair: true,
+};
+
+pub(crate) const UNDIRECTED_PAIR: Job = Job::Connect {
+    undirected: true,
+    pair: true,
+};
+
+pub(crate) const CHECK: Job = Job::Check {
+    feasible_only: false,
+};
 
 /// What a run left behind.
 #[derive(Drop)]

@@ -2,35 +2,11 @@
 use crate::Job;
 use crate::streams::memory::Script;
 use crate::tests::nets::{NET_A, NET_B, NET_C, NET_D, NO_ARCS, SOLVED_A};
-use crate::tests::runs::answer;
+use crate::tests::runs::{CUT, CUT_ARCS, CUT_SINK, CUT_SINK_ARCS, SOLVE, VALUE, answer};
 use flow_text::LONGEST_LINE;
 use std::alloc::Global;
 use std::process::Abort;
 use std::test::Fail;
-
-const SOLVE: Job = Job::Solve { value_only: false };
-
-const VALUE: Job = Job::Solve { value_only: true };
-
-const CUT: Job = Job::Cut {
-    arcs: false,
-    sink: false,
-};
-
-const CUT_ARCS: Job = Job::Cut {
-    arcs: true,
-    sink: false,
-};
-
-const CUT_SINK: Job = Job::Cut {
-    arcs: false,
-    sink: true,
-};
-
-const CUT_SINK_ARCS: Job = Job::Cut {
-    arcs: true,
-    sink: true,
-};
 
 /// A job, a problem, and what the run must put.
 type Answer = (Job, &'static [u8], &'static [u8]);

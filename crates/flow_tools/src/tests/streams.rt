@@ -1,19 +1,13 @@
 //! Runs over streams that fail at each place, or take little.
 use crate::streams::memory::{Collector, Script};
 use crate::tests::nets::{NET_A, SOLVED_A};
-use crate::tests::runs::{answer, run_alone, run_over};
-use crate::{Counted, Input, Job, Output, run};
+use crate::tests::runs::{CHECK, SOLVE, answer, run_alone, run_over};
+use crate::{Counted, Input, Output, run};
 use flow_text::LONGEST_LINE;
 use std::alloc::Global;
 use std::io::Write;
 use std::process::Abort;
 use std::test::Fail;
-
-const SOLVE: Job = Job::Solve { value_only: false };
-
-const CHECK: Job = Job::Check {
-    feasible_only: false,
-};
 
 /// Net A, but for a source that is no node of it.
 const FAULT_IN_LINE_2: &[u8] =

@@ -1,14 +1,9 @@
 //! Runs over texts that lie in memory.
+use crate::run_on_texts;
 use crate::tests::nets::{NET_A, SOLVED_A};
-use crate::{Job, run_on_texts};
+use crate::tests::runs::{CHECK, SOLVE};
 use std::process::Abort;
 use std::test::Fail;
-
-const SOLVE: Job = Job::Solve { value_only: false };
-
-const CHECK: Job = Job::Check {
-    feasible_only: false,
-};
 
 /// An answer is appended to the output, and the line about a fault to the errors.
 #[test]

@@ -39,6 +39,11 @@ targets_in_range n arcs h =
     recursion_from_All (λ a. (1 ≤ a.dst) × (a.dst ≤ n)) arcs
     (All-weaker (IsArcWithin n) (λ a. (1 ≤ a.dst) × (a.dst ≤ n)) (λ a w. (w.dst_least, w.dst_most)) arcs h)
 
+-- where one test holds wherever another does: where the one fails, the other fails
+pub contrary : (b c : Bool) → (b ≡ true → c ≡ true) → not c ≡ true → not b ≡ true
+contrary true c f e = let yes' = f refl in absurd (cc)
+contrary false c f e = refl
+
 -- a node of a set from which all of another stay away
 pub apart : (b c : Bool) → (b ≡ true → c ≡ false) → c ≡ true → b ≡ false
 apart b c h k = grind arith

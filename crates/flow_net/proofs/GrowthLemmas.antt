@@ -218,6 +218,19 @@ connected_by_growth net order k n o = (
   },
 )
 
+turned : (p q : Bool) → (not p && not (not q)) ≡ (q && not p)
+turned true true = refl
+turned true false = refl
+turned false true = refl
+turned false false = refl
+
+-- what leaves the other nodes enters the set, and what enters them leaves it
+pub leaves_others : (X : ℕ → Bool) (a : Arc) → leaves (λ v. not (X v)) a ≡ enters X a
+leaves_others X a = turned (X a.src) (X a.dst)
+
+pub enters_others : (X : ℕ → Bool) (a : Arc) → enters (λ v. not (X v)) a ≡ leaves X a
+enters_others X a = turned (X a.dst) (X a.src)
+
 -- as many arcs pass a test as pass one that agrees with it
 pub count_by_agree : (p q : Arc → Bool) (arcs : List Arc) → ((a : Arc) → p a ≡ q a) → count_by p arcs ≡ count_by q arcs
 count_by_agree p q [] e = refl

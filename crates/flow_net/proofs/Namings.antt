@@ -1,13 +1,10 @@
 -- Lists of names and of nodes that undo each other.
-use Rattle.std.proofs.Common.{◌≡◌, ℕ, ◌+◌, ◌-◌, ◌<◌, ◌≤◌, List, [], ◌∷◌, length, map, get_or, refl, ◌∙◌, sym, ap, arith}
+use Rattle.std.proofs.Common.{◌≡◌, ℕ, ◌-◌, ◌≤◌, List, [], ◌∷◌, get_or, refl, ◌∙◌, ap, arith}
 use Rattle.std.specs.List.{All, AllByRecursion}
-use Rattle.std.proofs.lemmas.List.{get_or_default}
 use Rattle.std.proofs.lemmas.List.Elements.{All-from_get_or, recursion_from_All}
-use Rattle.flow_net.specs.declared.networks.Arc.{Arc}
 use Rattle.flow_net.specs.Nets.{Net, IsNode}
-use Rattle.flow_net.specs.Limits.{IsArcWithin}
 use Rattle.flow_net.specs.Namings.{AreInverse}
-use Rattle.flow_net.specs.Arrangements.{named, renamed, all_named, IsNaming}
+use Rattle.flow_net.specs.Arrangements.{named, all_named, IsNaming}
 
 -- each name is a node, and each node a name once
 pub is_naming : (net : Net) (names nodes : List ℕ) → AreInverse net.nodes names nodes → IsNaming net names

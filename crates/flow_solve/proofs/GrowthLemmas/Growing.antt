@@ -1,5 +1,5 @@
 -- Flows between a node and the nodes before it in an order.
-use Rattle.std.proofs.Common.{◌≡◌, ℕ, ◌+◌, ◌*◌, ◌≤◌, ◌<◌, Bool, true, false, cond, not, ◌&&◌}
+use Rattle.std.proofs.Common.{◌≡◌, ℕ, ◌+◌, ◌*◌, ◌≤◌, ◌<◌, Bool, true, false, cond, not}
 use Rattle.std.proofs.Common.{List, [], ◌∷◌, length, replicate, refl, ◌∙◌, sym, ap, subst, inl, inr, arith}
 use Rattle.std.specs.Prelude.{slice_index}
 use Rattle.std.specs.List.{All, AllByRecursion, count_by}
@@ -18,14 +18,13 @@ use Rattle.flow_net.specs.Connectivity.{leaving, IsProper}
 use Rattle.flow_net.specs.LeastCuts.{IsConnectivity}
 use Rattle.flow_net.specs.Residual.{tail_of, head_of, residual, pushed, IsClosed}
 use Rattle.flow_net.proofs.Connections.{just_self}
-use Rattle.flow_net.proofs.Cuts.{across, flow_over-le-cap_over, closed_full, closed_empty}
+use Rattle.flow_net.proofs.Cuts.{across, contrary, flow_over-le-cap_over, closed_full, closed_empty}
 use Rattle.flow_net.proofs.Zips.{zip_from_fits, closed_by_arcs}
 use Rattle.flow_net.proofs.Pushes.{IsMoved, held_none, held_all, moved_nothing, moved_on, moved_before}
 use Rattle.flow_net.proofs.Pushes.{moved_feasible, moved_value, other_node}
 use Rattle.flow_net.proofs.ZeroFlows.{zeros_feasible}
-use Rattle.flow_net.proofs.GrowthLemmas.{count_by_agree, before_at, before_place, not_before, apart_to, back_proper}
-use Rattle.flow_net.proofs.GrowthLemmas.{forth_proper}
-use Rattle.flow_net.proofs.GrowthLemmas.{growth_below}
+use Rattle.flow_net.proofs.GrowthLemmas.{before_at, before_place, not_before, apart_to, back_proper, forth_proper}
+use Rattle.flow_net.proofs.GrowthLemmas.{count_by_agree, growth_below, leaves_others, enters_others}
 use Rattle.flow_solve.specs.declared.residual.half_arcs.Direction.{Direction}
 use Rattle.flow_solve.specs.declared.residual.half_arcs.Direction.TheVariants.{Forwards, Backwards}
 use Rattle.flow_solve.specs.residual.HalfArcs.{near_end, far_end, IsClosedFor}
@@ -47,25 +46,6 @@ cap_counts : (p : Arc → Bool) (arcs : List Arc) → AllByRecursion (λ a. a.ca
     → cap_over p arcs ≡ count_by p arcs
 cap_counts p [] h = refl
 cap_counts p (a ∷ arcs) h = let s = cap_counts p arcs h.1 in rw (sum_by-cons (λ b. cond (p b) 1 0) a arcs, h.0, s) refl
-
--- what leaves the other nodes enters the set
-pub leaves_others : (X : ℕ → Bool) (a : Arc) → leaves (λ v. not (X v)) a ≡ enters X a
-leaves_others X a = turned (X a.src) (X a.dst)
-  where
-    turned : (p q : Bool) → (not p && not (not q)) ≡ (q && not p)
-    turned true true = refl
-    turned true false = refl
-    turned false true = refl
-    turned false false = refl
-
-enters_others : (X : ℕ → Bool) (a : Arc) → enters (λ v. not (X v)) a ≡ leaves X a
-enters_others X a = turned (X a.src) (X a.dst)
-  where
-    turned : (p q : Bool) → (not q && not (not p)) ≡ (p && not q)
-    turned true true = refl
-    turned true false = refl
-    turned false true = refl
-    turned false false = refl
 
 units : (net : Net) → All (λ a. a.cap ≡ 1) net.arcs → AllByRecursion (λ a. a.cap ≡ 1) net.arcs
 units net h = recursion_from_All (λ a. a.cap ≡ 1) net.arcs h
@@ -93,13 +73,9 @@ raised_below Backwards net order k xs v n one r X c =
     )
 
 -- where no half-arc with a residual capacity leads out of such a set, its number is the value
-turn : (b c : Bool) → (b ≡ true → c ≡ true) → not c ≡ true → not b ≡ true
-turn true c f e = let yes' = f refl in absurd (cc)
-turn false c f e = refl
-
 others_closed : (net : Net) (xs : List ℕ) (X : ℕ → Bool) → IsClosedFor Backwards net xs X
     → IsClosed net xs (λ v. not (X v))
-others_closed net xs X c h l i r = turn (X (head_of net h)) (X (tail_of net h)) (λ e. c h l e r) i
+others_closed net xs X c h l i r = contrary (X (head_of net h)) (X (tail_of net h)) (λ e. c h l e r) i
 
 pub raised_parted : (dir : Direction) {net : Net} {order : List ℕ} {k : ℕ} {xs : List ℕ} {v : ℕ} (X : ℕ → Bool)
     → IsNet net → All (λ a. a.cap ≡ 1) net.arcs → IsRaised dir net order k xs v

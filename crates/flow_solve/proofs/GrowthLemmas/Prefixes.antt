@@ -10,8 +10,7 @@ use Rattle.flow_net.specs.Arcs.{enters}
 use Rattle.flow_net.specs.Connectivity.{leaving, IsProper}
 use Rattle.flow_solve.specs.declared.residual.half_arcs.Direction.TheVariants.{Forwards, Backwards}
 use Rattle.flow_solve.specs.Growth.{ArePlaces, IsClean, earlier_in, parted}
-use Rattle.flow_net.proofs.GrowthLemmas.{count_by_agree}
-use Rattle.flow_solve.proofs.GrowthLemmas.Growing.{leaves_others}
+use Rattle.flow_net.proofs.GrowthLemmas.{count_by_agree, leaves_others}
 use Rattle.flow_solve.proofs.GrowthLemmas.SeenCells.{cell_at}
 
 less : (x y : ℕ) → x < y → ltb x y ≡ true

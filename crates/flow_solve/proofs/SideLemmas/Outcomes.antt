@@ -7,7 +7,7 @@ use Rattle.flow_net.specs.Flows.{IsFeasible, HasValue, IsGreatest}
 use Rattle.flow_net.specs.Cuts.{IsCut, capacity, IsMinimumCut}
 use Rattle.flow_net.specs.LeastSides.{IsInLeastSourceSide, IsInLeastSinkSide}
 use Rattle.flow_net.specs.Residual.{tail_of, head_of, IsClosed, IsReaching}
-use Rattle.flow_net.proofs.Cuts.{strong_duality, closed_greatest, closed_minimum}
+use Rattle.flow_net.proofs.Cuts.{strong_duality, closed_greatest, closed_minimum, contrary}
 use Rattle.flow_net.proofs.Sides.{least_source_side, least_sink_side, outside_closed}
 use Rattle.flow_solve.specs.declared.residual.half_arcs.Direction.{Direction}
 use Rattle.flow_solve.specs.declared.residual.half_arcs.Direction.TheVariants.{Forwards, Backwards}
@@ -51,10 +51,6 @@ forward_side net s t X xs n f w out =
     (record { sources = w.contains; closed = w.closed; least = w.least }) out
 
 -- backwards
-turn : (b c : Bool) → (b ≡ true → c ≡ true) → not c ≡ true → not b ≡ true
-turn true c f e = let yes' = f refl in absurd (cc)
-turn false c f e = refl
-
 reaching : (net : Net) (t : List ℕ) (X : ℕ → Bool) (xs : List ℕ) → IsWhole Backwards net xs t X
     → IsReaching net (one_of t) xs X
 reaching net t X xs w = record {
@@ -62,7 +58,7 @@ reaching net t X xs w = record {
   closed = w.closed;
   least = λ Y out closed v i.
       not_true (Y v) (w.least (λ u. not (Y u)) (λ u k. ap not (out u k))
-      (λ h l far r. turn (Y (tail_of net h)) (Y (head_of net h)) (λ k. closed h l k r) far) v i);
+      (λ h l far r. contrary (Y (tail_of net h)) (Y (head_of net h)) (λ k. closed h l k r) far) v i);
 }
   where
     not_true : (b : Bool) → not b ≡ true → b ≡ false

@@ -118,10 +118,10 @@ pair_no u v src dst n = elim (cases_eq u src) [
 ]
 
 -- a sum with a part that passes the test, and with one that doesn't
-yes_step : (b : Bool) (x m k : ℕ) → b ≡ true → m ≡ k + cond b x 0 → m ≡ k + x
+pub yes_step : (b : Bool) (x m k : ℕ) → b ≡ true → m ≡ k + cond b x 0 → m ≡ k + x
 yes_step b x m k e h = grind arith
 
-no_step : (b : Bool) (x m k : ℕ) → b ≡ false → m ≡ k + cond b x 0 → m ≡ k
+pub no_step : (b : Bool) (x m k : ℕ) → b ≡ false → m ≡ k + cond b x 0 → m ≡ k
 no_step b x m k e h = grind arith
 
 -- an arc of the pair, and one that isn't

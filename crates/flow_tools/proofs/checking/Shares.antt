@@ -1,5 +1,5 @@
 -- Sharing the flow lines out over the arcs.
-use Rattle.std.proofs.Common.{◌≡◌, ℕ, ◌+◌, ◌-◌, ◌≤◌, ◌<◌, ◌⊎◌, Bool, true, false, cond, eqb, List, [], ◌∷◌, length}
+use Rattle.std.proofs.Common.{◌≡◌, ℕ, ◌+◌, ◌-◌, ◌≤◌, ◌<◌, ◌⊎◌, true, false, cond, eqb, List, [], length}
 use Rattle.std.proofs.Common.{get_or, set, take, drop, replicate, refl, length-drop, eq-eqb, ◌∙◌, sym, ap, subst, inl}
 use Rattle.std.proofs.Common.{inr, get_or-set_same, get_or-set_other, arith}
 use Rattle.std.specs.List.{All}
@@ -10,10 +10,10 @@ use Rattle.std.proofs.lemmas.List.Elements.{All-get_or}
 use Rattle.std.proofs.lemmas.List.Sorted.{All-permutation, Contains-permutation}
 use Rattle.flow_net.specs.Nets.{Net, arc_at}
 use Rattle.flow_net.specs.Limits.{IsNet}
-use Rattle.flow_net.specs.declared.networks.Arc.{Arc}
-use Rattle.flow_net.specs.Flows.{flow_over, Fits}
+use Rattle.flow_net.specs.Flows.{Fits}
 use Rattle.flow_net.proofs.Zips.{AllZip-from, zip_from_fits}
 use Rattle.flow_net.proofs.Cuts.{flow_over-le-cap_over}
+use Rattle.flow_net.proofs.ZeroFlows.{flow_over_zeros}
 use Rattle.flow_text.specs.SolutionReading.{IsLineWithin}
 use Rattle.flow_text.specs.declared.solutions.FlowLine.{FlowLine}
 use Rattle.flow_tools.specs.checking.SolutionFlows.{pair_flow, pair_cap}
@@ -27,7 +27,7 @@ use Rattle.flow_tools.specs.checking.ArcShares.{arc_flow, Carries, HasMore, IsFu
 use Rattle.flow_tools.specs.declared.checking.sharing.ArcPlace.{ArcPlace}
 use Rattle.flow_tools.proofs.checking.LineSums.{line_flow_more, line_flow-take-drop, line_flow_none}
 use Rattle.flow_tools.proofs.checking.LineSums.{line_flow-IsPermutation}
-use Rattle.flow_tools.proofs.checking.ArcSums.{full_over, set_more, more_twice, more_none}
+use Rattle.flow_tools.proofs.checking.ArcSums.{full_over, set_more, more_twice, more_none, yes_step, no_step}
 
 -- ---- places in order
 
@@ -277,13 +277,6 @@ none_past nodes lines u v l h =
     and_right (eqb u (get_or lines k d).src) (eqb v (get_or lines k d).dst)
     (ne_eqb v (get_or lines k d).dst (λ e. omega arith)))
 
--- a sum with a part that passes the test, and with one that doesn't
-yes_step : (b : Bool) (x m k : ℕ) → b ≡ true → m ≡ k + cond b x 0 → m ≡ k + x
-yes_step b x m k e h = grind arith
-
-no_step : (b : Bool) (x m k : ℕ) → b ≡ false → m ≡ k + cond b x 0 → m ≡ k
-no_step b x m k e h = grind arith
-
 -- A line at which some flow is left though the arcs of its pair are full: the flow was xs, and is ys with the line.
 pub record IsLeftOver (net : Net) (lines : List FlowLine) (i left : ℕ) (xs ys : List ℕ) (line : FlowLine)
     : Type 0 where
@@ -356,16 +349,8 @@ carries_more net lines i xs ys l c m p =
     (c p) ∙ sym (line_flow_more p lines i no_line l)
 
 -- a table of zeros carries no lines
-zero_step : (b : Bool) (m : ℕ) → m ≡ 0 → cond b 0 0 + m ≡ 0
-zero_step b m e = grind arith
-
--- a flow of zeros over any arcs
-zeros_over : (p : Arc → Bool) (arcs : List Arc) → flow_over p arcs (replicate (length arcs) 0) ≡ 0
-zeros_over p [] = refl
-zeros_over p (a ∷ arcs) = zero_step (p a) _ (zeros_over p arcs)
-
 pub carries_none : (net : Net) → Carries net [] (replicate (length net.arcs) 0)
-carries_none net p = zeros_over (λ a. p a.src a.dst) net.arcs
+carries_none net p = flow_over_zeros (λ a. p a.src a.dst) net.arcs
 
 -- the order of the lines doesn't matter
 pub carries_moved : (net : Net) (lines ordered : List FlowLine) (xs : List ℕ) → IsPermutation lines ordered

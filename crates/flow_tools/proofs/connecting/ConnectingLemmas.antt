@@ -6,8 +6,8 @@ use Rattle.std.specs.Prelude.{slice_index}
 use Rattle.std.proofs.Math.Nat.{min-eq_left, min-eq_right}
 use Rattle.std.specs.List.{All, AllByRecursion, count_by}
 use Rattle.std.proofs.lemmas.Bool.{cases_eq, cases_lt, ne_eqb}
-use Rattle.std.proofs.lemmas.List.Elements.{recursion_from_All, filter_agree}
-use Rattle.std.proofs.lemmas.List.Sums.{count_by-le-length, count_by_more_no, count_by_more_yes, length-filter}
+use Rattle.std.proofs.lemmas.List.Elements.{recursion_from_All}
+use Rattle.std.proofs.lemmas.List.Sums.{count_by-le-length, count_by_more_no, count_by_more_yes}
 use Rattle.flow_net.specs.declared.networks.Arc.{Arc}
 use Rattle.flow_net.specs.Nets.{Net, IsNode}
 use Rattle.flow_net.specs.Arcs.{no_arc}
@@ -19,6 +19,7 @@ use Rattle.flow_net.specs.LeastCuts.{IsLeastCapacity}
 use Rattle.flow_net.specs.Arcs.{enters}
 use Rattle.flow_net.specs.Connectivity.{leaving, IsProper}
 use Rattle.flow_net.specs.LeastCuts.{IsConnectivity, IsPairConnectivity}
+use Rattle.flow_net.proofs.GrowthLemmas.{count_by_agree, leaves_others}
 use Rattle.flow_net.proofs.Connections.{pair_by_solve, cut_proper, just_self}
 use Rattle.flow_tools.specs.connecting.Degrees.{AreDegrees}
 
@@ -217,18 +218,7 @@ others_are_proper net v n at =
 
 -- what leaves all but a node enters the node
 pub leaving_others : (net : Net) (v : ℕ) → leaving net (λ w. not (just v w)) ≡ count_by (enters (just v)) net.arcs
-leaving_others net v =
-    let p : Arc → Bool = leaves (λ w. not (just v w)) in
-    let q : Arc → Bool = enters (just v) in
-    sym (length-filter p net.arcs)
-    ∙ ap length (filter_agree p q (λ a. turned (just v a.src) (just v a.dst)) net.arcs)
-    ∙ length-filter q net.arcs
-  where
-    turned : (p q : Bool) → (not p && not (not q)) ≡ (q && not p)
-    turned true true = refl
-    turned true false = refl
-    turned false true = refl
-    turned false false = refl
+leaving_others net v = count_by_agree (leaves (λ w. not (just v w))) (enters (just v)) net.arcs (leaves_others (just v))
 
 -- the lesser of two numbers that proper sets have
 pub lesser_proper : (net : Net) (a b k : ℕ) → k ≡ min a b → ((X : ℕ → Bool) × IsProper net X × (leaving net X ≡ a))

@@ -107,10 +107,7 @@ pub(crate) fn arrange_problem(
 
 /// Arranges a problem whose arcs come in no order, for an answer that speaks of no node and no arc. The memory that this
 /// takes is free again afterwards.
-pub(crate) fn arrange_if_scattered(
-    alloc: Global,
-    problem: Problem,
-) -> Result<Problem, OutOfMemory>
+pub(crate) fn arrange_if_scattered(alloc: Global, problem: Problem) -> Result<Problem, OutOfMemory>
     ensures { IfOk result (IsSameOrArranged problem) }
 {
     let Some(mut lists) = lists_if_scattered(alloc, &problem)? else {

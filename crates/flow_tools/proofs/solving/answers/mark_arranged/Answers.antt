@@ -1,7 +1,6 @@
 -- What `mark_arranged` marks: the side of the arranged problem, named back.
 use Rattle.std.proofs.Common.{◌≡◌, ◌≤◌, ◌∙◌, ℕ, List, length, sym, ap, subst, rules, arith}
 use Rattle.std.specs.List.{All}
-use Rattle.flow_net.specs.Nets.{IsNode}
 use Rattle.flow_net.specs.Limits.{IsNet}
 use Rattle.flow_net.specs.Arrangements.{named}
 use Rattle.flow_net.specs.MarkedNodes.{marked}

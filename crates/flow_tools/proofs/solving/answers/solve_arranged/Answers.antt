@@ -1,9 +1,7 @@
 -- What `solve_arranged` finds: a solution of the arranged problem, carried back.
-use Rattle.std.proofs.Common.{◌≡◌, ◌≤◌, ◌∙◌, List, length, sym, ap, subst, rules, arith, vec_len}
+use Rattle.std.proofs.Common.{◌≡◌, length, ap, rules, arith, vec_len}
 use Rattle.flow_net.specs.Limits.{IsNet}
-use Rattle.flow_solve.specs.Bounds.{work_cells}
 use Rattle.std.proofs.lemmas.List.{with_items_is}
-use Rattle.flow_tools.specs.solving.ArrangedProblems.{IsSolution}
 use Rattle.flow_tools.proofs.solving.ArrangedLemmas.{zeros_fit_arranged, same_cells, solution_restored}
 use Rattle.flow_tools.proofs.solving.answers.solve_arranged.Goals as goal
 

@@ -1,5 +1,5 @@
 -- What `value_arranged` finds: the value of the arranged problem, whose flow stands for one of the problem.
-use Rattle.std.proofs.Common.{◌≡◌, ◌≤◌, ◌∙◌, length, sym, ap, rules, arith, vec_len}
+use Rattle.std.proofs.Common.{◌≡◌, length, ap, rules, arith, vec_len}
 use Rattle.flow_net.specs.Limits.{IsNet}
 use Rattle.std.proofs.lemmas.List.{with_items_is}
 use Rattle.flow_tools.proofs.solving.ArrangedLemmas.{zeros_fit_arranged, same_cells, solution_named}

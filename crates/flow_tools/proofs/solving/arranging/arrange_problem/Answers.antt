@@ -1,10 +1,7 @@
 -- `arrange_problem`: the names were tested, and the problem is arranged by them.
-use Rattle.std.proofs.Common.{◌≡◌, ℕ, List, length, refl, sym, ◌∙◌, ap, subst, rules, arith, vec_len}
+use Rattle.std.proofs.Common.{◌≡◌, ℕ, List, length, refl, sym, ◌∙◌, ap, subst, rules, vec_len}
 use Rattle.std.proofs.lemmas.List.{with_items_is}
-use Rattle.flow_net.specs.Nets.{Net}
-use Rattle.flow_net.specs.Limits.{IsProblem}
-use Rattle.flow_net.specs.Arrangements.{IsNaming, IsArranged, all_named}
-use Rattle.flow_net.specs.Namings.{AreInverse}
+use Rattle.flow_net.specs.Arrangements.{IsNaming, IsArranged}
 use Rattle.flow_net.proofs.Namings.{is_naming}
 use Rattle.flow_tools.proofs.solving.ArrangedLemmas.{arranged_is_problem, arranged_by, arcs_all}
 use Rattle.flow_tools.proofs.solving.arranging.arrange_problem.Goals as goal

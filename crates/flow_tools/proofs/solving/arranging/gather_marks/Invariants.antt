@@ -1,5 +1,5 @@
 -- `gather_marks`: the names passed are marks, and those ahead are as they were.
-use Rattle.std.proofs.Common.{◌≡◌, ℕ, ◌<◌, ◌≤◌, length, cond}
+use Rattle.std.proofs.Common.{◌≡◌, ℕ, ◌<◌, ◌≤◌, length}
 use Rattle.std.specs.Prelude.{slice_index, if◌then◌else◌}
 use Rattle.flow_net.specs.MarkedNodes.{marked}
 use Rattle.flow_tools.proofs.solving.arranging.gather_marks.Given as goal

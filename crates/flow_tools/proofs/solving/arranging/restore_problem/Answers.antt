@@ -1,8 +1,8 @@
 -- `restore_problem`: the network, the sources and the sinks are the old ones.
-use Rattle.std.proofs.Common.{◌≡◌, ℕ, List, length, refl, sym, ◌∙◌, ap, subst}
+use Rattle.std.proofs.Common.{◌≡◌, ℕ, refl, sym, subst}
 use Rattle.std.specs.Prelude.{IsPermutation}
 use Rattle.std.specs.List.{range_with_len}
-use Rattle.flow_net.specs.Nets.{Net, Instance}
+use Rattle.flow_net.specs.Nets.{Instance}
 use Rattle.flow_net.specs.Limits.{IsNet, IsProblem}
 use Rattle.flow_net.specs.Arrangements.{IsArranged}
 use Rattle.flow_net.specs.Namings.{AreInverse}

@@ -27,7 +27,7 @@ fi
 crates=$(sed -n -e 's/^\([a-z_]*\):.*/\1/p' -e '/^flow$/q' crates.txt)
 count=$(wc -l <<< "$crates")
 cat >&2 <<TEXT
-Proving and building flow, since nothing is built that isn't proved. From nothing this takes five to ten minutes
+Proving and building flow, since nothing is built that isn't proved. From nothing this takes ten to fifteen minutes
 on four cores, and two to three gigabytes of memory; what an earlier run has proved is kept, and taken up.
 TEXT
 

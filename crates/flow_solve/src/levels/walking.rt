@@ -41,7 +41,7 @@ fn least_on(net: &Network, flow: &mut FlowTable, path: &[u32]) -> (u32, u64)
 }
 
 /// Pushes an amount through each half-arc of a path.
-pub(crate) fn push_over(net: &Network, flow: &mut FlowTable, path: &[u32], amount: u64)
+fn push_over(net: &Network, flow: &mut FlowTable, path: &[u32], amount: u64)
     requires fits { Fits net.now flow.old.flows }
     requires halves { All (λ h. h < 2 * length net.now.arcs) path.now }
     requires apart { IsApart path.now }

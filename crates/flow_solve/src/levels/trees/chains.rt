@@ -146,93 +146,41 @@ fn is_root(cells: &[u32], terminals: &[u32], node: u32) -> bool
     place < terminals.len() && terminals[place] == node
 }
 
-/// The least that remains on a path, and where.
-#[derive(Clone, Copy)]
-pub(crate) struct Bottleneck {
-    /// The least, or 0 where nothing can be pushed along the path.
-    pub amount: u64,
-    /// The first place on the path where so little remains.
-    pub first: usize,
-    /// One more than the last such place.
-    pub end: usize,
-}
-
-impl Bottleneck {
-    /// The bottleneck of the path with one more half-arc, on which so much remains.
-    fn with(self, place: usize, room: u64) -> Bottleneck
-        requires place { place < 2 ^ 63 }
-        ensures below { result.amount ≤ self.amount }
-        ensures within { result.amount ≤ room }
-    {
-        if room < self.amount {
-            Bottleneck {
-                amount: room,
-                first: place,
-                end: place + 1,
-            }
-        } else if room == self.amount {
-            Bottleneck {
-                amount: room,
-                first: self.first,
-                end: place + 1,
-            }
-        } else {
-            self
-        }
-    }
-}
-
-/// The bottleneck of what is no path.
-const CLOSED: Bottleneck = Bottleneck {
-    amount: 0,
-    first: 0,
-    end: 0,
-};
-
 /// The least that remains on a path, or 0 where it isn't a path from a source to a sink along which keys rise: each
 /// half-arc of it is looked at.
-pub(crate) fn room_along(
-    task: Task<'_>,
-    flow: &mut FlowTable,
-    cells: &[u32],
-    path: &[u32],
-) -> Bottleneck
+pub(crate) fn room_along(task: Task<'_>, flow: &mut FlowTable, cells: &[u32], path: &[u32]) -> u64
     requires task { IsTask task }
     requires size { 4 * task.packed.net.now.nodes ≤ length cells.now }
     requires fits { Fits task.packed.net.now flow.old.flows }
-    ensures room { 1 ≤ result.amount → Augments task.entry flow.old.flows path.now result.amount }
+    ensures room { 1 ≤ result → Augments task.entry flow.old.flows path.now result }
     ensures looks { OnlyLooks flow.old flow.new (length path.now) }
 {
     let net = task.packed.net;
     let halves = task.packed.halves;
     if path.is_empty() || path[0] as usize >= halves.len() {
-        return CLOSED;
+        return 0;
     }
     let source = tail(net, path[0]);
     let mut node = source;
     let mut rank = key(cells[label_cell(source)]);
-    let mut least = Bottleneck {
-        amount: u64::MAX,
-        first: 0,
-        end: 0,
-    };
+    let mut least = u64::MAX;
     for i in 0..path.len() {
         let half = path[i];
         if half as usize >= halves.len() || tail(net, half) != node {
-            return CLOSED;
+            return 0;
         }
         let (next, room) = flow.look(net, half);
         let above = key(cells[label_cell(next)]);
         if above <= rank {
-            return CLOSED;
+            return 0;
         }
-        least = least.with(i, room);
+        least = least.min(room);
         node = next;
         rank = above;
     }
     if is_root(cells, task.s, source) && is_root(cells, task.t, node) {
         least
     } else {
-        CLOSED
+        0
     }
 }

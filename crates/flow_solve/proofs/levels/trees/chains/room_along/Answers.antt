@@ -29,17 +29,17 @@ loop-i-preserved c =
       };
       node = look.is_node;
       rank = sym high;
-      ahead = λ d w l r. old.ahead d w (omega (arith, l, c.with-least.ensures.below))
+      ahead = λ d w l r. old.ahead d w (omega (arith, l, c.min-least.ensures))
           (rising_more path c.loop-i.i (omega (arith, c.loop-i-test.true)) inside
           (omega (arith, c.tail.ensures.tail, c.if-tail-node.false)) look.head
           (omega (arith, old.rank, high, c.if-above-rank.false))
-          (omega (arith, l, c.with-least.ensures.within, look.residual, same)) r);
+          (omega (arith, l, c.min-least.ensures, look.residual, same)) r);
     }
 
 pub returns-then-is_root-2-clause-room : goal.returns-then-is_root-2-clause-room
 returns-then-is_root-2-clause-room c = λ some.
     let old = c.loop-i.invariant in let net = c.args.task.packed.net.now in let path = c.args.path.now in
-    let cells = c.args.cells.now in let xs = c.args.flow.now.flows in let least = c.loop-i.least.amount in
+    let cells = c.args.cells.now in let xs = c.args.flow.now.flows in let least = c.loop-i.least in
     record {
       level = level_by cells;
       source = c.tail-source.result;

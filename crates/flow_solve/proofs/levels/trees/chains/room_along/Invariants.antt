@@ -13,7 +13,7 @@ invariant-loop-i l = record {
   looks : OnlyLooks l.fn.flow l.flow l.i;
   node : IsNode l.task.packed.net.now l.node;
   rank : l.rank ≡ level_by l.cells l.node;
-  ahead : (d w : ℕ) → d ≤ l.least.amount
+  ahead : (d w : ℕ) → d ≤ l.least
       → IsRising l.task.packed.net.now (level_by l.cells) l.fn.flow.flows d l.node (drop l.i l.path) w
       → IsRising l.task.packed.net.now (level_by l.cells) l.fn.flow.flows d l.source l.path w;
 }

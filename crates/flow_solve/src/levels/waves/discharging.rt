@@ -3,8 +3,7 @@
 ghost use Rattle.std.specs.Prelude.{◌≡◌, ◌+◌, ◌-◌, ◌*◌, ◌<◌, ◌≤◌, length};
 ghost use Rattle.flow_net.specs.Nets.{IsNode};
 ghost use Rattle.flow_net.specs.Flows.{Fits};
-ghost use Rattle.flow_solve.specs.residual.Packs.{IsPacked};
-ghost use Rattle.flow_solve.specs.residual.Packs.{degree_of};
+ghost use Rattle.flow_solve.specs.residual.Packs.{IsPacked, halves_of};
 ghost use Rattle.flow_solve.specs.Steps.{OnlyLooks, PaysLooks, PaysSteps, TakesSteps};
 
 use crate::levels::spending::spend;
@@ -151,7 +150,7 @@ fn nearest(
     requires packed { IsPacked packed.net.now packed.first.now packed.halves.now }
     requires cells { length cells.now ≡ 5 * packed.net.now.nodes }
     requires node { IsNode packed.net.now sender.node }
-    ensures looks { OnlyLooks flow.old flow.new (degree_of packed.entry sender.node) }
+    ensures looks { OnlyLooks flow.old flow.new (halves_of packed.entry (sender.node - 1)) }
 {
     let begin = packed.first[sender.node as usize - 1];
     let end = packed.first[sender.node as usize];

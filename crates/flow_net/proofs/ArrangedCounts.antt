@@ -52,7 +52,8 @@ module _ (net other : Net) (names places : List ℕ) (a : IsArranged net other n
   both_leave : (p q p' q' : Bool) → p ≡ p' → q ≡ q' → p && not q ≡ p' && not q'
   both_leave p q p' q' e f = cc
 
-  both_cross : (p q p' q' : Bool) → p ≡ p' → q ≡ q' → ((p && not q) || (q && not p)) ≡ ((p' && not q') || (q' && not p'))
+  both_cross : (p q p' q' : Bool) → p ≡ p' → q ≡ q'
+      → ((p && not q) || (q && not p)) ≡ ((p' && not q') || (q' && not p'))
   both_cross p q p' q' e f = cc
 
   -- the arcs that leave a set, and those that leave the set of its names

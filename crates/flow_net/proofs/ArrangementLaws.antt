@@ -137,7 +137,8 @@ module _ (net other : Net) (names places : List ℕ) (a : IsArranged net other n
 
     -- ---- cuts
 
-    pub named_cut : (X Y : ℕ → Bool) → ((v : ℕ) → IsNode net v → Y (named names v) ≡ X v) → IsCut (one_of s) (one_of t) X
+    pub named_cut : (X Y : ℕ → Bool) → ((v : ℕ) → IsNode net v → Y (named names v) ≡ X v)
+        → IsCut (one_of s) (one_of t) X
         → IsCut (one_of (all_named names s)) (one_of (all_named names t)) Y
     named_cut X Y h c = record {
       sources = λ w i.

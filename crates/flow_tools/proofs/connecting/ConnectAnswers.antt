@@ -13,7 +13,8 @@ use Rattle.std.specs.Prelude.{if◌then◌else◌}
 use Rattle.flow_net.specs.LeastCuts.{IsConnectivity, IsPairConnectivity}
 use Rattle.flow_net.proofs.Connections.{undirected, undirected_pair, connectivity_of_unit, pair_of_unit}
 use Rattle.flow_net.proofs.ArrangementLaws.{named_cut, unnamed_cut}
-use Rattle.flow_net.proofs.ArrangedCounts.{leaving_agrees, crossing_agrees, named_proper, unnamed_proper, least_restored}
+use Rattle.flow_net.proofs.ArrangedCounts.{leaving_agrees, crossing_agrees, least_restored}
+use Rattle.flow_net.proofs.ArrangedCounts.{named_proper, unnamed_proper}
 use Rattle.flow_tools.specs.declared.solving.arranging.Lists.{Lists}
 use Rattle.flow_tools.specs.running.Answers.{IsSeparating}
 use Rattle.flow_tools.specs.solving.ArrangedProblems.{IsArrangedBy, IsSameOrArranged}

@@ -105,8 +105,8 @@ pub(crate) fn arrange_problem(
     Ok(Problem::new(net, sources, sinks))
 }
 
-/// Arranges a problem whose arcs come in no order, for an answer that speaks of no node and no arc. The memory that this
-/// takes is free again afterwards.
+/// Arranges a problem whose arcs come in no order, for an answer that speaks of no node and no arc. The memory that
+/// this takes is free again afterwards.
 pub(crate) fn arrange_if_scattered(alloc: Global, problem: Problem) -> Result<Problem, OutOfMemory>
     ensures { IfOk result (IsSameOrArranged problem) }
 {

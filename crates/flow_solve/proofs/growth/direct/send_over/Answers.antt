@@ -20,8 +20,8 @@ returns-clause-raised c =
     let low = at.0 in let high = at.1 in
     let is : over ≡ crossed dir half = c.cross-over.ensures in
     let tail : tail_of net half ≡ slice_index order k =
-    group_tail net half (slice_index order k - 1) c.requires.turn.packed.limits c.requires.half c.requires.own (omega arith)
-    ∙ omega arith in
+    group_tail net half (slice_index order k - 1) c.requires.turn.packed.limits c.requires.half c.requires.own
+    (omega arith) ∙ omega arith in
     let near : near_end dir net over ≡ slice_index order k =
     ap (near_end dir net) is ∙ near_crossed dir net half ∙ tail in
     let far : before order k (far_end dir net over) ≡ true =

@@ -42,7 +42,8 @@ returns-clause-steps c =
     let net = c.args.phase.packed.net.now in
     let rank = c.args.phase.rank.now in
     let halves = c.args.phase.packed.halves.now in
-    let paid = phase_paid (length net.arcs) (3 * (net.nodes - 1)) c.args.flow.now.steps c.walk_from_sources.new.flow.steps _ _ _
+    let paid = phase_paid (length net.arcs) (3 * (net.nodes - 1)) c.args.flow.now.steps
+    c.walk_from_sources.new.flow.steps _ _ _
     (to_fill_most net (cell_of rank) (place_of halves) (cell_of c.copy_from_slice.new.self) c.args.flow.now.flows)
     (left_most net (cell_of rank) (place_of halves) (cell_of c.copy_from_slice.new.self) any)
     c.walk_from_sources.ensures.steps in

@@ -154,8 +154,8 @@ overflow_add-current c =
     let node = c.tail-node.ensures.node in let net = c.args.phase.packed.net.now in
     let place = c.admissible.ensures.looked.places c.tail-node.result node in
     let most = c.requires.run.packed.most c.tail-node.result (omega (arith, node)) in
-    omega
-    (arith, place, most, cell_at c.admissible.new.current c.tail-node.result node.0, c.requires.run.packed.limits.arcs_most)
+    let cell = cell_at c.admissible.new.current c.tail-node.result node.0 in
+    omega (arith, place, most, cell, c.requires.run.packed.limits.arcs_most)
 
 -- the turn that goes back
 pub turns-smaller : goal.turns-smaller
@@ -182,8 +182,8 @@ turns-preserved c =
     let inner = no_sink_here net c.args.phase.t.now c.args.phase.dist.now c.turns.node c.requires.run.sinks
     old.turning.node c.if-phase-node-eq0.false in
     let back = turning_retreat old.turning c.admissible.new.flow.steps (c.turns.depth - 1)
-    (omega (arith, c.if-depth-eq0.false)) c.requires.run.packed.limits c.requires.run.packed inner c.admissible.ensures.looked
-    c.in_default.ensures.none (omega (arith, c.in_default.ensures.steps_none)) in
+    (omega (arith, c.if-depth-eq0.false)) c.requires.run.packed.limits c.requires.run.packed inner
+    c.admissible.ensures.looked c.in_default.ensures.none (omega (arith, c.in_default.ensures.steps_none)) in
     let node = c.tail-node.ensures.node in
     let y = c.tail-node.result in
     let o = set_next c.admissible.new.current c.tail-node.result node.0 (omega (arith, node, found.looked.size)) in

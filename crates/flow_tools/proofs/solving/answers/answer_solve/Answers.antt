@@ -8,7 +8,9 @@ use Rattle.flow_tools.proofs.solving.answers.answer_solve.Goals as goal
 pub returns : goal.returns
 returns g c =
     let p = c.args.problem in let solved = c.in_ok-solved.solved in
-    let put = rw (c.net.ensures.net, c.in_ok-solved.ensures.problem, c.as_slice.ensures.value, c.into_flows-flows.ensures)
+    let same = c.in_ok-solved.ensures.problem in
+    let put = rw (c.net.ensures.net, same, c.as_slice.ensures.value, c.into_flows-flows.ensures)
     at c.put_solution.ensures in
-    rw c.if-value_only.false (c.ended.ensures (Solve false) p [] (solve_text false p.net solved.value solved.table.flows) _
+    let text = solve_text false p.net solved.value solved.table.flows in
+    rw c.if-value_only.false (c.ended.ensures (Solve false) p [] text _
     (solves p false solved.value solved.table.flows c.in_ok-solved.ensures.solved) put)

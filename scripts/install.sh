@@ -27,8 +27,8 @@ fi
 crates=$(sed -n -e 's/^\([a-z_]*\):.*/\1/p' -e '/^flow$/q' crates.txt)
 count=$(wc -l <<< "$crates")
 cat >&2 <<TEXT
-Proving and building flow, since nothing is built that isn't proved. From nothing this takes ten to fifteen minutes
-on four cores, and two to three gigabytes of memory; what an earlier run has proved is kept, and taken up.
+Proving and building flow, since nothing is built that isn't proved. From nothing this takes some fifteen minutes
+on four cores, and up to six gigabytes of memory; what an earlier run has proved is kept, and taken up.
 TEXT
 
 { # The rest is read at once, so that a change of this file while the proof goes on does no harm.

@@ -222,7 +222,8 @@ class Report:
         """How it was measured, in a paragraph."""
         versions = dict.fromkeys(f'{solver.name} {solver.version}'.strip() for solver in (
             self.found.own, *self.found.others, *self.found.compared_solvers))
-        stop = ('' if self.given.night else 'ten times the fastest solver before it and one second more, at most at ')
+        stop = '' if self.given.night else (
+            'ten times the fastest solver before it or three times the fastest other, and one second more, at most at ')
         return (f'Run of {self.date} on {self.machine}. Seed {self.given.seed}; seconds of the processor (user and '
                 f'system), the least of {self.given.repeat} runs in turn, or of as many as begin within '
                 f'{60 if self.given.night else 1} seconds. A solver is stopped at {stop}{self.given.limit:.0f} '

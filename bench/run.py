@@ -33,6 +33,8 @@ import solvers  # noqa: E402
 SIZES = {'tiny': (200, 60), 'small': (50000, 10000), 'medium': (500000, 100000), 'large': (3000000, 1000000)}
 # The nodes of the networks on which connect is compared: the time of the others grows by the square.
 COMPARED = 1000
+# How many times the fastest other's time a solver may take and still come near it.
+NEAR = 3
 # Runs begin while a solver has taken less than this on a problem, in seconds.
 ENOUGH = 1
 # No problem is begun where less is left of the time, in seconds: for one large problem and the counts of instructions.
@@ -114,23 +116,27 @@ class Bench:
                 sys.exit('a problem could not be made')
 
     def contenders(self, family, order, others):
-        """The solvers that may be the fastest other: after a smaller size those that came near, three at most; of a
-        night all that weren't stopped there."""
+        """The solvers that may be the fastest other, the likeliest first: after a smaller size, and for a photograph
+        after the other order, those that came near, three at most; of a night all that weren't stopped there."""
         before = self.before.get((family, order))
+        if before is None and family in generate.PHOTOGRAPHS and not self.given.night:
+            before = self.before.get((family, generate.ORDERS[0]))
         fastest = before.fastest_other() if before else None
         if self.given.night and before:
             return [solver for solver in others if solver.name not in before.stopped]
         if fastest is None:
             return others
-        near = sorted((before.times[solver.name], solver.name) for solver in others if solver.name in before.times
-                      and before.times[solver.name] <= 3 * fastest[0])
-        names = {name for _, name in near[:3]}
-        return [solver for solver in others if solver.name in names]
+        near = [solver for solver in others if before.times.get(solver.name, math.inf) <= NEAR * fastest[0]]
+        return sorted(near, key=lambda solver: before.times[solver.name])[:3]
 
     def limit(self, problem):
-        """The seconds after which a solver is stopped: ten times the fastest so far, and one more."""
+        """The seconds after which a solver is stopped: ten times the fastest so far, or three times the fastest other,
+        and one more."""
+        if self.given.night:
+            return self.given.limit
         fastest = min(problem.times.values(), default=math.inf)
-        return self.given.limit if self.given.night else min(self.given.limit, 10 * fastest + 1)
+        other = (problem.fastest_other() or (math.inf,))[0]
+        return min(self.given.limit, 10 * fastest + 1, NEAR * other + 1)
 
     def measure(self, problem, own, others):
         """Runs the solvers in turn, as often as asked; no more one that has taken long enough, or that took twice the

@@ -81,6 +81,7 @@ pub(crate) fn arrange_problem(
 {
     let (mut net, mut sources, mut sinks) = problem.into_parts();
     let n = net.nodes() as usize;
+    let m = net.len() as usize;
     let found = name_nodes(
         &net,
         sinks.as_slice(),
@@ -92,12 +93,14 @@ pub(crate) fn arrange_problem(
         return Err(Problem::new(net, sources, sinks));
     }
     let names = lists.names.as_slice();
-    let (counts, _) = work.split_at_mut(n);
+    let (counts, rest) = work.split_at_mut(n);
+    let (stands, _) = rest.split_at_mut(m);
     arrange(
         &mut net,
         names,
         lists.places.as_mut_slice(),
         lists.spots.as_mut_slice(),
+        stands,
         counts,
     );
     rename_all(&mut sources, names);

@@ -7,7 +7,7 @@
 //!    *stamp*, the time when its parents were last known to lead to a root. Where the trees touch, an augmenting path
 //!    is pushed through. A node whose half-arc to its parent was filled is an *orphan*: it is *adopted* by the nearest
 //!    node of its tree whose parents lead to a root, or else comes free, with its children as orphans in turn. So no
-//!    search begins anew. The trees end by themselves where they bring little for what they take: they may take 8 steps
+//!    search begins anew. The trees end by themselves where they bring little for what they take: they may take 4 steps
 //!    for each arc at first, and 24 more for each half-arc of a path that flow is pushed along, since repairs cost the
 //!    more the longer paths are. That serves where the first paths are short and most of a tree outlives a push:
 //!    images, assignments, closures.

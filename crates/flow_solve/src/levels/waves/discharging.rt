@@ -27,6 +27,17 @@ struct Sender {
     backwards: bool,
 }
 
+/// The most half-arcs that count towards the next search when a node passes its own: a hub passes thousands side by
+/// side in less time than a search takes for as many, and would bring one search after the other.
+const COUNTED: u32 = 16;
+
+/// Counts half-arcs that a node has passed towards the next search.
+fn count_passed(wave: &mut Wave, passed: u32)
+    ensures { wave.new.left ≡ wave.old.left }
+{
+    wave.fuel = wave.fuel.saturating_sub(u64::from(passed.min(COUNTED)));
+}
+
 /// The place of a half-arc among those side by side, by how many come before it on the way through them.
 fn spot_of(begin: u32, end: u32, step: u32, backwards: bool) -> u32
     requires { begin + step < end }
@@ -123,7 +134,6 @@ fn pass(
     if !spend(&mut wave.left, 1 + 2 * ahead) {
         return amount;
     }
-    wave.fuel = wave.fuel.saturating_sub(ahead);
     let nearer = cells[level_cell(sender.node)].saturating_sub(1);
     let mut rest = amount;
     let mut step = from;
@@ -134,16 +144,19 @@ fn pass(
         }
         step += 1;
     }
+    count_passed(wave, step - from);
     rest
 }
 
 /// The least level below a ceiling that a sender's half-arcs lead to where something remains, and how many half-arcs
-/// come before the first one that leads there; the ceiling where there is none.
+/// come before the first one that leads there; the ceiling where there is none. The sender's own level is enough: it is
+/// stuck, so none leads nearer.
 fn nearest(
     packed: Packed<'_>,
     flow: &mut FlowTable,
     cells: &[u32],
     sender: Sender,
+    own: u32,
     ceiling: u32,
 ) -> (u32, u32)
     requires fits { Fits packed.net.now flow.old.flows }
@@ -164,6 +177,9 @@ fn nearest(
                 least = level;
                 found = step;
             }
+        }
+        if least <= own {
+            break;
         }
     }
     (least, found)
@@ -202,12 +218,18 @@ fn lift(
 {
     let nodes = packed.net.nodes();
     let degree = packed.first[sender.node as usize] - packed.first[sender.node as usize - 1];
+    let own = get(cells, level_cell(sender.node));
     if !leave_level(cells, nodes, wave, sender.node) || !spend(&mut wave.left, u64::from(degree)) {
         return None;
     }
-    wave.fuel = wave.fuel.saturating_sub(u64::from(degree));
     let ceiling = wave.ceiling.saturating_sub(1);
-    let (least, found) = nearest(packed, flow, cells, sender, ceiling);
+    let (least, found) = nearest(packed, flow, cells, sender, own, ceiling);
+    let passed = if least <= own {
+        found.saturating_add(1)
+    } else {
+        degree
+    };
+    count_passed(wave, passed);
     if least >= ceiling {
         return None;
     }

@@ -12,7 +12,7 @@ use crate::residual::cells::{get, put};
 pub(super) struct Wave {
     /// What may still be done: steps, and half-arcs that are passed by.
     pub left: u64,
-    /// How many half-arcs may still be passed before the next search.
+    /// How many half-arcs that count may still be passed before the next search.
     pub fuel: u64,
     /// Which nodes pass their half-arcs from the last to the first: the odd ones where this is even, and the even ones
     /// where it is odd.

@@ -22,7 +22,8 @@ pub(super) const BARRED: u32 = FAR - 1;
 /// How many levels beyond the farthest excess a wave may lift.
 const SLACK: u32 = 2;
 
-/// How many times the number of arcs a wave passes half-arcs before the next search.
+/// How many times the number of arcs a wave passes half-arcs before the next search; of what a node passes at once, few
+/// count.
 const FUEL: u64 = 4;
 
 /// Takes their levels from all nodes, and their nodes from all levels. Answers how many nodes have excess.

@@ -22,7 +22,7 @@ pub trait Method {
     /// How many steps it takes at most, for each network.
     ghost steps_bound: { Net → ℕ };
 
-    /// Some number of steps, no greater than that.
+    /// How many steps a quicker way may be tried for before this one is called: no more than the bound.
     fn spare_steps(net: &Network) -> u64
         ensures { result ≤ steps_bound net.now };
 

@@ -17,7 +17,8 @@ use crate::growth::turns::{Budgeted, Turn, send_along};
 use crate::residual::half_arcs::{cross, far, head, near};
 use flow_net::{FlowTable, MOST_NODES};
 
-/// How many times as many nodes as were seen when a search last came to a terminal it goes through at most.
+/// A search that comes to no further terminal ends when it has gone through this many times the nodes that it had seen
+/// at the last one.
 const PATIENCE: u32 = 4;
 
 /// How far a search by branches has come.

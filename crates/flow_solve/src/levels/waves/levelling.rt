@@ -109,7 +109,7 @@ fn goes_on(wave: Wave, nodes: u32, level: u32) -> bool {
         && (wave.seen < wave.wanted || level <= wave.farthest.saturating_add(SLACK))
 }
 
-/// Goes on from the nodes in the queue, the first first.
+/// Goes on from the nodes in the queue, in the order in which they came into it.
 fn scan_all(packed: Packed<'_>, flow: &mut FlowTable, cells: &mut [u32], wave: &mut Wave)
     requires fits { Fits packed.net.now flow.old.flows }
     requires packed { IsPacked packed.net.now packed.first.now packed.halves.now }

@@ -5,9 +5,10 @@ usage: generate.py FAMILY SIZE [SEED] [--shuffle] > FILE
        generate.py FAMILY SIZE SEED --into FOLDER
 
 SIZE is a target, the number of arcs, of a network for 'connect' that of its nodes: a family picks its dimensions to
-come near it, and stays within the limits of a problem. A photograph has the size that it has. With --shuffle the nodes
-are renamed and the arcs reordered at random; with --into both orders are written into files of the folder. Equal words
-give equal files. With no words it lists the families.
+come near it, and stays within the limits of a problem. A photograph has the size that it has, and so have the packages
+that apt lists. With --shuffle the nodes are renamed and the arcs reordered at random; with --into both orders are
+written into files of the folder. Equal words give equal files, but for the packages of another day. With no words it
+lists the families.
 """
 import argparse
 import gc
@@ -21,6 +22,7 @@ sys.path.insert(0, str(Path(__file__).resolve().parent))
 import grids  # noqa: E402
 import links  # noqa: E402
 import networks  # noqa: E402
+import packages  # noqa: E402
 
 # The limits of a problem, and how many lines are written in one piece.
 NODES, ARCS = 1000000, 4000000
@@ -69,6 +71,11 @@ FLOWS = {
 PHOTOGRAPHS = {f'photograph-{name}-{neighbours}':
                lambda rand, arcs, name=name, neighbours=neighbours: grids.photograph(name, neighbours)
                for name in grids.STROKES for neighbours in (4, 8) if (grids.PHOTOGRAPHS / f'{name}.png').exists()}
+PACKAGES = {
+    'packages-sections': lambda rand, arcs: packages.sections(),
+    'packages-mirror': lambda rand, arcs: packages.mirror(),
+    'packages-densest': lambda rand, arcs: packages.densest(),
+} if packages.are_there() else {}
 CONNECTIVITY = {
     'grid': links.grid,
     'small-world': links.small_world,
@@ -80,7 +87,9 @@ CONNECTIVITY = {
     'ring-with-chords': links.ring_with_chords,
     'ring': links.ring,
 }
-FAMILIES = {**FLOWS, **PHOTOGRAPHS, **CONNECTIVITY}
+# The problems that were found and not made: these have one size.
+REAL = {**PHOTOGRAPHS, **PACKAGES}
+FAMILIES = {**FLOWS, **REAL, **CONNECTIVITY}
 
 
 def lines_of(arcs):
@@ -148,7 +157,7 @@ def main():
     given = options()
     if given is None:
         print(__doc__, 'Flows: ' + ' '.join(FLOWS), 'Photographs: ' + ' '.join(PHOTOGRAPHS),
-              'Connectivity: ' + ' '.join(CONNECTIVITY), sep='\n')
+              'Packages: ' + ' '.join(PACKAGES), 'Connectivity: ' + ' '.join(CONNECTIVITY), sep='\n')
         return 2
     gc.disable()
     what = given.family, given.size, given.seed

@@ -33,15 +33,16 @@ def table(head, rows, numbers):
 
 
 class Measured:
-    """All that a run measured: problems of flows, photographs, networks on which connect is compared, and those on
-    which it is seen to grow; with the solvers of flows and of connectivity besides flow."""
+    """All that a run measured: problems of flows that were made, and real ones (photographs and packages), networks on
+    which connect is compared, and those on which it is seen to grow; with the solvers of flows and of connectivity
+    besides flow."""
 
     def __init__(self, own, others, compared_solvers):
         self.own = own
         self.others = others
         self.compared_solvers = compared_solvers
         self.flows = []
-        self.photographs = []
+        self.real = []
         self.compared = []
         self.growth = []
         self.left_out = 0
@@ -114,7 +115,7 @@ class Report:
         self.machine = machine
         self.date = date
         self.instructions = instructions
-        self.solved = found.flows + found.photographs
+        self.solved = found.flows + found.real
 
     def summary(self):
         """First of all: the mean, how many families flow is behind on, and the worst."""
@@ -145,12 +146,12 @@ class Report:
         return [problem for problem in problems if problem.size == size and problem.order == order]
 
     def groups(self):
-        """The table of groups: each size of flows, the photographs and the networks of connect, in each order."""
+        """The table of groups: each size of flows, the real problems and the networks of connect, in each order."""
         rows = []
-        for problems, kind in ((self.found.flows, 'solve, {} arcs'), (self.found.photographs, 'solve, {}'),
+        for problems, kind in ((self.found.flows, 'solve, {} arcs'), (self.found.real, 'solve, {}'),
                                (self.found.compared, 'connect, {} nodes')):
             for size in self.sizes(problems):
-                for order in self.orders(problems):
+                for order in self.orders([problem for problem in problems if problem.size == size]):
                     label = kind.format(size if isinstance(size, str) else thousands(size))
                     rows.append(Group(self.of(problems, size, order)).row(label, order))
         return table(['Problems', 'Order', 'flow over fastest other', 'Behind on', 'Worst'], rows, 0)
@@ -239,8 +240,9 @@ class Report:
         for each in self.sizes(found.flows):
             yield f'Seconds, {thousands(each)} arcs wanted', self.figures(
                 [problem for problem in found.flows if problem.size == each], solvers, lambda problem: problem.times)
-        if found.photographs:
-            yield 'Seconds, photographs', self.figures(found.photographs, solvers, lambda problem: problem.times)
+        if found.real:
+            yield 'Seconds, photographs and packages', self.figures(
+                found.real, solvers, lambda problem: problem.times)
         yield f'Seconds of the search alone, {size}', self.figures(middle, solvers, lambda problem: problem.searches)
         yield f'Memory at the peak in MiB, {size}', self.figures(
             middle, solvers, lambda problem: problem.peaks, lambda peak: f'{peak / 1024:.0f}')

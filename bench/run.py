@@ -5,8 +5,8 @@ With no option it proves and builds flow (minutes, unless that is done), makes t
 left of twenty minutes, and prints the tables; with --write it puts the tables and the picture into docs/BENCHMARKS.md,
 docs/benchmarks.svg and README.md. With --night no time is set, and every solver runs. Debian's packages of the other
 solvers: liblemon-utils, glpk-utils, python3-igraph, python3-networkx, python3-scipy, libmaxflow-dev and
-libboost-graph-dev with g++; of the photographs python3-skimage. The values of all solvers must agree: where two differ,
-the status is 1.
+libboost-graph-dev with g++; of the photographs python3-skimage. The packages are those that apt lists. The values of all
+solvers must agree: where two differ, the status is 1.
 """
 import argparse
 import concurrent.futures
@@ -116,10 +116,10 @@ class Bench:
                 sys.exit('a problem could not be made')
 
     def contenders(self, family, order, others):
-        """The solvers that may be the fastest other, the likeliest first: after a smaller size, and for a photograph
-        after the other order, those that came near, three at most; of a night all that weren't stopped there."""
+        """The solvers that may be the fastest other, the likeliest first: after a smaller size, and for what has
+        one size after the other order, those that came near, three at most; of a night all that weren't stopped there."""
         before = self.before.get((family, order))
-        if before is None and family in generate.PHOTOGRAPHS and not self.given.night:
+        if before is None and family in generate.REAL and not self.given.night:
             before = self.before.get((family, generate.ORDERS[0]))
         fastest = before.fastest_other() if before else None
         if self.given.night and before:
@@ -258,9 +258,9 @@ def options():
 
 
 def chosen(given):
-    """The families that are asked for: of flows, photographs and connectivities."""
+    """The families that are asked for: of flows, photographs, packages and connectivities."""
     return [[family for family in families if not given.only or family in given.only]
-            for families in (generate.FLOWS, generate.PHOTOGRAPHS, generate.CONNECTIVITY)]
+            for families in (generate.FLOWS, generate.PHOTOGRAPHS, generate.PACKAGES, generate.CONNECTIVITY)]
 
 
 def measured_parts(bench, flow, version):
@@ -270,23 +270,24 @@ def measured_parts(bench, flow, version):
     def asked(name):
         return name in given.solvers if given.solvers else given.night or name not in solvers.SLOW
 
-    flows, photographs, networks = chosen(given)
+    flows, photographs, packages, networks = chosen(given)
     own = solvers.Solver('flow', version, [flow, 'solve', '--value'])
     others = [*solvers.flow_solvers(asked, given.folder),
               *(solvers.Solver(name, '', shlex.split(command)) for name, command in given.also)]
     connecting = solvers.Solver('flow', version, [flow, 'connect', '--undirected'])
     compared = solvers.connectivity_solvers(asked, given.folder)
     least = min(COMPARED, SIZES[given.sizes[0]][1])
-    photographs = [] if given.sizes == ['tiny'] else photographs
+    photographs, packages = ([], []) if given.sizes == ['tiny'] else (photographs, packages)
     bench.make([(family, SIZES[size][0], given.seed) for size in given.sizes for family in flows]
-               + [(family, 1, given.seed) for family in photographs]
+               + [(family, 1, given.seed) for family in [*photographs, *packages]]
                + [(family, count, given.seed) for family in networks
                   for count in (least, *(SIZES[size][1] for size in given.sizes))])
     found = report.Measured(own, others, compared)
     *smaller, largest = given.sizes
     for size in smaller:
         found.flows += bench.part(flows, SIZES[size][0], SIZES[size][0], own, others)
-    found.photographs = bench.part(photographs, 1, 'photographs', own, others)
+    found.real = bench.part(photographs, 1, 'photographs', own, others)
+    found.real += bench.part(packages, 1, 'packages', own, others)
     found.compared = bench.part(networks, least, least, connecting, compared)
     for size in given.sizes:
         found.growth += bench.part(networks, SIZES[size][1], SIZES[size][1], connecting,

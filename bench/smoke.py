@@ -21,6 +21,7 @@ sys.dont_write_bytecode = True
 
 import generate  # noqa: E402
 import grids  # noqa: E402
+import packages  # noqa: E402
 import report  # noqa: E402
 import run as run_module  # noqa: E402
 import solvers  # noqa: E402
@@ -147,6 +148,61 @@ def photographs(folder):
     del grids.STROKES['halves']
 
 
+# Five packages: 'e' needs 'v', which only 'd' provides; 'd' needs itself, and one that isn't there; 'a' needs 'b' of two.
+LISTING = """Package: a
+Section: gnome
+Installed-Size: 100
+Depends: b (>= 1) | c, e:any
+Description: the first
+ Depends: nothing
+
+Package: b
+Section: libs
+Installed-Size: 4000
+Pre-Depends: c
+
+Package: c
+Section: contrib/kde
+Installed-Size: 9000
+
+Package: d
+Section: kde
+Installed-Size: 12000
+Depends: d, missing
+Provides: v (= 1)
+
+Package: e
+Section: libs
+Installed-Size: 300
+Depends: v
+
+Package: a
+Section: kde
+Depends: d
+"""
+
+
+def listed_packages():
+    """A listing of five packages, whose links and values are found by hand."""
+    known = packages.Listed(LISTING)
+    kept, packages.listed = packages.listed, lambda: known
+    holds('the links of packages are those of their first alternatives and providers',
+          known.links == [(0, 1), (0, 4), (1, 2), (4, 3)])
+    holds('the sections of packages are told without their area',
+          known.sections == ['gnome', 'libs', 'kde', 'kde', 'libs'])
+
+    def value(problem):
+        nodes, source, sink, arcs = problem
+        return greatest_value(arcs, source, sink) if nodes == 7 else None
+
+    holds('two links part the sections', value(packages.sections()) == 2)
+    # Only a is needed by none: it is worth 12,700, and what it needs costs 25,300.
+    holds('no package is worth what it needs', value(packages.mirror()) == packages.WORTH - 100)
+    # No part has more than 11 links a package, so the least cut is the source alone.
+    holds('no part of five packages is dense', value(packages.densest()) == 5 * 10 * 4)
+    packages.listed = kept
+
+
 def several_terminals(folder):
     """The library of Boykov and Kolmogorov on random problems of several sources and sinks, against the plain search
     on the same problem with one source and one sink more, joined to them by ample arcs."""
@@ -264,6 +320,7 @@ def main():
         families(flow, folder)
         within_limits()
         photographs(folder)
+        listed_packages()
         several_terminals(folder)
         ratios()
         runner(flow, folder)

@@ -223,24 +223,30 @@ def communities(rand, arcs):
     return nodes + 2, source, sink, found
 
 
+def denser_part(nodes, pairs, links):
+    """Goldberg 1984: is there a part of a network with more than so many links a node? It is given by its pairs of
+    nodes, in order, and all is in tenths. There is one if the greatest value is less than what leaves the source."""
+    degrees = [0] * nodes
+    for pair in pairs:
+        for node in pair:
+            degrees[node] += 1
+    whole = 10 * len(pairs)
+    source, sink = nodes, nodes + 1
+    found = [arc for node in range(nodes)
+             for arc in ((source, node, whole), (node, sink, whole + 2 * links - 10 * degrees[node]))]
+    found += [arc for one, other in pairs for arc in ((one, other, 10), (other, one, 10))]
+    return nodes + 2, source, sink, found
+
+
 def densest_subgraph(rand, arcs):
-    """Goldberg 1984: is there a part of the network with more than so many links a node? All in tenths."""
+    """Goldberg 1984, on a network some nodes of which have many more links than others."""
     nodes = max(4, arcs // 10)
     pairs = set()
     while len(pairs) < 4 * nodes - 6:
         one, other = int(nodes * rand.random() ** 2.2), int(nodes * rand.random() ** 2.2)
         if one != other:
             pairs.add((min(one, other), max(one, other)))
-    degrees = [0] * nodes
-    for pair in pairs:
-        for node in pair:
-            degrees[node] += 1
-    whole, guess = 10 * len(pairs), 55
-    source, sink = nodes, nodes + 1
-    found = [arc for node in range(nodes)
-             for arc in ((source, node, whole), (node, sink, whole + 2 * guess - 10 * degrees[node]))]
-    found += [arc for one, other in sorted(pairs) for arc in ((one, other, 10), (other, one, 10))]
-    return nodes + 2, source, sink, found
+    return denser_part(nodes, sorted(pairs), 55)
 
 
 def netlist(rand, arcs):

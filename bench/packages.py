@@ -1,13 +1,16 @@
-"""Problems on the packages that apt lists on this machine and on what they depend: networks that nobody drew, with hubs
-on which a third of all packages depend.
+"""Problems on the packages that apt lists on this machine and on what they depend: networks that nobody drew, with
+hubs. A third of all packages depends on the C library.
 
-A package depends on the first of the alternatives that a dependency names; where that is a virtual package, on the first
-one that provides it. With other lists the problems are others, so their sizes stand beside their times.
+A package depends on the first of the alternatives that a dependency names; where that is a virtual package, on the
+first one that provides it; and on nothing where neither is listed. With other lists the problems are others, so their
+sizes stand beside their times.
 """
 import functools
 import re
 import shutil
 import subprocess
+
+import networks
 
 LISTING = ['apt-cache', 'dumpavail']
 FIELDS = ('Package', 'Section', 'Installed-Size', 'Depends', 'Pre-Depends', 'Provides')
@@ -26,7 +29,8 @@ def are_there():
 def records(text):
     """The fields of each package, of those that are used, where they stand on one line."""
     for paragraph in text.split('\n\n'):
-        fields = dict(line.split(': ', 1) for line in paragraph.splitlines() if line.startswith(FIELDS) and ': ' in line)
+        used = (line for line in paragraph.splitlines() if line.startswith(FIELDS) and ': ' in line)
+        fields = dict(line.split(': ', 1) for line in used)
         if 'Package' in fields:
             yield fields
 
@@ -58,7 +62,7 @@ class Listed:
 @functools.lru_cache
 def listed():
     """The packages of this machine."""
-    return Listed(subprocess.run(LISTING, stdout=subprocess.PIPE, text=True, check=True).stdout)
+    return Listed(subprocess.run(LISTING, stdout=subprocess.PIPE, encoding='utf-8', check=True).stdout)
 
 
 def sections(one='gnome', other='kde'):
@@ -87,17 +91,6 @@ def mirror():
 
 
 def densest():
-    """Goldberg 1984: is there a part of all packages with more than so many links a package? All in tenths."""
+    """Goldberg 1984: is there a part of all packages with more than so many links a package?"""
     known = listed()
-    nodes = len(known.sections)
-    source, sink = nodes, nodes + 1
-    pairs = sorted({(min(link), max(link)) for link in known.links})
-    degrees = [0] * nodes
-    for pair in pairs:
-        for package in pair:
-            degrees[package] += 1
-    whole = 10 * len(pairs)
-    found = [arc for package in range(nodes) for arc in (
-        (source, package, whole), (package, sink, whole + 2 * GUESS - 10 * degrees[package]))]
-    found += [arc for one, other in pairs for arc in ((one, other, 10), (other, one, 10))]
-    return nodes + 2, source, sink, found
+    return networks.denser_part(len(known.sections), sorted({(min(link), max(link)) for link in known.links}), GUESS)

@@ -5,8 +5,8 @@ With no option it proves and builds flow (minutes, unless that is done), makes t
 left of twenty minutes, and prints the tables; with --write it puts the tables and the picture into docs/BENCHMARKS.md,
 docs/benchmarks.svg and README.md. With --night no time is set, and every solver runs. Debian's packages of the other
 solvers: liblemon-utils, glpk-utils, python3-igraph, python3-networkx, python3-scipy, libmaxflow-dev and
-libboost-graph-dev with g++; of the photographs python3-skimage. The packages are those that apt lists. The values of all
-solvers must agree: where two differ, the status is 1.
+libboost-graph-dev with g++; of the photographs python3-skimage. The packages are those that apt lists. The values of
+all solvers must agree: where two differ, the status is 1.
 """
 import argparse
 import concurrent.futures
@@ -117,7 +117,8 @@ class Bench:
 
     def contenders(self, family, order, others):
         """The solvers that may be the fastest other, the likeliest first: after a smaller size, and for what has
-        one size after the other order, those that came near, three at most; of a night all that weren't stopped there."""
+        one size after the other order, those that came near, three at most; of a night all that weren't stopped
+        there."""
         before = self.before.get((family, order))
         if before is None and family in generate.REAL and not self.given.night:
             before = self.before.get((family, generate.ORDERS[0]))

@@ -148,7 +148,8 @@ def photographs(folder):
     del grids.STROKES['halves']
 
 
-# Five packages: 'e' needs 'v', which only 'd' provides; 'd' needs itself, and one that isn't there; 'a' needs 'b' of two.
+# Five packages: 'e' needs 'v', which only 'd' provides; 'd' needs itself, and one that isn't there; 'a' needs 'b' of
+# two, and its second record counts for nothing.
 LISTING = """Package: a
 Section: gnome
 Installed-Size: 100

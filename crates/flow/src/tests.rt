@@ -212,19 +212,27 @@ fn help_tells_what_is_read_and_printed(rt: HostRuntime) -> Result<(), Fail> {
 const REFUSED: [(&[&str], &[u8]); 4] = [
     (
         &["flow", "solve", "--dot"],
-        b"error: unexpected argument '--dot' found\n\nUsage: flow solve [OPTIONS] [FILE]\n\nFor more information, try '--help'.\n",
+        b"error: unexpected argument '--dot' found\n\n\
+            Usage: flow solve [OPTIONS] [FILE]\n\n\
+            For more information, try '--help'.\n",
     ),
     (
         &["flow", "cut", "-x"],
-        b"error: unexpected argument '-x' found\n\nUsage: flow cut [OPTIONS] [FILE]\n\nFor more information, try '--help'.\n",
+        b"error: unexpected argument '-x' found\n\n\
+            Usage: flow cut [OPTIONS] [FILE]\n\n\
+            For more information, try '--help'.\n",
     ),
     (
         &["flow", "cut", "--ar"],
-        b"error: unexpected argument '--ar' found\n\n  tip: a similar argument exists: '--arcs'\n\nUsage: flow cut --arcs [FILE]\n\nFor more information, try '--help'.\n",
+        b"error: unexpected argument '--ar' found\n\n  tip: a similar argument exists: '--arcs'\n\n\
+            Usage: flow cut --arcs [FILE]\n\n\
+            For more information, try '--help'.\n",
     ),
     (
         &["flow", "check"],
-        b"error: the following required arguments were not provided:\n  <PROBLEM>\n\nUsage: flow check <PROBLEM> [SOLUTION]\n\nFor more information, try '--help'.\n",
+        b"error: the following required arguments were not provided:\n  <PROBLEM>\n\n\
+            Usage: flow check <PROBLEM> [SOLUTION]\n\n\
+            For more information, try '--help'.\n",
     ),
 ];
 

@@ -6,8 +6,9 @@
 //! one level nearer. A node that is stuck is lifted at once to one more than the nearest node that it leads to, and
 //! goes on (`discharging`). A level from which the last node was lifted away becomes the *ceiling*: nothing there or
 //! farther leads to a sink any more, and what comes there waits for the next search. A wave ends when no excess below
-//! the ceiling is left, or after so many half-arcs that a new search is worth its cost, of those of a hub a few. Every
-//! other node passes its half-arcs from the last to the first, by turns in waves, lest excess drift to one side.
+//! the ceiling is left, or after so many half-arcs that a new search is worth its cost; of a hub's half-arcs only a few
+//! count. Every other node passes its half-arcs from the last to the first, by turns in waves, lest excess drift to one
+//! side.
 //!
 //! In the end the same waves bring home to the sources what no sink takes. A push is held to what a look has shown to
 //! remain; nothing else is claimed of levels, lists and excess: at the end the table is settled (`settling`).

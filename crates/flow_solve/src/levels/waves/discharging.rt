@@ -149,8 +149,8 @@ fn pass(
 }
 
 /// The least level below a ceiling that a sender's half-arcs lead to where something remains, and how many half-arcs
-/// come before the first one that leads there; the ceiling where there is none. The sender's own level is enough: it is
-/// stuck, so none leads nearer.
+/// come before the first one that leads there; the ceiling where there is none. The sender's own level is enough: with
+/// levels as a search gives them none of a stuck node's half-arcs leads nearer.
 fn nearest(
     packed: Packed<'_>,
     flow: &mut FlowTable,

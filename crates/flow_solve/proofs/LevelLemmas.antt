@@ -10,5 +10,5 @@ pub mod Walks
 pub mod Levelled
 pub mod WalkPaths
 pub mod Turning
-pub mod Rising
+pub mod Carried
 pub mod Settled

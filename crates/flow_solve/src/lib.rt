@@ -27,12 +27,8 @@
 //! | `2·m` | the half-arcs, those of a node side by side |
 //! | `1` | spare |
 //!
-//! The search trees, with which [`Levels`] begins, have the first `5·n` of these cells for themselves:
-//!
-//! | Cells | What they hold |
-//! |---|---|
-//! | `4·n` | for each node side by side: its label, the half-arc to its parent, its stamp, the next active node |
-//! | `n` | while flow is pushed, the half-arcs of the path |
+//! The search trees, with which [`Levels`] begins, have the first `4·n` of these cells for themselves: for each node
+//! side by side its label, the half-arc to its parent, its stamp, and the next active node.
 //!
 //! A *label* is twice one more than the node's distance from its root when that was last looked at, and 1 more in the
 //! tree of the sinks; a free node has 0. A *stamp* is the time when the node's parents were last known to lead to a

@@ -1,33 +1,26 @@
--- Two search trees: the paths that are tested before flow is pushed along them. Nothing is claimed of the trees
--- themselves.
-use Rattle.std.specs.Prelude.{ℕ, ◌-◌, ◌%◌, ◌<◌, ◌==◌, if◌then◌else◌, List, IsTrue}
-use Rattle.std.specs.List.{AllByRecursion}
+-- Two search trees: what is pushed along their chains of parents. Nothing is claimed of the trees themselves.
+use Rattle.std.specs.Prelude.{◌≡◌, ℕ, ◌+◌, Bool, if◌then◌else◌, List}
 use Rattle.flow_net.specs.Nets.{Net}
-use Rattle.flow_net.specs.NodeSets.{one_of}
-use Rattle.flow_net.specs.Residual.{tail_of, head_of}
-use Rattle.flow_net.specs.Paths.{IsPath, HasRoom}
-use Rattle.flow_solve.specs.declared.task.Task.{Task}
-use Rattle.flow_solve.specs.declared.residual.searching.TheConstants.{FAR}
+use Rattle.flow_net.specs.Flows.{out_of, into, Fits, HasNoLoops}
+use Rattle.flow_solve.specs.declared.residual.half_arcs.Direction.{Direction}
+use Rattle.flow_solve.specs.declared.residual.half_arcs.Direction.TheVariants.{Forwards, Backwards}
+use Rattle.flow_solve.specs.residual.HalfArcs.{twin_of}
 
--- a number that rises along a path through the trees, from a label: labels of the sources' tree are even
-abbrev pub key_of : ℕ → ℕ
-key_of label = if label % 2 == 0 then label else FAR - label
+-- So much more is under way from one node to another: what leaves a set less what enters it is so much more where the
+-- set has the first, and so much less where it has the second.
+pub record IsCarried (net : Net) (d u w : ℕ) (xs ys : List ℕ) : Type 0 where
+  pub fits : Fits net ys
+  pub moved : (X : ℕ → Bool)
+      → out_of X net.arcs ys + into X net.arcs xs + (if X w then d else 0)
+      ≡ out_of X net.arcs xs + into X net.arcs ys + (if X u then d else 0)
+  pub no_loops : HasNoLoops net xs → HasNoLoops net ys
 
--- a path on each half-arc of which so much remains, along which a number of the nodes rises
-pub record IsRising (net : Net) (level : ℕ → ℕ) (xs : List ℕ) (d u : ℕ) (path : List ℕ) (w : ℕ) : Type 0 where
-  pub leads : IsPath net u path w
-  pub room : HasRoom net xs d path
-  pub rises : AllByRecursion (λ h. level (tail_of net h) < level (head_of net h)) path
+-- the half-arc through which a node is supplied, given the one that leads to its parent
+abbrev pub supplied_by : Direction → ℕ → ℕ
+supplied_by Forwards h = twin_of h
+supplied_by Backwards h = h
 
--- such a path from a source to a sink
-pub record IsAugmenting (net : Net) (s t : List ℕ) (xs path : List ℕ) (d : ℕ) : Type 0 where
-  pub level : ℕ → ℕ
-  pub source : ℕ
-  pub sink : ℕ
-  pub begins : IsTrue (one_of s source)
-  pub ends : IsTrue (one_of t sink)
-  pub rising : IsRising net level xs d source path sink
-
--- a path from one of a task's sources to one of its sinks, on each half-arc of which so much remains
-abbrev pub Augments : Task → List ℕ → List ℕ → ℕ → Type 0
-Augments task xs path d = IsAugmenting task.packed.net.now task.s.now task.t.now xs path d
+-- so much more between a node and the root of its tree: from a source, or to a sink
+abbrev pub IsSupplied : Direction → Net → ℕ → ℕ → ℕ → List ℕ → List ℕ → Type 0
+IsSupplied Forwards net d node root xs ys = IsCarried net d root node xs ys
+IsSupplied Backwards net d node root xs ys = IsCarried net d node root xs ys

@@ -1,30 +1,31 @@
 //! Paths through two search trees: from a source along a chain of parents, over the half-arc where the trees touch, and
 //! along another chain to a sink.
 //!
-//! The chains are written down first and then looked at as one path, so that nothing has to be known of the trees. Once
-//! a path is written down, the labels of its nodes tell their exact distances, and so rise along it.
-ghost use Rattle.std.specs.Prelude.{◌≡◌, ℕ, ◌*◌, ◌^◌, ◌<◌, ◌≤◌, IsTrue, length};
+//! Both chains are gone over twice, from where the trees touch to their roots: once for the least that remains on them,
+//! and once to push that. What is pushed stays under way between the ends of what was gone over so far, until they are
+//! found to be a source and a sink. So nothing has to be known of the trees, not even that a chain comes by no node
+//! twice.
+ghost use Rattle.std.specs.Prelude.{◌≡◌, ℕ, ◌+◌, ◌*◌, ◌<◌, ◌≤◌, IfSome, IsTrue, length};
 ghost use Rattle.flow_net.specs.Nets.{IsNode};
 ghost use Rattle.flow_net.specs.NodeSets.{one_of};
 ghost use Rattle.flow_net.specs.Flows.{Fits};
 ghost use Rattle.flow_solve.specs.residual.Packs.{IsPacked};
-ghost use Rattle.flow_solve.specs.Task.{IsTask};
-ghost use Rattle.flow_solve.specs.levels.Trees.{Augments};
-ghost use Rattle.flow_solve.specs.Steps.{OnlyLooks};
-ghost use Rattle.flow_solve.specs.levels.Trees.{key_of};
+ghost use Rattle.flow_solve.specs.Task.{HasFlow, IsTask};
+ghost use Rattle.flow_solve.specs.levels.Trees.{supplied_by, IsSupplied};
+ghost use Rattle.flow_solve.specs.Steps.{PaysLooks, TakesSteps};
 
-use crate::levels::trees::forest::{LEAST_CHILD, label_cell, parent_cell, stamp_cell};
+use crate::levels::trees::forest::{LEAST_CHILD, Trees, abandon_first, label_cell, parent_cell};
 use crate::residual::cells::get;
 use crate::residual::half_arcs::{Direction, cross, head, tail};
 use crate::residual::packing::Packed;
-use crate::residual::searching::FAR;
 use crate::task::Task;
 use flow_net::FlowTable;
 
 /// The half-arc that flow to or from a node in a tree goes through, given the one that leads from the node to its
 /// parent.
 pub(crate) fn supply_half(direction: Direction, half: u32) -> u32
-    ensures { (m : ℕ) → half < 2 * m → result < 2 * m }
+    ensures within { (m : ℕ) → half < 2 * m → result < 2 * m }
+    ensures half { result ≡ supplied_by direction half }
 {
     match direction {
         Direction::Forwards => cross(Direction::Backwards, half),
@@ -32,109 +33,100 @@ pub(crate) fn supply_half(direction: Direction, half: u32) -> u32
     }
 }
 
-/// Writes the chain of parents of a node: in the tree of the sources the root's half-arc first, and in that of the
-/// sinks the node's own. Its nodes get their labels, the first of which is given, and the time.
-#[inline(always)]
-fn write_chain(
-    packed: Packed<'_>,
-    direction: Direction,
-    cells: &mut [u32],
-    path: &mut [u32],
-    node: u32,
-    label: u32,
-    time: u32,
-)
-    requires packed { IsPacked packed.net.now packed.first.now packed.halves.now }
-    requires size { 4 * packed.net.now.nodes ≤ length cells.old }
-    requires node { IsNode packed.net.now node }
-{
-    let mut node = node;
-    let mut label = label;
-    for i in 0..path.len() {
-        let half = cells[parent_cell(node)];
-        if half as usize >= packed.halves.len() {
-            return;
-        }
-        let at = match direction {
-            Direction::Forwards => path.len() - 1 - i,
-            Direction::Backwards => i,
-        };
-        path[at] = supply_half(direction, half);
-        cells[label_cell(node)] = label;
-        cells[stamp_cell(node)] = time;
-        label = label.saturating_sub(2);
-        node = head(packed.net, half);
-    }
-    cells[stamp_cell(node)] = time;
+/// The chain of parents of a node.
+#[derive(Clone, Copy)]
+pub(crate) struct Chain {
+    /// How many half-arcs it has.
+    pub len: u32,
+    /// The least that remains on them; 0 where they lead to no root, or to one that is too far.
+    pub room: u64,
 }
 
-/// How many half-arcs the chain of parents of a node has.
-pub(crate) fn chain_len(packed: Packed<'_>, cells: &[u32], node: u32) -> u32
+/// What the trees take for each half-arc of a path: it is walked over, looked at, looked at once more and pushed over.
+pub(crate) const COST: u64 = 4;
+
+/// Goes over the chain of parents of a node, and takes off what is taken for each half-arc of it.
+#[inline(always)]
+pub(crate) fn measure(
+    packed: Packed<'_>,
+    direction: Direction,
+    flow: &mut FlowTable,
+    trees: &mut Trees,
+    cells: &[u32],
+    node: u32,
+) -> Chain
+    requires fits { Fits packed.net.now flow.old.flows }
     requires packed { IsPacked packed.net.now packed.first.now packed.halves.now }
     requires size { 4 * packed.net.now.nodes ≤ length cells.now }
     requires node { IsNode packed.net.now node }
-    ensures { result ≤ packed.entry.net.now.nodes }
+    ensures paid { PaysLooks flow.old trees.old.left flow.new (trees.new.left + 2 * result.len) }
 {
-    let nodes = packed.net.nodes();
+    let limit = u64::from(packed.net.nodes()).min(trees.left / COST) as u32;
     let mut node = node;
-    for len in 0..nodes {
+    let mut room = u64::MAX;
+    let mut len = 0;
+    while len < limit && cells[label_cell(node)] >= LEAST_CHILD {
         let half = cells[parent_cell(node)];
-        if cells[label_cell(node)] < LEAST_CHILD || half as usize >= packed.halves.len() {
-            return len;
+        if half as usize >= packed.halves.len() {
+            break;
         }
+        let (_, remains) = flow.look(packed.net, supply_half(direction, half));
+        room = room.min(remains);
         node = head(packed.net, half);
+        len += 1;
     }
-    nodes
+    trees.left -= COST * u64::from(len);
+    if cells[label_cell(node)] >= LEAST_CHILD {
+        room = 0;
+    }
+    Chain { len, room }
 }
 
-/// Where the tree of the sources touches that of the sinks.
-#[derive(Clone, Copy)]
-pub(crate) struct Touch {
-    /// The half-arc from the one to the other.
-    pub half: u32,
-    /// How many half-arcs lead from a source to it.
-    pub before: u32,
-    /// How many lead on from it to a sink.
-    pub behind: u32,
-}
-
-/// Writes the path from a source to a sink over the half-arc where the trees touch. Its nodes get their exact distances
-/// for labels, and the time.
-pub(crate) fn gather(
+/// Pushes an amount along the chain of parents of a node, which has so many half-arcs, and abandons the nodes whose
+/// half-arc to their parent this fills. Answers the node that the chain leads to, or nothing where that much doesn't
+/// remain on each half-arc when it comes to it.
+#[inline(always)]
+fn push_along(
     packed: Packed<'_>,
+    direction: Direction,
+    flow: &mut FlowTable,
+    trees: &mut Trees,
     cells: &mut [u32],
-    path: &mut [u32],
-    touch: Touch,
-    time: u32,
-)
+    node: u32,
+    len: u32,
+    amount: u64,
+) -> Option<u32>
+    requires fits { Fits packed.net.now flow.old.flows }
     requires packed { IsPacked packed.net.now packed.first.now packed.halves.now }
     requires size { 4 * packed.net.now.nodes ≤ length cells.old }
-    requires half { touch.half < 2 * length packed.net.now.arcs }
-    requires before { touch.before < length path.old }
+    requires node { IsNode packed.net.now node }
+    ensures fits { Fits packed.entry.net.now flow.new.flows }
+    ensures root { IfSome result (λ root. IsNode packed.entry.net.now root) }
+    ensures supplied { IfSome result (λ root. IsSupplied direction packed.entry.net.now amount node root
+        flow.old.flows flow.new.flows) }
+    ensures steps { TakesSteps flow.old flow.new (2 * len) }
+    ensures left { trees.new.left ≡ trees.old.left }
 {
-    let from = tail(packed.net, touch.half);
-    let to = head(packed.net, touch.half);
-    let near = touch.before.saturating_mul(2).saturating_add(2);
-    let far = touch.behind.saturating_mul(2).saturating_add(3);
-    let (front, rest) = path.split_at_mut(touch.before as usize);
-    write_chain(packed, Direction::Forwards, cells, front, from, near, time);
-    rest[0] = touch.half;
-    write_chain(
-        packed,
-        Direction::Backwards,
-        cells,
-        &mut rest[1..],
-        to,
-        far,
-        time,
-    );
-}
-
-/// A number that rises along a path through the trees, made of a node's label.
-fn key(label: u32) -> u32
-    ensures { result ≡ key_of label }
-{
-    if label % 2 == 0 { label } else { FAR - label }
+    let net = packed.net;
+    let mut node = node;
+    'chain: for _ in 0..len {
+        let half = cells[parent_cell(node)];
+        if half as usize >= packed.halves.len() || tail(net, half) != node {
+            return None;
+        }
+        let parent = head(net, half);
+        let over = supply_half(direction, half);
+        let (_, room) = flow.look(net, over);
+        if room < amount || parent == node {
+            return None;
+        }
+        flow.push(net, over, amount);
+        if room == amount {
+            abandon_first(trees, cells, node);
+        }
+        node = parent;
+    }
+    Some(node)
 }
 
 /// Whether a node is one of some terminals, by the place among them that stands in its parent's cell.
@@ -146,41 +138,73 @@ fn is_root(cells: &[u32], terminals: &[u32], node: u32) -> bool
     place < terminals.len() && terminals[place] == node
 }
 
-/// The least that remains on a path, or 0 where it isn't a path from a source to a sink along which keys rise: each
-/// half-arc of it is looked at.
-pub(crate) fn room_along(task: Task<'_>, flow: &mut FlowTable, cells: &[u32], path: &[u32]) -> u64
+/// Where the tree of the sources touches that of the sinks, and what a push there takes with it.
+#[derive(Clone, Copy)]
+pub(crate) struct Touch {
+    /// The half-arc from the one to the other.
+    pub half: u32,
+    /// How many half-arcs lead from a source to it.
+    pub before: u32,
+    /// How many lead on from it to a sink.
+    pub behind: u32,
+}
+
+/// Pushes an amount over the half-arc where the trees touch and along the chains on its both sides, and abandons the
+/// nodes whose half-arc to their parent this fills. Answers whether that much remained everywhere, and went from a
+/// source to a sink; where it did not, the flow is none that conserves.
+pub(crate) fn push_through(
+    task: Task<'_>,
+    flow: &mut FlowTable,
+    trees: &mut Trees,
+    cells: &mut [u32],
+    touch: Touch,
+    amount: u64,
+) -> bool
     requires task { IsTask task }
-    requires size { 4 * task.packed.net.now.nodes ≤ length cells.now }
+    requires size { 4 * task.packed.net.now.nodes ≤ length cells.old }
     requires fits { Fits task.packed.net.now flow.old.flows }
-    ensures room { 1 ≤ result → Augments task.entry flow.old.flows path.now result }
-    ensures looks { OnlyLooks flow.old flow.new (length path.now) }
+    requires half { touch.half < 2 * length task.packed.net.now.arcs }
+    ensures fits { Fits task.entry.packed.net.now flow.new.flows }
+    ensures flow { IsTrue result → (k : ℕ) → HasFlow task.entry flow.old.flows k
+        → HasFlow task.entry flow.new.flows (k + amount) }
+    ensures steps { TakesSteps flow.old flow.new (2 * (touch.before + touch.behind + 1)) }
+    ensures left { trees.new.left ≡ trees.old.left }
 {
-    let net = task.packed.net;
-    let halves = task.packed.halves;
-    if path.is_empty() || path[0] as usize >= halves.len() {
-        return 0;
+    let packed = task.packed;
+    let from = tail(packed.net, touch.half);
+    let to = head(packed.net, touch.half);
+    let (_, room) = flow.look(packed.net, touch.half);
+    if room < amount || from == to {
+        return false;
     }
-    let source = tail(net, path[0]);
-    let mut node = source;
-    let mut rank = key(cells[label_cell(source)]);
-    let mut least = u64::MAX;
-    for i in 0..path.len() {
-        let half = path[i];
-        if half as usize >= halves.len() || tail(net, half) != node {
-            return 0;
-        }
-        let (next, room) = flow.look(net, half);
-        let above = key(cells[label_cell(next)]);
-        if above <= rank {
-            return 0;
-        }
-        least = least.min(room);
-        node = next;
-        rank = above;
-    }
-    if is_root(cells, task.s, source) && is_root(cells, task.t, node) {
-        least
-    } else {
-        0
-    }
+    flow.push(packed.net, touch.half, amount);
+    let before = touch.before;
+    let source = push_along(
+        packed,
+        Direction::Forwards,
+        flow,
+        trees,
+        cells,
+        from,
+        before,
+        amount,
+    );
+    let Some(source) = source else {
+        return false;
+    };
+    let behind = touch.behind;
+    let sink = push_along(
+        packed,
+        Direction::Backwards,
+        flow,
+        trees,
+        cells,
+        to,
+        behind,
+        amount,
+    );
+    let Some(sink) = sink else {
+        return false;
+    };
+    is_root(cells, task.s, source) && is_root(cells, task.t, sink)
 }

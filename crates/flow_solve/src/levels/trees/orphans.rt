@@ -1,77 +1,22 @@
 //! Orphans: nodes of two search trees whose half-arc to their parent was filled, and their adoption by the nearest node
 //! whose own parents lead to a root (Boykov and Kolmogorov 2004, and so are the stamps).
 ghost use Rattle.std.specs.Prelude.{◌≡◌, ◌+◌, ◌<◌, ◌≤◌, ◌*◌, length};
-ghost use Rattle.std.specs.List.{All};
 ghost use Rattle.flow_net.specs.Nets.{IsNode};
 ghost use Rattle.flow_net.specs.Flows.{Fits};
-ghost use Rattle.flow_net.specs.Residual.{residual};
-ghost use Rattle.flow_net.specs.Paths.{IsApart, push_all};
 ghost use Rattle.flow_solve.specs.residual.Packs.{IsPacked};
 ghost use Rattle.flow_solve.specs.Steps.{OnlyLooks, PaysLooks};
 
 use crate::levels::spending::spend;
 use crate::levels::trees::chains::supply_half;
 use crate::levels::trees::forest::{
-    LEAST_CHILD, NO_PARENT, Trees, abandon_first, abandon_last, activate, direction_of, is_tired,
-    label_cell, next_active_cell, next_orphan, parent_cell, stamp_cell,
+    LEAST_CHILD, NO_PARENT, Trees, abandon_last, activate, direction_of, is_tired, label_cell,
+    next_active_cell, next_orphan, parent_cell, stamp_cell,
 };
 use crate::residual::cells::{END, get};
-use crate::residual::half_arcs::{head, tail, twin};
+use crate::residual::half_arcs::{head, twin};
 use crate::residual::packing::Packed;
 use crate::residual::searching::FAR;
-use flow_net::{FlowTable, Network};
-
-/// Makes an orphan of the node whose half-arc to its parent was filled, given a half-arc of an augmenting path, its
-/// place there, and the place of the one where the trees touch: before it the node that the half-arc leads to, and
-/// behind it the one that it leaves. In each tree the nearest to the root comes first.
-fn abandon(
-    net: &Network,
-    trees: &mut Trees,
-    cells: &mut [u32],
-    half: u32,
-    room: u64,
-    place: usize,
-    touch: usize,
-)
-    requires half { half < 2 * length net.now.arcs }
-    ensures left { trees.new.left ≡ trees.old.left }
-{
-    if room > 0 {
-        return;
-    }
-    if place < touch {
-        abandon_last(trees, cells, head(net, half));
-    } else if place > touch {
-        abandon_first(trees, cells, tail(net, half));
-    }
-}
-
-/// Pushes an amount along a path through two trees, given the place where they touch, and abandons the nodes whose
-/// half-arc to their parent this fills.
-pub(crate) fn push_and_abandon(
-    net: &Network,
-    flow: &mut FlowTable,
-    trees: &mut Trees,
-    cells: &mut [u32],
-    path: &[u32],
-    touch: usize,
-    amount: u64,
-)
-    requires fits { Fits net.now flow.old.flows }
-    requires halves { All (λ h. h < 2 * length net.now.arcs) path.now }
-    requires apart { IsApart path.now }
-    requires room { All (λ h. amount ≤ residual net.now flow.old.flows h) path.now }
-    ensures flows { flow.new.flows ≡ push_all flow.old.flows path.now amount }
-    ensures steps { flow.new.steps ≡ flow.old.steps + 2 * length path.now }
-    ensures left { trees.new.left ≡ trees.old.left }
-{
-    for i in 0..path.len() {
-        let half = path[i];
-        flow.push(net, half, amount);
-        let (_, room) = flow.look(net, half);
-        abandon(net, trees, cells, half, room, i, touch);
-    }
-}
+use flow_net::FlowTable;
 
 /// Walks over the parents of a node to a root, or to a node that is known at this time to lead to one. Answers one more
 /// than the node's distance from the root, or `FAR` where the walk ends at an orphan or no more may be done.

@@ -1,6 +1,6 @@
 -- `is_root`: what stands at a place of a list is one of it.
 use Rattle.std.proofs.Common.{arith, rules}
-use Rattle.flow_solve.proofs.LevelLemmas.Rising.{one_of-place}
+use Rattle.flow_solve.proofs.LevelLemmas.Carried.{one_of-place}
 use Rattle.flow_solve.proofs.levels.trees.chains.is_root.Goals as goal
 
 pub returns-then-place-terminals : goal.returns-then-place-terminals

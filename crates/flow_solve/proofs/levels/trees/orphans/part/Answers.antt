@@ -3,4 +3,4 @@ use Rattle.std.proofs.Common.{length}
 use Rattle.flow_solve.proofs.levels.trees.orphans.part.Goals as goal
 
 pub look-room-requires-clause-in_range : goal.look-room-requires-clause-in_range
-look-room-requires-clause-in_range c = c.supply_half.ensures (length c.args.packed.net.now.arcs) c.requires.half
+look-room-requires-clause-in_range c = c.supply_half.ensures.within (length c.args.packed.net.now.arcs) c.requires.half

@@ -1,4 +1,4 @@
 pub mod Growing
 pub mod SeenCells
 pub mod Prefixes
-pub mod BothWays
+pub mod Degrees

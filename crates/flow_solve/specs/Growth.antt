@@ -2,6 +2,7 @@
 use Rattle.std.specs.Prelude.{◌≡◌, ℕ, zero, suc, ◌+◌, ◌-◌, ◌*◌, ◌≤◌, ◌<◌, nat_le, nat_lt, Bool, false, List, length}
 use Rattle.std.specs.Prelude.{slice_index, Option, MatchOption}
 use Rattle.std.specs.List.{count_by}
+use Rattle.flow_net.specs.declared.networks.Arc.{Arc}
 use Rattle.flow_net.specs.Nets.{Net, IsNode}
 use Rattle.flow_net.specs.NodeSets.{just}
 use Rattle.flow_net.specs.Orders.{IsOrder, before}
@@ -65,6 +66,11 @@ parted Backwards net X = count_by (enters X) net.arcs
 -- as many lead into each set as out of it
 abbrev pub IsEitherWay : Net → Type 0
 IsEitherWay net = (X : ℕ → Bool) → parted Backwards net X ≡ parted Forwards net X
+
+-- cell v - 1 counts the arcs that have node v at an end, the first or the second
+abbrev pub AreDegrees : ℕ → (Arc → ℕ) → List Arc → List ℕ → Type 0
+AreDegrees nodes end arcs cells =
+    (v : ℕ) → 1 ≤ v → v ≤ nodes → slice_index cells (v - 1) ≡ count_by (λ a. just v (end a)) arcs
 
 -- each set that parts the node at a place from those before it has as many of these arcs
 abbrev pub IsBelow : Direction → Net → List ℕ → ℕ → ℕ → Type 0

@@ -25,9 +25,9 @@ ghost use Rattle.flow_solve.specs.Growth.{AreBelow, ArePlaces, HavePlaces, IsCle
 ghost use Rattle.flow_solve.specs.Growth.{PaysIfAny};
 
 mod branches;
+pub(crate) mod degrees;
 mod direct;
 mod frontier;
-mod mirrors;
 mod ordering;
 mod prefixes;
 mod raising;
@@ -35,8 +35,8 @@ mod turns;
 
 use crate::residual::half_arcs::Direction;
 use crate::residual::packing::{Packed, pack};
+use degrees::has_balanced_degrees;
 use flow_net::{FlowTable, Network};
-use mirrors::is_both_ways;
 use ordering::order_nodes;
 use prefixes::bound_by_prefix;
 use raising::raise;
@@ -155,8 +155,8 @@ pub fn connectivity_by_growth(
         place: 0,
     };
     let forth = run_pass(first, flow, cells, three, start)?;
-    // The two directions are then alike.
-    if is_both_ways(net) {
+    // As many arcs then leave each set of nodes as enter it, so the other pass would find the same.
+    if has_balanced_degrees(net, three) {
         return Some(forth.value);
     }
     let first = Turn {

@@ -6,6 +6,7 @@ ghost use Rattle.std.specs.List.{All};
 ghost use Rattle.flow_solve.specs.Bounds.{work_cells};
 ghost use Rattle.flow_solve.specs.Solving.{IsFlow};
 
+mod growth;
 mod known;
 mod trees;
 mod waves;

@@ -16,9 +16,9 @@ returns-clause-connectivity c =
     (λ i h l X cut. omega (arith, fewer, c.in_ok-forth.ensures.below.0 i h (omega (arith, l, size)) X cut))
     (λ i h l X cut. c.in_ok-back.ensures.below.0 i h (omega (arith, l, size)) X cut)
 
--- one pass, in a network both ways: as many arcs leave a set as enter it
-pub returns-then-is_both_ways-clause-connectivity : goal.returns-then-is_both_ways-clause-connectivity
-returns-then-is_both_ways-clause-connectivity c =
+-- one pass, where as many arcs leave each node as enter it, and so each set
+pub returns-then-has_balanced_degrees-clause-connectivity : goal.returns-then-has_balanced_degrees-clause-connectivity
+returns-then-has_balanced_degrees-clause-connectivity c =
     let net = c.args.net.now in
     let order = c.arrange.new.order in
     let size : length order ≡ net.nodes =
@@ -27,4 +27,4 @@ returns-then-is_both_ways-clause-connectivity c =
     connected net order c.in_ok-forth.forth.value c.nodes-n.ensures.is_net c.in_ok-value.ensures.order
     c.in_ok-forth.ensures.reached (λ i h l X cut. below i h (omega (arith, l, size)) X cut)
     (λ i h l X cut. omega
-    (arith, below i h (omega (arith, l, size)) X cut, c.is_both_ways.ensures c.if-is_both_ways.true X))
+    (arith, below i h (omega (arith, l, size)) X cut, c.has_balanced_degrees.ensures c.if-has_balanced_degrees.true X))

@@ -1,5 +1,5 @@
--- Flow that is under way between two nodes, over one half-arc more at a time, and the flow once these are a source and a
--- sink.
+-- Flow that is under way between two nodes, over one half-arc more at a time, and the flow once these are a source and
+-- a sink.
 use Rattle.std.proofs.Common.{◌≡◌, ◌≢◌, ℕ, ◌+◌, ◌*◌, ◌^◌, ◌≤◌, ◌<◌, List, length, get_or, refl, ◌∙◌, sym, subst}
 use Rattle.std.proofs.Common.{IsTrue, arith}
 use Rattle.flow_net.specs.Nets.{Net}

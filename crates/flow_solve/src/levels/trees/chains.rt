@@ -151,7 +151,7 @@ pub(crate) struct Touch {
 
 /// Pushes an amount over the half-arc where the trees touch and along the chains on its both sides, and abandons the
 /// nodes whose half-arc to their parent this fills. Answers whether that much remained everywhere, and went from a
-/// source to a sink; where it did not, the flow is none that conserves.
+/// source to a sink; where it did not, the flow still fits, but needn't be feasible.
 pub(crate) fn push_through(
     task: Task<'_>,
     flow: &mut FlowTable,

@@ -1,8 +1,8 @@
 //! Two search trees (Boykov and Kolmogorov 2004): the cells of their nodes, and the queues of active nodes and orphans.
 //!
 //! What these cells hold is a hint: nothing is claimed of it, and what a path needs is tested as flow is pushed along
-//! it. A cell that doesn't exist reads as 0, and a write to it is dropped. Nodes count from 1. The four cells of a node stand
-//! side by side.
+//! it. A cell that doesn't exist reads as 0, and a write to it is dropped. Nodes count from 1. The four cells of a node
+//! stand side by side.
 ghost use Rattle.std.specs.Prelude.{◌≡◌, ◌+◌, ◌-◌, ◌*◌, ◌≤◌, IsTrue, IsFalse, slice_index};
 
 use crate::residual::cells::{END, get, put};

@@ -1,5 +1,5 @@
 mod ResidualLemmas
 mod SideLemmas
 mod LevelLemmas
-mod GrowthLemmas
+pub mod GrowthLemmas
 pub mod Raises

@@ -36,6 +36,7 @@ mod turns;
 use crate::residual::half_arcs::Direction;
 use crate::residual::packing::{Packed, pack};
 use degrees::has_balanced_degrees;
+use direct::straighter_way;
 use flow_net::{FlowTable, Network};
 use ordering::order_nodes;
 use prefixes::bound_by_prefix;
@@ -148,23 +149,20 @@ pub fn connectivity_by_growth(
         value,
         left: budget,
     };
-    let first = Turn {
+    let mut turn = Turn {
         packed,
         order,
         direction: Direction::Forwards,
         place: 0,
     };
-    let forth = run_pass(first, flow, cells, three, start)?;
-    // As many arcs then leave each set of nodes as enter it, so the other pass would find the same.
+    // As many arcs then leave each set of nodes as enter it, so either pass finds the same.
     if has_balanced_degrees(net, three) {
-        return Some(forth.value);
+        turn.direction = straighter_way(net, cells);
+        let once = run_pass(turn, flow, cells, three, start)?;
+        return Some(once.value);
     }
-    let first = Turn {
-        packed,
-        order,
-        direction: Direction::Backwards,
-        place: 0,
-    };
-    let back = run_pass(first, flow, cells, three, forth)?;
+    let forth = run_pass(turn, flow, cells, three, start)?;
+    turn.direction = Direction::Backwards;
+    let back = run_pass(turn, flow, cells, three, forth)?;
     Some(back.value)
 }

@@ -28,7 +28,7 @@ use Rattle.flow_net.proofs.GrowthLemmas.{count_by_agree, growth_below, leaves_ot
 use Rattle.flow_solve.specs.declared.residual.half_arcs.Direction.{Direction}
 use Rattle.flow_solve.specs.declared.residual.half_arcs.Direction.TheVariants.{Forwards, Backwards}
 use Rattle.flow_solve.specs.residual.HalfArcs.{near_end, far_end, IsClosedFor}
-use Rattle.flow_solve.specs.Growth.{sends, IsRaised, IsBalanced, parted, IsBelow, IsParted}
+use Rattle.flow_solve.specs.Growth.{sends, IsRaised, IsBalanced, IsEitherWay, parted, IsBelow, IsParted}
 
 -- ---- sums over arcs by tests that agree
 
@@ -258,3 +258,12 @@ connected net order k n o reached forth back = record {
       where
         entering : (X : ℕ → Bool) → count_by (enters (λ v. not (X v))) net.arcs ≡ leaving net X
         entering X = count_by_agree (enters (λ v. not (X v))) (leaves X) net.arcs (enters_others X)
+
+-- where as many arcs leave each set as enter it, what is below one way is below both ways
+pub connected_once : (dir : Direction) (net : Net) (order : List ℕ) (k : ℕ) → IsNet net → IsOrder net order
+    → ((X : ℕ → Bool) × IsProper net X × (leaving net X ≡ k)) → IsEitherWay net
+    → ((i : ℕ) → 1 ≤ i → i < length order → IsBelow dir net order i k) → IsConnectivity net k
+connected_once Forwards net order k n o reached either below =
+    connected net order k n o reached below (λ i h l X cut. omega (arith, below i h l X cut, either X))
+connected_once Backwards net order k n o reached either below =
+    connected net order k n o reached (λ i h l X cut. omega (arith, below i h l X cut, either X)) below

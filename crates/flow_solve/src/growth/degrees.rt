@@ -1,7 +1,6 @@
 //! Balanced degrees, where one pass over the order is enough: as many arcs leave each node as enter it. Such a network
 //! is Eulerian if it is connected. Networks both ways are balanced, with their arcs in any order, and directed rings.
 ghost use Rattle.std.specs.Prelude.{◌≡◌, ◌*◌, ◌≤◌, IsTrue, length};
-ghost use Rattle.std.specs.List.{All};
 ghost use Rattle.flow_solve.specs.Growth.{AreDegrees, IsEitherWay};
 
 use flow_net::Network;
@@ -25,7 +24,6 @@ fn count_degrees(net: &Network, leaving: &mut [u32], entering: &mut [u32])
 /// Whether as many arcs leave each node as enter it: as many then leave each set of nodes as enter it. It works in the
 /// first cells of `degrees`, two for each node.
 pub(crate) fn has_balanced_degrees(net: &Network, degrees: &mut [u32]) -> bool
-    requires unit { All (λ a. a.cap ≡ 1) net.now.arcs }
     requires cells { 2 * net.now.nodes ≤ length degrees.old }
     ensures { IsTrue result → IsEitherWay net.now }
 {

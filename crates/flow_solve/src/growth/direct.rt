@@ -8,8 +8,8 @@ ghost use Rattle.flow_solve.specs.residual.Packs.{group_of};
 ghost use Rattle.flow_solve.specs.Growth.{Carries, HavePlaces, IsTurn, PaysIfAny};
 
 use crate::growth::turns::{Budgeted, Turn};
-use crate::residual::half_arcs::{cross, head};
-use flow_net::{FlowTable, GREATEST_CAPACITY};
+use crate::residual::half_arcs::{Direction, cross, head};
+use flow_net::{FlowTable, GREATEST_CAPACITY, Network};
 
 /// Sends a unit over a half-arc from the node of the turn to a node before it, if something remains on it. Answers
 /// nothing where the looks and pushes are used up.
@@ -75,4 +75,29 @@ pub(crate) fn send_directly(
         }
     }
     Some(sent)
+}
+
+/// The way in which more units go straight to earlier nodes: forwards where more arcs lead from a node to an earlier
+/// one than to a later one, and else backwards. Where either way is right, a pass in this way searches less; on a
+/// directed ring it searches nothing.
+pub(crate) fn straighter_way(net: &Network, cells: &[u32]) -> Direction
+    requires { length cells.now ≡ net.now.nodes }
+{
+    let mut back = 0u32;
+    let mut on = 0u32;
+    for i in 0..net.len() {
+        let arc = net.arc(i);
+        let from = cells[arc.src as usize - 1];
+        let to = cells[arc.dst as usize - 1];
+        if to < from {
+            back += 1;
+        } else if from < to {
+            on += 1;
+        }
+    }
+    if on < back {
+        Direction::Forwards
+    } else {
+        Direction::Backwards
+    }
 }

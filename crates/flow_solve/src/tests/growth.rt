@@ -55,13 +55,10 @@ fn first_degree(net: &Network) -> u64
     degree
 }
 
-/// Whether as many arcs leave each node as enter it; nothing if a capacity isn't 1, or memory is refused.
+/// Whether as many arcs leave each node as enter it; nothing if memory is refused.
 fn is_balanced(alloc: Global, net: &Network) -> Option<bool> {
     let nodes = net.nodes() as usize;
     let mut degrees = Vec::from_elem(alloc, 7u32, 2 * nodes).ok()?;
-    if !are_units(net) {
-        return None;
-    }
     Some(has_balanced_degrees(net, degrees.as_mut_slice()))
 }
 
@@ -239,4 +236,37 @@ fn one_pass_is_enough_where_degrees_are_balanced(rt: HostRuntime) {
     assert_eq!(&rt; grown_within(rt.alloc(), &other, two_passes), Some(1));
     // Each turn of the second pass takes a look and a push at least.
     assert!(&rt; one_pass.wrapping_add(2 * 499) <= two_passes);
+}
+
+/// A ring one way, its arcs from each node to the next or, turned round, from the next to it.
+fn turned_ring(alloc: Global, nodes: u32, is_turned: bool) -> Option<Network>
+    requires least { 2 ≤ nodes }
+    requires most { nodes ≤ MOST_NODES }
+{
+    let mut net = Network::new(alloc, nodes);
+    for node in 1..nodes {
+        let (src, dst) = if is_turned {
+            (node + 1, node)
+        } else {
+            (node, node + 1)
+        };
+        if !add(&mut net, src, dst, 1) {
+            return None;
+        }
+    }
+    let (src, dst) = if is_turned { (1, nodes) } else { (nodes, 1) };
+    if !add(&mut net, src, dst, 1) {
+        return None;
+    }
+    Some(net)
+}
+
+#[test]
+fn units_go_straight_round_a_ring_either_way(rt: HostRuntime) {
+    for is_turned in [false, true] {
+        let net = turned_ring(rt.alloc(), 500, is_turned).expect(&rt, "memory");
+        // A look and a push for each node but the first, and two looks where the ring closes: nothing is searched.
+        let grown = grown_within(rt.alloc(), &net, 2 * 500);
+        assert_eq!(&rt; (is_turned, grown), (is_turned, Some(1)));
+    }
 }

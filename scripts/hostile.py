@@ -144,8 +144,10 @@ def refused_growths(folder):
         (["solve"], NET, (0, SOLVED, b"")),
         (["cut", "--arcs"], NET, (0, b"s 5\nn 1\na 1 2 3\na 1 3 2\n", b"")),
         (["connect", "--undirected"], NET, (0, b"k 2\n", b"")),
+        # A count of links tells this one.
         (["connect", "--undirected"], in_order, (0, b"k 1\n", b"")),
-        (["connect", "--undirected"], scattered, (0, b"k 1\n", b"")),
+        (["connect", "--pair"], in_order, (0, b"k 1\n", b"")),
+        (["connect", "--pair"], scattered, (0, b"k 1\n", b"")),
         (["check", net], SOLUTION, (0, b"optimal 5\n", b"")),
         (["solve"], TOO_FEW_ARCS, (3, b"", b"flow: line 5: too few arcs\n")),
     ]

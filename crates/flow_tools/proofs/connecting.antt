@@ -1,3 +1,5 @@
 pub mod ConnectingLemmas
 pub mod ConnectAnswers
+pub mod ComponentLemmas
+pub mod LinkLemmas
 mod CircleLemmas

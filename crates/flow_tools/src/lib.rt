@@ -23,6 +23,7 @@ mod streams;
 
 pub use checking::check;
 pub use connecting::connectivity;
+pub use connecting::links::connectivity_by_links;
 pub use laws::{greatest_is_least, printed_cut_is_minimum, solved_is_optimal};
 pub use running::jobs::{Job, Stop};
 pub use running::run;

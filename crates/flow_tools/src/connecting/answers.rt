@@ -4,13 +4,16 @@ ghost use Rattle.std.specs.List.{All};
 ghost use Rattle.flow_net.specs.declared.limits.TheConstants.{MOST_ARCS};
 ghost use Rattle.flow_net.specs.Limits.{AreTerminals};
 ghost use Rattle.flow_net.specs.DerivedNets.{unit, both_ways};
-ghost use Rattle.flow_net.specs.NodeSets.{one_of};
+ghost use Rattle.flow_net.specs.NodeSets.{one_of, IsLeastOver};
 ghost use Rattle.flow_net.specs.LeastCuts.{IsConnectivity, IsPairConnectivity};
+ghost use Rattle.flow_tools.specs.connecting.Degrees.{counted};
 ghost use Rattle.flow_tools.specs.running.AnswerExits.{Puts};
+ghost use Rattle.flow_tools.specs.running.Answers.{IsSeparating};
 ghost use Rattle.flow_tools.specs.streams.Streams.{over};
 
 use crate::cells::work_for;
 use crate::connecting::connectivity;
+use crate::connecting::links::connectivity_by_links;
 use crate::running::jobs::{Job, Stop, ended};
 use crate::solving::arranging::arrange_if_scattered;
 use crate::streams::Output;
@@ -50,6 +53,27 @@ fn solve_connectivity<M: Method>(
     Ok(connectivity::<M>(net, pair, s, t, &mut table, work.as_mut_slice()))
 }
 
+/// The connectivity that is asked for: by a count of links where this tells it, and else by flows.
+fn find_connectivity<M: Method>(
+    alloc: Global,
+    problem: Problem,
+    undirected: bool,
+    pair: bool,
+) -> Result<u64, OutOfMemory>
+    ensures { IfOk result (IsLeastOver (IsSeparating problem pair) (counted undirected problem.net)) }
+{
+    if !pair {
+        let told = connectivity_by_links(alloc, problem.net(), undirected)?;
+        if let Some(value) = told {
+            return Ok(value);
+        }
+    }
+    let problem = arrange_if_scattered(alloc, problem)?;
+    let (net, sources, sinks) = problem.into_parts();
+    let net = counting_network(net, undirected)?;
+    solve_connectivity::<M>(alloc, &net, pair, &sources, &sinks)
+}
+
 /// Puts the connectivity that is asked for.
 pub(crate) fn answer_connect<M: Method, O: Output>(
     alloc: Global,
@@ -60,9 +84,6 @@ pub(crate) fn answer_connect<M: Method, O: Output>(
 ) -> Result<u8, Stop>
     ensures { Puts (Job.Connect undirected pair) problem [] (over (O.state out.old) (O.state out.new)) result }
 {
-    let problem = arrange_if_scattered(alloc, problem)?;
-    let (net, sources, sinks) = problem.into_parts();
-    let net = counting_network(net, undirected)?;
-    let value = solve_connectivity::<M>(alloc, &net, pair, &sources, &sinks)?;
+    let value = find_connectivity::<M>(alloc, problem, undirected, pair)?;
     ended(put_all(out, connect_line(value).as_slice()), 0)
 }

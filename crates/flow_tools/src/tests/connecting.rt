@@ -4,6 +4,7 @@ ghost use Rattle.std.specs.Prelude.{◌≡◌, ◌≤◌};
 ghost use Rattle.std.specs.List.{All};
 
 use crate::connecting::connectivity;
+use crate::connecting::links::connectivity_by_links;
 use flow_net::{Arc, FlowTable, MOST_ARCS, Network};
 use flow_solve::{Levels, Paths, work_len};
 use std::alloc::Global;
@@ -122,7 +123,167 @@ fn agrees_with_all_sets(rt: HostRuntime) {
     for seed in 0..3000u64 {
         let net = random_network(rt.alloc(), seed).expect(&rt, "memory");
         let least = least_of_sets(&net);
+        let told = told_by_links(rt.alloc(), &net, false).expect(&rt, "memory");
+        assert_eq!(&rt; (seed, told.unwrap_or(least)), (seed, least));
         assert_eq!(&rt; (seed, has(rt.alloc(), net, false, least)), (seed, true));
+    }
+}
+
+#[test]
+fn links_agree_with_all_sets(rt: HostRuntime) {
+    // How many networks are told to have the connectivity 0, 1 and 2.
+    let mut told_so = [0u32; 3];
+    for seed in 0..3000u64 {
+        let mut net = random_network(rt.alloc(), seed).expect(&rt, "memory");
+        let told = told_by_links(rt.alloc(), &net, true).expect(&rt, "memory");
+        assert!(&rt; net.len() <= MOST_ARCS);
+        net.both_ways().expect(&rt, "memory");
+        let least = least_of_sets(&net);
+        assert_eq!(&rt; (seed, told.unwrap_or(least)), (seed, least));
+        if told == Some(least) && least < 3 {
+            told_so[least as usize] = told_so[least as usize].saturating_add(1);
+        }
+    }
+    assert!(&rt; told_so[0] > 100 && told_so[1] > 100 && told_so[2] > 10);
+}
+
+/// What a count of links tells of a network; nothing if memory is refused.
+fn told_by_links(alloc: Global, net: &Network, undirected: bool) -> Option<Option<u64>> {
+    connectivity_by_links(alloc, net, undirected).ok()
+}
+
+/// A network, whether its arcs are links both ways, and what a count of these has to tell.
+struct Linked {
+    name: &'static str,
+    nodes: u32,
+    arcs: &'static [(u32, u32)],
+    undirected: bool,
+    told: Option<u64>,
+}
+
+const LINKED: &[Linked] = &[
+    Linked {
+        name: "a ring one way",
+        nodes: 4,
+        arcs: &[(1, 2), (2, 3), (3, 4), (4, 1)],
+        undirected: false,
+        told: Some(1),
+    },
+    Linked {
+        name: "a ring of links, in any order and direction, with a self-loop",
+        nodes: 5,
+        arcs: &[(4, 2), (1, 5), (3, 3), (5, 2), (3, 1), (3, 4)],
+        undirected: true,
+        told: Some(2),
+    },
+    Linked {
+        name: "a ring both ways, in pairs",
+        nodes: 3,
+        arcs: &[(1, 2), (2, 1), (3, 2), (2, 3), (1, 3), (3, 1)],
+        undirected: false,
+        told: Some(2),
+    },
+    Linked {
+        name: "a ring both ways, in no pairs",
+        nodes: 3,
+        arcs: &[(1, 2), (3, 2), (2, 1), (2, 3), (1, 3), (3, 1)],
+        undirected: false,
+        told: None,
+    },
+    Linked {
+        name: "two rings one way with an arc each way between them",
+        nodes: 4,
+        arcs: &[
+            (1, 2),
+            (1, 2),
+            (2, 1),
+            (2, 3),
+            (3, 4),
+            (3, 4),
+            (4, 3),
+            (4, 1),
+            (2, 1),
+            (4, 3),
+            (1, 4),
+            (3, 2),
+        ],
+        undirected: false,
+        told: None,
+    },
+    Linked {
+        name: "two rings of links that meet at node 3",
+        nodes: 5,
+        arcs: &[(1, 2), (2, 3), (3, 1), (3, 4), (4, 5), (5, 3)],
+        undirected: true,
+        told: Some(2),
+    },
+    Linked {
+        name: "two rings of links with a link between them",
+        nodes: 6,
+        arcs: &[(1, 2), (2, 3), (3, 1), (4, 5), (5, 6), (6, 4), (3, 4)],
+        undirected: true,
+        told: None,
+    },
+    Linked {
+        name: "two rings of links apart",
+        nodes: 4,
+        arcs: &[(1, 2), (2, 1), (3, 4), (3, 4)],
+        undirected: true,
+        told: None,
+    },
+    Linked {
+        name: "two rings one way apart",
+        nodes: 4,
+        arcs: &[(1, 2), (2, 1), (3, 4), (4, 3)],
+        undirected: false,
+        told: None,
+    },
+    Linked {
+        name: "a ring of links with a node that hangs on it",
+        nodes: 4,
+        arcs: &[(1, 2), (2, 3), (3, 1), (3, 4)],
+        undirected: true,
+        told: Some(1),
+    },
+    Linked {
+        name: "a path",
+        nodes: 3,
+        arcs: &[(1, 2), (2, 3)],
+        undirected: true,
+        told: Some(1),
+    },
+    Linked {
+        name: "a path one way",
+        nodes: 3,
+        arcs: &[(1, 2), (2, 3)],
+        undirected: false,
+        told: None,
+    },
+    Linked {
+        name: "a node with nothing but a self-loop",
+        nodes: 3,
+        arcs: &[(1, 2), (3, 3), (2, 1)],
+        undirected: true,
+        told: Some(0),
+    },
+    Linked {
+        name: "three links between two nodes",
+        nodes: 2,
+        arcs: &[(1, 2), (2, 1), (1, 2)],
+        undirected: true,
+        told: None,
+    },
+];
+
+#[test]
+fn what_links_tell_by_hand(rt: HostRuntime) {
+    for linked in LINKED {
+        let mut net = Network::new(rt.alloc(), linked.nodes);
+        for (src, dst) in linked.arcs {
+            assert!(&rt; add(&mut net, *src, *dst));
+        }
+        let told = told_by_links(rt.alloc(), &net, linked.undirected);
+        assert_eq!(&rt; (linked.name, told), (linked.name, Some(linked.told)));
     }
 }
 

@@ -4,7 +4,8 @@ ghost use Rattle.std.specs.Prelude.{◌≡◌, ◌<◌, ◌≤◌};
 ghost use Rattle.std.specs.List.{All};
 ghost use Rattle.flow_solve.specs.Bounds.{levels_bound};
 
-use crate::connecting::{connectivity, least_degree};
+use crate::connecting::connectivity;
+use crate::connecting::degrees::least_degree;
 use flow_net::{Arc, FEWEST_NODES, FlowTable, MOST_ARCS, MOST_NODES, Network};
 use flow_solve::{Levels, Method, connectivity_by_growth, work_len};
 use std::alloc::Global;

@@ -165,12 +165,14 @@ fn add_arc(text: &mut Vec<u8>, src: u32, dst: u32, cap: u64) -> Result<(), Fail>
 }
 
 #[test]
-fn a_ring_of_2000_nodes(rt: HostRuntime) -> Result<(), Fail> {
-    let mut text = b"p max 2000 2000\nn 1 s\nn 2000 t\n".to_vec(rt.alloc())?;
+fn a_ring_of_2000_nodes_with_a_chord(rt: HostRuntime) -> Result<(), Fail> {
+    let mut text = b"p max 2000 2001\nn 1 s\nn 2000 t\n".to_vec(rt.alloc())?;
     for v in 1..2000 {
         add_arc(&mut text, v, v + 1, 1)?;
     }
     add_arc(&mut text, 2000, 1, 1)?;
+    // The chord makes the numbers of links at its ends odd, so that flows have to find the answer.
+    add_arc(&mut text, 1, 1000, 1)?;
     for (job, wanted) in [(DIRECTED, b"k 1\n"), (UNDIRECTED, b"k 2\n")] {
         expect(&rt, rt.alloc(), job, text.as_slice(), wanted.as_slice());
     }

@@ -3,7 +3,7 @@ use Rattle.std.proofs.Common.{◌-◌, arith}
 use Rattle.std.proofs.Math.Nat.{min-le_left}
 use Rattle.flow_tools.proofs.connecting.ConnectingLemmas.{lesser_proper, out_proper, into_proper}
 use Rattle.flow_tools.proofs.connecting.CircleLemmas.{degree_at}
-use Rattle.flow_tools.proofs.connecting.least_degree.Goals as goal
+use Rattle.flow_tools.proofs.connecting.degrees.least_degree.Goals as goal
 
 pub returns-clause-reached : goal.returns-clause-reached
 returns-clause-reached c =

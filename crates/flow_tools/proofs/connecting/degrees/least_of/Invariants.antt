@@ -1,6 +1,6 @@
 -- The least so far is one of the numbers, and at most each so far.
 use Rattle.std.proofs.Common.{◌≡◌, ◌<◌, ◌≤◌, ℕ, length, slice_index}
-use Rattle.flow_tools.proofs.connecting.least_of.Given as goal
+use Rattle.flow_tools.proofs.connecting.degrees.least_of.Given as goal
 
 abbrev pub invariant-loop-number : goal.invariant-loop-number
 invariant-loop-number l = record {

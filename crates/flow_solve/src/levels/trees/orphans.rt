@@ -69,8 +69,9 @@ fn mark_walk(packed: Packed<'_>, cells: &mut [u32], node: u32, distance: u32, ti
     }
 }
 
-/// One more than the distance from the root of a node that may adopt an orphan, if that is nearer than any so far and
-/// something remains on the half-arc between them, or else `FAR`. The half-arc is given that leads to the node.
+/// One more than the distance from the root of a node that may adopt an orphan, if by its label that is nearer than any
+/// so far and something remains on the half-arc between them, or else `FAR`. The half-arc is given that leads to the
+/// node.
 fn offer(
     packed: Packed<'_>,
     flow: &mut FlowTable,
@@ -92,7 +93,7 @@ fn offer(
     if label <= 1 || label % 2 != own % 2 || cells[parent_cell(node)] == NO_PARENT {
         return FAR;
     }
-    if cells[stamp_cell(node)] == trees.time && label / 2 >= nearest {
+    if label / 2 >= nearest {
         return FAR;
     }
     let (_, room) = flow.look(packed.net, supply_half(direction_of(own), half));
@@ -106,8 +107,12 @@ fn offer(
     distance
 }
 
-/// Gives an orphan the nearest parent in its tree that leads to a root. Answers whether that, or all that may still be
-/// done, is done.
+/// How much farther from its root an adoption may bring an orphan. One that would be moved by more comes free: the tree
+/// mostly comes back to it by a shorter way, and the paths through it stay short.
+const MOST_DETOUR: u32 = 4;
+
+/// Gives an orphan the nearest parent in its tree that leads to a root and isn't too far from it. Answers whether that,
+/// or all that may still be done, is done.
 fn find_parent(
     packed: Packed<'_>,
     flow: &mut FlowTable,
@@ -137,7 +142,7 @@ fn find_parent(
             parent = half;
         }
     }
-    if parent == NO_PARENT {
+    if parent == NO_PARENT || nearest > (own / 2).saturating_add(MOST_DETOUR - 1) {
         return false;
     }
     cells[label_cell(node)] = nearest.saturating_mul(2).saturating_add(2 + own % 2);

@@ -1,17 +1,21 @@
-//! The method by levels (Dinitz 1970), in three stages that work on one flow: search trees, then waves of excess where
-//! the trees don't finish, then phases.
+//! The method by levels (Dinitz 1970), in four stages that work on one flow: short paths, then search trees, then waves
+//! of excess where the trees don't finish, then phases.
 //!
-//! 1. **Two trees** (`trees`, `chains`, `orphans`, `forest`). Search trees grow from the sources and from the sinks
+//! 1. **Short paths** (`short_paths`), from a source over one node or two to a sink. No tree is there yet that a push
+//!    could break, so they cost no repair. Assignments and closures get most of their flow so, and so do many dense
+//!    networks.
+//! 2. **Two trees** (`trees`, `chains`, `orphans`, `forest`). Search trees grow from the sources and from the sinks
 //!    (Boykov and Kolmogorov 2004), from one *active* node after another. Each node in a tree has a *parent*, the
 //!    half-arc that leads towards its root, a *label*, which tells how far that was when it was last looked at, and a
 //!    *stamp*, the time when its parents were last known to lead to a root. Where the trees touch, an augmenting path
 //!    is pushed through. A node whose half-arc to its parent was filled is an *orphan*: it is *adopted* by the nearest
-//!    node of its tree whose parents lead to a root, or else comes free, with its children as orphans in turn. So no
-//!    search begins anew. The trees end by themselves where they bring little for what they take: they may take 4 steps
-//!    for each arc at first, and 24 more for each half-arc of a path that flow is pushed along, since repairs cost the
-//!    more the longer paths are. That serves where the first paths are short and most of a tree outlives a push:
-//!    images, assignments, closures.
-//! 2. **Waves that lift** (`waves`, `settling`), where the trees had to end before their active nodes ran out. All
+//!    node of its tree whose parents lead to a root, unless that moves it much farther from its own. Or else it comes
+//!    free, with its children as orphans in turn, and the tree may come back to it by a shorter way. So no search
+//!    begins anew. The trees end by themselves where they bring little for what they take: they may take 4 steps for
+//!    each arc at first, and 24 more for each half-arc of a path that flow is pushed along, since repairs cost the more
+//!    the longer paths are. That serves where the first paths are short and most of a tree outlives a push: images,
+//!    assignments, closures.
+//! 3. **Waves that lift** (`waves`, `settling`), where the trees had to end before their active nodes ran out. All
 //!    that can leave the sources does, and each node sends what it has received, its *excess*, on to nodes that a
 //!    search has found a level nearer to the sinks, the farthest level first (after Karzanov 1974). A node that is
 //!    stuck is *lifted* to one more than the nearest level that it leads to, which is the relabelling of Goldberg and
@@ -19,7 +23,7 @@
 //!    (Cherkassky and Goldberg 1997). In the end what no sink takes goes home by waves to the sources, and the table is
 //!    settled: it stays if a feasible flow stands there, and is cleared otherwise. So thousands of paths that share
 //!    most of their half-arcs cost one search and one sweep. That serves where ways are long: roads, frames, layers.
-//! 3. **Phases** (`phases`, `walking`). A search backwards from the sinks ranks the nodes, walks from the sources along
+//! 4. **Phases** (`phases`, `walking`). A search backwards from the sinks ranks the nodes, walks from the sources along
 //!    falling ranks block all shortest paths, and the distance from the sources to the sinks grows by each phase
 //!    (Dinitz 1970). They go on from whatever feasible flow they find, and their last search, which sees no source,
 //!    shows that the flow is greatest. Mostly that is their only one.
@@ -30,15 +34,15 @@
 //! a source to a sink isn't kept. Of waves no more is claimed than what their end tests. A stage may leave wherever it
 //! is.
 //!
-//! What the trees take is counted off an allowance of 64 steps for each arc, and what the waves take off the rest of
-//! `n²·m`, at most 1024 steps for each arc in each direction; a half-arc that is passed by without a look, or a node
-//! that is walked over, counts as a step too. The phases take at most `3·n²·m` from any feasible flow, so that all stay
-//! within `4·n²·m` for each network.
+//! What short paths and trees take is counted off an allowance of 64 steps for each arc, and what the waves take off
+//! the rest of `n²·m`, at most 1024 steps for each arc in each direction; a half-arc that is passed by without a look,
+//! or a node that is walked over, counts as a step too. The phases take at most `3·n²·m` from any feasible flow, so
+//! that all stay within `4·n²·m` for each network.
 //!
-//! Where there are more than 32 arcs for each node the phases begin at once: a repair of a tree passes all half-arcs of
-//! a node, and so does a node that is lifted. The trees grow no farther than until the nearest source and sink are
-//! found to be more than some 48 half-arcs apart, since then much flow goes far, and paths one by one bring little.
-//! There the waves begin.
+//! Where there are more than 32 arcs for each node the phases follow the short paths: a repair of a tree passes all
+//! half-arcs of a node, and so does a node that is lifted. The trees grow no farther than until the nearest source and
+//! sink are found to be more than some 48 half-arcs apart, since then much flow goes far, and paths one by one bring
+//! little. There the waves begin.
 ghost use Rattle.std.specs.Prelude.{◌+◌, ◌*◌, ◌≤◌, length};
 ghost use Rattle.flow_solve.specs.Bounds.{levels_bound};
 
@@ -53,23 +57,16 @@ use crate::solving::{Raise, solve};
 use crate::task::Task;
 use flow_net::{FlowTable, Network};
 use phases::run_phases;
-use trees::grow_trees;
+use trees::{grow_trees, is_dense};
 use waves::send_waves;
 
-/// How many times the number of arcs the trees may take, in steps and in half-arcs that they pass by.
+/// How many times the number of arcs short paths and trees may take, in steps and in half-arcs that they pass by.
 const TREES_SHARE: u64 = 64;
 
-/// The most arcs for each node with which the trees are grown: each repair of theirs passes all half-arcs of some
-/// nodes.
-const TREES_DEGREE: u32 = 32;
-
-/// How much the trees may take before the waves; nothing in a dense network.
+/// How much short paths and trees may take before the waves.
 fn allowance(net: &Network) -> u64
     ensures { result ≤ net.now.nodes * net.now.nodes * length net.now.arcs }
 {
-    if net.len() / TREES_DEGREE > net.nodes() {
-        return 0;
-    }
     let n = u64::from(net.nodes());
     (n * n).min(TREES_SHARE) * u64::from(net.len())
 }
@@ -78,12 +75,12 @@ fn allowance(net: &Network) -> u64
 /// their table.
 const WAVES_SHARE: u64 = 2 * 1024 + 1;
 
-/// How much the waves may take of what the trees leave of `n²·m`, in 64 bits: nothing where the trees aren't grown.
+/// How much the waves may take of what the trees leave of `n²·m`, in 64 bits; nothing in a dense network.
 fn share_of_waves(net: &Network, given: u64) -> u64
     requires { given ≤ net.now.nodes * net.now.nodes * length net.now.arcs }
     ensures { result + given ≤ net.now.nodes * net.now.nodes * length net.now.arcs }
 {
-    if given == 0 {
+    if is_dense(net) {
         return 0;
     }
     let n = u64::from(net.nodes());

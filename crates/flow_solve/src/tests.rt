@@ -8,12 +8,15 @@ ghost use Rattle.flow_solve.specs.Solving.{IsFlow};
 
 mod growth;
 mod known;
+mod short_paths;
 mod trees;
 mod waves;
 
 use super::*;
 use crate::levels::phases::run_phases;
-use crate::levels::trees::grow_trees;
+use crate::levels::trees::chains::Grown;
+use crate::levels::trees::short_paths::augment_short_paths;
+use crate::levels::trees::{begin, grow_trees};
 use crate::levels::waves::send_waves;
 use crate::residual::packing::{Packed, pack};
 use crate::task::Task;
@@ -325,6 +328,8 @@ fn all_sets_agree(rt: HostRuntime) {
 /// What comes before the phases, and how much it may take.
 #[derive(Clone, Copy)]
 enum First {
+    /// Short paths alone.
+    Short(u64),
     /// The search trees.
     Trees(u64),
     /// The waves.
@@ -359,6 +364,12 @@ fn stages<'a>(
     let packed = Packed { net, first, halves };
     let task = Task { packed, s, t };
     let reached = match first_stage {
+        First::Short(allowance) => {
+            let trees = begin(task, cells, allowance);
+            let mut grown = Grown { trees, value: 0 };
+            augment_short_paths(task, &mut flow, &mut grown, cells);
+            grown.value
+        }
         First::Trees(allowance) => grow_trees(task, &mut flow, cells, 0, allowance).value,
         First::Waves(allowance) => send_waves(task, &mut flow, cells, 0, allowance),
         First::Both(trees, waves) => {

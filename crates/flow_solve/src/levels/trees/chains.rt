@@ -12,8 +12,9 @@ ghost use Rattle.flow_net.specs.Flows.{Fits};
 ghost use Rattle.flow_solve.specs.residual.Packs.{IsPacked};
 ghost use Rattle.flow_solve.specs.Task.{HasFlow, IsTask};
 ghost use Rattle.flow_solve.specs.levels.Trees.{supplied_by, IsSupplied};
-ghost use Rattle.flow_solve.specs.Steps.{PaysLooks, TakesSteps};
+ghost use Rattle.flow_solve.specs.Steps.{PaysLooks, PaysSteps, TakesSteps};
 
+use crate::levels::spending::spend;
 use crate::levels::trees::forest::{LEAST_CHILD, Trees, abandon_first, label_cell, parent_cell};
 use crate::residual::cells::get;
 use crate::residual::half_arcs::{Direction, cross, head, tail};
@@ -35,7 +36,7 @@ pub(crate) fn supply_half(direction: Direction, half: u32) -> u32
 
 /// The chain of parents of a node.
 #[derive(Clone, Copy)]
-pub(crate) struct Chain {
+struct Chain {
     /// How many half-arcs it has.
     pub len: u32,
     /// The least that remains on them; 0 where they lead to no root, or to one that is too far.
@@ -43,11 +44,11 @@ pub(crate) struct Chain {
 }
 
 /// What the trees take for each half-arc of a path: it is walked over, looked at, looked at once more and pushed over.
-pub(crate) const COST: u64 = 4;
+const COST: u64 = 4;
 
 /// Goes over the chain of parents of a node, and takes off what is taken for each half-arc of it.
 #[inline(always)]
-pub(crate) fn measure(
+fn measure(
     packed: Packed<'_>,
     direction: Direction,
     flow: &mut FlowTable,
@@ -140,7 +141,7 @@ fn is_root(cells: &[u32], terminals: &[u32], node: u32) -> bool
 
 /// Where the tree of the sources touches that of the sinks, and what a push there takes with it.
 #[derive(Clone, Copy)]
-pub(crate) struct Touch {
+struct Touch {
     /// The half-arc from the one to the other.
     pub half: u32,
     /// How many half-arcs lead from a source to it.
@@ -152,7 +153,7 @@ pub(crate) struct Touch {
 /// Pushes an amount over the half-arc where the trees touch and along the chains on its both sides, and abandons the
 /// nodes whose half-arc to their parent this fills. Answers whether that much remained everywhere, and went from a
 /// source to a sink; where it did not, the flow still fits, but needn't be feasible.
-pub(crate) fn push_through(
+fn push_through(
     task: Task<'_>,
     flow: &mut FlowTable,
     trees: &mut Trees,
@@ -207,4 +208,58 @@ pub(crate) fn push_through(
         return false;
     };
     is_root(cells, task.s, source) && is_root(cells, task.t, sink)
+}
+
+/// Two trees as far as they have grown, and the value of the flow that was pushed where they touched.
+#[derive(Clone, Copy)]
+pub(crate) struct Grown {
+    /// The trees.
+    pub trees: Trees,
+    /// The value.
+    pub value: u128,
+}
+
+/// Pushes as much as remains along the path over a half-arc from the tree of the sources to that of the sinks. Answers
+/// how many half-arcs the path has, or 0 where nothing was pushed. Should the path be none after all, the table is
+/// cleared.
+pub(crate) fn augment_over(
+    task: Task<'_>,
+    flow: &mut FlowTable,
+    grown: &mut Grown,
+    cells: &mut [u32],
+    half: u32,
+) -> u64
+    requires task { IsTask task }
+    requires size { 4 * task.packed.net.now.nodes ≤ length cells.old }
+    requires flow { HasFlow task flow.old.flows grown.old.value }
+    requires half { half < 2 * length task.packed.net.now.arcs }
+    ensures flow { HasFlow task.entry flow.new.flows grown.new.value }
+    ensures paid { PaysSteps flow.old grown.old.trees.left flow.new grown.new.trees.left }
+{
+    let packed = task.packed;
+    let trees = &mut grown.trees;
+    if !spend(&mut trees.left, COST) {
+        return 0;
+    }
+    let from = tail(packed.net, half);
+    let before = measure(packed, Direction::Forwards, flow, trees, cells, from);
+    let to = head(packed.net, half);
+    let behind = measure(packed, Direction::Backwards, flow, trees, cells, to);
+    let (_, room) = flow.look(packed.net, half);
+    let amount = room.min(before.room).min(behind.room);
+    if amount == 0 {
+        return 0;
+    }
+    let touch = Touch {
+        half,
+        before: before.len,
+        behind: behind.len,
+    };
+    if !push_through(task, flow, trees, cells, touch, amount) {
+        flow.clear();
+        grown.value = 0;
+        return 0;
+    }
+    grown.value += u128::from(amount);
+    u64::from(touch.before) + 1 + u64::from(touch.behind)
 }

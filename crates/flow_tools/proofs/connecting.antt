@@ -1,5 +1,6 @@
-pub mod ConnectingLemmas
-pub mod ConnectAnswers
-pub mod ComponentLemmas
-pub mod LinkLemmas
 mod CircleLemmas
+mod CirculationLemmas
+pub mod ComponentLemmas
+pub mod ConnectAnswers
+pub mod ConnectingLemmas
+pub mod LinkLemmas

@@ -1,2 +1,3 @@
+pub mod Circulations
 pub mod Components
 pub mod Degrees

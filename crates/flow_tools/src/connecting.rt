@@ -13,6 +13,7 @@ ghost use Rattle.flow_solve.specs.Bounds.{work_cells};
 ghost use Rattle.flow_tools.specs.connecting.Degrees.{next_node};
 
 pub(crate) mod answers;
+mod circulations;
 mod components;
 pub(crate) mod degrees;
 pub(crate) mod links;

@@ -8,13 +8,12 @@ use Rattle.flow_net.specs.Arcs.{no_arc}
 use Rattle.flow_net.specs.Limits.{IsNet, IsProblem, AreTerminals}
 use Rattle.flow_net.specs.DerivedNets.{unit, unit_arc, both_ways}
 use Rattle.flow_net.specs.NodeSets.{one_of, IsLeastOver}
-use Rattle.flow_net.specs.Connectivity.{leaving, crossing}
-use Rattle.std.specs.Prelude.{if◌then◌else◌}
 use Rattle.flow_net.specs.LeastCuts.{IsConnectivity, IsPairConnectivity}
 use Rattle.flow_net.proofs.Connections.{undirected, undirected_pair, connectivity_of_unit, pair_of_unit}
 use Rattle.flow_net.proofs.ArrangementLaws.{named_cut, unnamed_cut}
 use Rattle.flow_net.proofs.ArrangedCounts.{leaving_agrees, crossing_agrees, least_restored}
 use Rattle.flow_net.proofs.ArrangedCounts.{named_proper, unnamed_proper}
+use Rattle.flow_tools.specs.connecting.Degrees.{counted}
 use Rattle.flow_tools.specs.declared.solving.arranging.Lists.{Lists}
 use Rattle.flow_tools.specs.running.Answers.{IsSeparating}
 use Rattle.flow_tools.specs.solving.ArrangedProblems.{IsArrangedBy, IsSameOrArranged}
@@ -22,7 +21,7 @@ use Rattle.flow_tools.specs.solving.ArrangedProblems.{IsArrangedBy, IsSameOrArra
 -- the connectivity that is asked for: undirected or not, and with the pair or not
 abbrev pub IsConnectivityOf : Instance → Bool → Bool → ℕ → Type 0
 IsConnectivityOf p undirected pair k =
-    IsLeastOver (IsSeparating p pair) (if undirected then crossing p.net else leaving p.net) k
+    IsLeastOver (IsSeparating p pair) (counted undirected p.net) k
 
 -- every capacity is 1
 pub unit_capacities : (net made : Net) → made ≡ unit net → All (λ a. a.cap ≡ 1) made.arcs
@@ -89,11 +88,8 @@ module _ (p other : Instance) (lists : Lists) (r : IsNet p.net) (q : IsProblem p
       unnamed_cut p.net other.net lists.names.items lists.places.items a.net r p.sources p.sinks q.terminals X Y h
       (rw (a.sources, a.sinks) at c)
 
-  -- the arcs of a set that are counted
-  abbrev counted : Bool → Instance → (ℕ → Bool) → ℕ
-  counted undirected instance = if undirected then crossing instance.net else leaving instance.net
-
-  same_count : (undirected : Bool) (X Y : ℕ → Bool) → AreSame X Y → counted undirected other Y ≡ counted undirected p X
+  same_count : (undirected : Bool) (X Y : ℕ → Bool) → AreSame X Y
+      → counted undirected other.net Y ≡ counted undirected p.net X
   same_count true X Y h = crossing_agrees p.net other.net lists.names.items lists.places.items a.net r X Y h
   same_count false X Y h = leaving_agrees p.net other.net lists.names.items lists.places.items a.net r X Y h
 
@@ -101,7 +97,7 @@ module _ (p other : Instance) (lists : Lists) (r : IsNet p.net) (q : IsProblem p
       → IsConnectivityOf p undirected pair k
   connectivity_unnamed undirected pair k l =
       least_restored p.net other.net lists.names.items lists.places.items a.net r (IsSeparating p pair)
-      (IsSeparating other pair) (counted undirected p) (counted undirected other) k (separating_named pair)
+      (IsSeparating other pair) (counted undirected p.net) (counted undirected other.net) k (separating_named pair)
       (separating_unnamed pair) (same_count undirected) l
 
 -- the connectivity of a problem or of its arrangement is that of the problem

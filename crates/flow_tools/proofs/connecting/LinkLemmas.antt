@@ -1,5 +1,5 @@
 -- What the numbers of arcs at the nodes say of the numbers at all sets of nodes.
-use Rattle.std.proofs.Common.{◌≡◌, ℕ, zero, suc, ◌+◌, ◌-◌, ◌*◌, ◌≤◌, ◌<◌, Bool, true, false, cond, not, ◌&&◌, ◌||◌}
+use Rattle.std.proofs.Common.{◌≡◌, ◌≢◌, ℕ, zero, suc, ◌+◌, ◌-◌, ◌*◌, ◌≤◌, ◌<◌, Bool, true, false, cond, not, ◌&&◌, ◌||◌}
 use Rattle.std.proofs.Common.{List, [], ◌∷◌, length, take, get_or, take_all, refl, ◌∙◌, sym, ap, inl, inr, ◌⊎◌, arith}
 use Rattle.std.specs.List.{count_by}
 use Rattle.std.proofs.lemmas.Bool.{cases_Bool}
@@ -15,6 +15,7 @@ use Rattle.flow_net.specs.Connectivity.{leaving, crossing, IsProper}
 use Rattle.flow_net.proofs.Sums.{exchange, over}
 use Rattle.flow_solve.specs.Growth.{IsEitherWay}
 use Rattle.flow_solve.proofs.GrowthLemmas.Degrees.{ones, flow_over_ones, out_by_node, into_by_node, balanced_either_way}
+use Rattle.flow_tools.specs.connecting.Circulations.{HasNoBridge}
 use Rattle.flow_tools.specs.connecting.Components.{IsInOnePiece}
 use Rattle.flow_tools.specs.connecting.Degrees.{ArePairs, IsEven, counted}
 use Rattle.flow_tools.proofs.connecting.ConnectingLemmas.{node_is_proper}
@@ -30,7 +31,8 @@ crosses_either false true c l e h = omega arith
 crosses_either false false c l e h = omega arith
 
 crossing_by_arcs : (X : ℕ → Bool) (arcs : List Arc)
-    → count_by (λ a. leaves X a || (X a.dst && not (X a.src))) arcs ≡ count_by (leaves X) arcs + count_by (enters X) arcs
+    → count_by (λ a. leaves X a || (X a.dst && not (X a.src))) arcs
+    ≡ count_by (leaves X) arcs + count_by (enters X) arcs
 crossing_by_arcs X [] = refl
 crossing_by_arcs X (a ∷ arcs) =
     omega (
@@ -127,7 +129,7 @@ even_crossing net n even X =
 abbrev within : (ℕ → Bool) → Arc → Bool
 within X a = X a.src && X a.dst
 
-more : (p : Arc → Bool) (arcs : List Arc) (i : ℕ) → i < length arcs
+pub more : (p : Arc → Bool) (arcs : List Arc) (i : ℕ) → i < length arcs
     → count_by p (take (i + 1) arcs) ≡ count_by p (take i arcs) + cond (p (get_or arcs i no_arc)) 1 0
 more p arcs i l = elim (cases_Bool (p (get_or arcs i no_arc))) [
   | inl is ↦ rw is (count_by_more_yes p arcs i no_arc l is)
@@ -228,26 +230,31 @@ even_sets false net n pairs even X = even_leaving net n (pairs refl) even X
 
 -- ---- the connectivity
 
--- the least number at a node is the least of all, if it is at most 1, or 2 and all are even
+-- an even number is not 1
+pub even_no_bridge : (undirected : Bool) (net : Net) → IsNet net → (undirected ≡ false → ArePairs net)
+    → ((v : ℕ) → IsNode net v → IsEven (counted undirected net (just v))) → HasNoBridge undirected net
+even_no_bridge undirected net n pairs even X e =
+    let half = even_sets undirected net n pairs even X in
+    omega (arith, half.1)
+
+-- the least number at a node is the least of all, if it is at most 1, or 2 and no set has exactly one
 pub told : (undirected : Bool) (net : Net) (k : ℕ) → IsNet net → (undirected ≡ false → IsEitherWay net)
     → IsInOnePiece net → ((v : ℕ) × IsNode net v × (counted undirected net (just v) ≡ k))
-    → ((k ≤ 1)
-    ⊎ ((k ≡ 2)
-    × ((v : ℕ) → IsNode net v → IsEven (counted undirected net (just v)))
-    × (undirected ≡ false → ArePairs net)))
-    → IsLeastOver (IsProper net) (counted undirected net) k
+    → ((k ≤ 1) ⊎ ((k ≡ 2) × HasNoBridge undirected net)) → IsLeastOver (IsProper net) (counted undirected net) k
 told undirected net k n either piece at few = record {
   reached = (just at.0, node_is_proper net at.0 n at.1, at.2);
   least = λ X p. below X (counted_some undirected net X either (piece X p));
 }
   where
-    two : (m : ℕ) → 1 ≤ m → IsEven m → 2 ≤ m
-    two m l e = omega (arith, e.1)
+    two : (m : ℕ) → 1 ≤ m → m ≢ 1 → 2 ≤ m
+    two zero l d = absurd (omega arith)
+    two (suc zero) l d = absurd (d refl)
+    two (suc (suc m)) l d = omega arith
 
     below : (X : ℕ → Bool) → 1 ≤ counted undirected net X → k ≤ counted undirected net X
     below X some = elim few [
       | inl one ↦ omega arith
-      | inr e ↦ omega (arith, e.0, two (counted undirected net X) some (even_sets undirected net n e.2 e.1 X))
+      | inr e ↦ omega (arith, e.0, two (counted undirected net X) some (e.1 X))
     ]
 
 -- where no arc is at some node, none is below

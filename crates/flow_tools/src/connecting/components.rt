@@ -10,7 +10,7 @@ ghost use Rattle.flow_tools.specs.connecting.Components.{AreLinked, HoldLinks, I
 use flow_net::Network;
 
 /// Makes each node a tree of its own.
-fn link_to_themselves(net: &Network, cells: &mut [u32])
+pub(crate) fn link_to_themselves(net: &Network, cells: &mut [u32])
     requires { length cells.old ≡ net.now.nodes }
     ensures { HoldLinks net.now cells.new }
 {
@@ -40,8 +40,8 @@ fn root_of(net: &Network, cells: &mut [u32], node: u32) -> u32
     at
 }
 
-/// Joins the trees of the ends of an arc.
-fn join_ends(net: &Network, cells: &mut [u32], arc: u32)
+/// Joins the trees of the ends of an arc. Answers whether they were two.
+pub(crate) fn join_ends(net: &Network, cells: &mut [u32], arc: u32) -> bool
     requires links { HoldLinks net.now cells.old }
     requires arc { arc < length net.now.arcs }
     ensures { HoldLinks net.now cells.new }
@@ -54,6 +54,7 @@ fn join_ends(net: &Network, cells: &mut [u32], arc: u32)
     } else {
         cells[from as usize - 1] = to;
     }
+    from != to
 }
 
 /// Whether all nodes are in one tree.

@@ -1,8 +1,9 @@
 //! The connectivity where a count of links tells it, without any flow: no more than two arcs leave some node, and
-//! nothing less can be, since the network is of one piece and, for two, only even numbers of arcs leave its sets.
+//! nothing less can be, since the network is of one piece and, for two, no set of nodes has exactly one link.
 //!
-//! This is what trees, stars, chains and rings are answered by, and each undirected network in which a node has a
-//! single link. An even number at each node makes an even number at each set (Euler 1736).
+//! This is what trees, stars, chains, rings and grids are answered by, and each undirected network of one piece in
+//! which a node has a single link. That no set has exactly one link is shown by the numbers at the nodes where these
+//! are even, since then they are even at all sets (Euler 1736), and else by amounts that go round (`circulations`).
 ghost use Rattle.std.specs.Prelude.{◌≡◌, ◌⊎◌, ℕ, ◌+◌, ◌-◌, ◌*◌, ◌≤◌, ◌<◌, false, IfOk, IfSome, IsTrue, length};
 ghost use Rattle.std.specs.Prelude.{slice_index};
 ghost use Rattle.flow_net.specs.Nets.{IsNode};
@@ -12,6 +13,7 @@ ghost use Rattle.flow_solve.specs.Growth.{IsEitherWay};
 ghost use Rattle.flow_tools.specs.connecting.Degrees.{ArePairs, IsEven, counted};
 
 use crate::cells::filled;
+use crate::connecting::circulations::has_no_bridge;
 use crate::connecting::components::is_in_one_piece;
 use crate::connecting::degrees::count_degrees;
 use flow_net::{Network, OutOfMemory};
@@ -96,43 +98,65 @@ fn are_pairs(net: &Network) -> bool
     net.len() % 2 == 0
 }
 
-/// Whether the least of the counts is the connectivity, if the network is of one piece.
-fn is_told(net: &Network, undirected: bool, counts: Counts) -> bool
+/// Whether the least of the counts can be shown to be the connectivity: it is 1, or it is 2 and each link stands for
+/// one arc out of a set.
+fn can_be_told(net: &Network, undirected: bool, counts: Counts) -> bool
     ensures { IsTrue result → (counts.least ≤ 1)
-        ⊎ ((counts.least ≡ 2) × IsTrue counts.are_even × (undirected ≡ false → ArePairs net.now)) }
+        ⊎ ((counts.least ≡ 2) × (undirected ≡ false → ArePairs net.now)) }
 {
     if counts.least < 2 {
         return true;
     }
-    counts.least == 2 && counts.are_even && (undirected || are_pairs(net))
+    counts.least == 2 && (undirected || are_pairs(net))
+}
+
+/// Whether the counts show it, if the network is of one piece.
+fn is_shown_by(counts: Counts) -> bool
+    ensures shown { IsTrue result → (counts.least ≤ 1) ⊎ IsTrue counts.are_even }
+    ensures not_shown { result ≡ false → 2 ≤ counts.least }
+{
+    counts.least < 2 || counts.are_even
 }
 
 /// The least of the counts, where it is the connectivity. The cells are used up.
-fn told_by_counts(net: &Network, undirected: bool, out: &mut [u32]) -> Option<u64>
+fn told_by_counts(
+    alloc: Global,
+    net: &Network,
+    undirected: bool,
+    out: &mut [u32],
+) -> Result<Option<u64>, OutOfMemory>
     requires size { length out.old ≡ net.now.nodes }
     requires counts { (v : ℕ) → IsNode net.now v → slice_index out.old (v - 1) ≡ counted undirected net.now (just v) }
     requires balanced { undirected ≡ false → IsEitherWay net.now }
-    ensures { IfSome result (IsLeastOver (IsProper net.now) (counted undirected net.now)) }
+    ensures { IfOk result (λ told. IfSome told (IsLeastOver (IsProper net.now) (counted undirected net.now))) }
 {
     // Brings the network's limits, `IsNet`, into the proof.
     let _ = net.nodes();
     let counts = counts_of(out);
     if counts.least == 0 {
-        return Some(0);
+        return Ok(Some(0));
     }
-    if !is_told(net, undirected, counts) || !is_in_one_piece(net, out) {
-        return None;
+    if !can_be_told(net, undirected, counts) || !is_in_one_piece(net, out) {
+        return Ok(None);
     }
-    Some(u64::from(counts.least))
+    if is_shown_by(counts) {
+        return Ok(Some(u64::from(counts.least)));
+    }
+    if has_no_bridge(alloc, net, undirected)? {
+        return Ok(Some(2));
+    }
+    Ok(None)
 }
 
 /// The connectivity of a network by a count of the arcs at each node, where that tells it: undirected of the network
-/// with each arc both ways. It takes two cells of memory for each node while it works, and nearly linear time.
+/// with each arc both ways. It takes two cells of 32 bits for each node while it works, or at most seven and two for
+/// each arc, and nearly linear time.
 ///
-/// The answer is the least number of arcs at a node, if that is 0; if it is 1, and the network is of one piece; if it is
-/// 2, and besides the numbers at all nodes are even. Undirected this is so in any network; else as many arcs have to
-/// leave each node as enter it and, for 2, each arc has to be followed by its opposite. In all other networks nothing is
-/// answered, and [`connectivity`](crate::connectivity) finds the number by flows.
+/// The answer is the least number of arcs at a node: if that is 0; if it is 1, and the network is of one piece; or if
+/// it is 2, the network is of one piece, and no set of nodes has exactly one link to the others. Where `undirected` is
+/// false as many arcs have to leave each node as enter it besides, and for 2 each arc has to be followed by its
+/// opposite. For all other networks nothing is told, and [`connectivity`](crate::connectivity) finds the number by
+/// flows. That it tells the number where it could is tested, and not promised.
 pub fn connectivity_by_links(
     alloc: Global,
     net: &Network,
@@ -146,5 +170,5 @@ pub fn connectivity_by_links(
     if !count_links(net, undirected, out, into) {
         return Ok(None);
     }
-    Ok(told_by_counts(net, undirected, out))
+    told_by_counts(alloc, net, undirected, out)
 }

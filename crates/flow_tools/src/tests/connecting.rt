@@ -131,8 +131,9 @@ fn agrees_with_all_sets(rt: HostRuntime) {
 
 #[test]
 fn links_agree_with_all_sets(rt: HostRuntime) {
-    // How many networks are told to have the connectivity 0, 1 and 2.
+    // How many networks are told to have the connectivity 0, 1 and 2, and how many of these have odd numbers of links.
     let mut told_so = [0u32; 3];
+    let mut odd = 0u32;
     for seed in 0..3000u64 {
         let mut net = random_network(rt.alloc(), seed).expect(&rt, "memory");
         let told = told_by_links(rt.alloc(), &net, true).expect(&rt, "memory");
@@ -140,11 +141,99 @@ fn links_agree_with_all_sets(rt: HostRuntime) {
         net.both_ways().expect(&rt, "memory");
         let least = least_of_sets(&net);
         assert_eq!(&rt; (seed, told.unwrap_or(least)), (seed, least));
-        if told == Some(least) && least < 3 {
+        if least < 3 && least == least_at_nodes(&net) {
+            assert_eq!(&rt; (seed, told), (seed, Some(least)));
             told_so[least as usize] = told_so[least as usize].saturating_add(1);
+            if least == 2 && has_odd_node(&net) {
+                odd = odd.saturating_add(1);
+            }
         }
     }
-    assert!(&rt; told_so[0] > 100 && told_so[1] > 100 && told_so[2] > 10);
+    assert!(&rt; told_so[0] > 100 && told_so[1] > 100 && told_so[2] > 100 && odd > 50);
+}
+
+/// The least number of arcs that leave a node, of at most 8.
+fn least_at_nodes(net: &Network) -> u64 {
+    let mut least = u64::MAX;
+    for node in 1..net.nodes().min(8).saturating_add(1) {
+        least = least.min(leaving(net, SETS[node as usize % 9]));
+    }
+    least
+}
+
+/// Whether an odd number of arcs leaves one of at most 8 nodes.
+fn has_odd_node(net: &Network) -> bool {
+    for node in 1..net.nodes().min(8).saturating_add(1) {
+        if leaving(net, SETS[node as usize % 9]) % 2 == 1 {
+            return true;
+        }
+    }
+    false
+}
+
+/// How many nodes each of two rings has, and how many chords they have together.
+const ROUND: u32 = 500;
+
+const CHORDS: u32 = 300;
+
+/// Adds a link, or its arcs both ways.
+#[must_use]
+fn add_link(net: &mut Network, src: u32, dst: u32, as_pairs: bool) -> bool {
+    add(net, src, dst) && (!as_pairs || add(net, dst, src))
+}
+
+/// Two rings with chords, each within one of them, and so many links between them.
+fn two_rings(alloc: Global, between: u32, as_pairs: bool) -> Option<Network> {
+    let mut net = Network::new(alloc, 2 * ROUND);
+    for i in 0..2 * ROUND {
+        let next = if (i + 1) % ROUND == 0 {
+            i + 1 - ROUND
+        } else {
+            i + 1
+        };
+        if !add_link(&mut net, 1 + i, 1 + next, as_pairs) {
+            return None;
+        }
+    }
+    let mut state = 7u64;
+    for chord in 0..CHORDS {
+        state = shuffle(state);
+        let from = ((state >> 33) % 499) as u32;
+        state = shuffle(state);
+        let to = ((state >> 33) % 499) as u32;
+        let base = chord % 2 * ROUND;
+        if !add_link(&mut net, 1 + base + from, 1 + base + to, as_pairs) {
+            return None;
+        }
+    }
+    for i in 0..between {
+        let there = 1 + i % ROUND;
+        if !add_link(&mut net, there, ROUND + there, as_pairs) {
+            return None;
+        }
+    }
+    Some(net)
+}
+
+/// That it tells it is no promise, and no contract says so.
+#[test]
+fn links_tell_rings_with_chords(rt: HostRuntime) {
+    for as_pairs in [false, true] {
+        for (between, told) in [
+            (0u32, None),
+            (1, None),
+            (2, Some(2u64)),
+            (3, Some(2)),
+            (40, Some(2)),
+        ] {
+            let net = two_rings(rt.alloc(), between, as_pairs).expect(&rt, "memory");
+            let answer = told_by_links(rt.alloc(), &net, !as_pairs);
+            assert_eq!(&rt;
+                (as_pairs, between, answer),
+                (as_pairs, between, Some(told))
+            );
+        }
+    }
 }
 
 /// What a count of links tells of a network; nothing if memory is refused.
@@ -265,6 +354,31 @@ const LINKED: &[Linked] = &[
         arcs: &[(1, 2), (3, 3), (2, 1)],
         undirected: true,
         told: Some(0),
+    },
+    Linked {
+        name: "a ring of links with a chord",
+        nodes: 4,
+        arcs: &[(1, 2), (3, 1), (2, 3), (3, 4), (4, 1)],
+        undirected: true,
+        told: Some(2),
+    },
+    Linked {
+        name: "a ring both ways with a chord, in pairs",
+        nodes: 4,
+        arcs: &[
+            (1, 2),
+            (2, 1),
+            (3, 1),
+            (1, 3),
+            (2, 3),
+            (3, 2),
+            (3, 4),
+            (4, 3),
+            (4, 1),
+            (1, 4),
+        ],
+        undirected: false,
+        told: Some(2),
     },
     Linked {
         name: "three links between two nodes",

@@ -23,7 +23,8 @@ returns g c =
     (IsLeastOver (IsSeparating p pair) (counted c.args.undirected p.net)) pair
     (λ k by_pair whole. connectivity_restored p q c.args.undirected pair k c.in_ok-problem.ensures
     (connectivity_of q made c.deref.result.now c.deref-2.result.now (c.deref.ensures.value ∙ parts.sources)
-    (c.deref-2.ensures.value ∙ parts.sinks) c.args.undirected pair k (rw parts.net at c.in_ok-net.ensures) by_pair whole))
+    (c.deref-2.ensures.value ∙ parts.sinks) c.args.undirected pair k
+    (rw parts.net at c.in_ok-net.ensures) by_pair whole))
     c.solve_connectivity.result e.pair e.whole
   where
     either : {E : Type 0} (P Q R : ℕ → Type 0) (b : Bool) → ((k : ℕ) → (b ≡ true → P k) → (b ≡ false → Q k) → R k)

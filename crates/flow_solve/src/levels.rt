@@ -1,9 +1,9 @@
 //! The method by levels (Dinitz 1970), in four stages that work on one flow: short paths, then search trees, then waves
 //! of excess where the trees don't finish, then phases.
 //!
-//! 1. **Short paths** (`short_paths`), from a source over one node or two to a sink. No tree is there yet that a push
-//!    could break, so they cost no repair. Assignments and closures get most of their flow so, and so do many dense
-//!    networks.
+//! 1. **Short paths** (`short_paths`), from a source over one node or two to a sink, looked for from the side that
+//!    fewer half-arcs leave. No tree is there yet that a push could break, so they cost no repair. Assignments get most
+//!    of their flow so, and so does a network with an arc from each node to every later one.
 //! 2. **Two trees** (`trees`, `chains`, `orphans`, `forest`). Search trees grow from the sources and from the sinks
 //!    (Boykov and Kolmogorov 2004), from one *active* node after another. Each node in a tree has a *parent*, the
 //!    half-arc that leads towards its root, a *label*, which tells how far that was when it was last looked at, and a

@@ -62,6 +62,22 @@ const SHORT: &[(&[(u32, u32, u64)], u128, u128)] = &[
         1,
         2,
     ),
+    // The same backwards, found from the sink, which fewer arcs enter than leave the source: node 2 takes node 4, the
+    // only one that leads to node 3.
+    (
+        &[
+            (3, 6, 1),
+            (2, 6, 1),
+            (5, 2, 1),
+            (4, 2, 1),
+            (4, 3, 1),
+            (1, 4, 1),
+            (1, 5, 1),
+            (1, 4, 1),
+        ],
+        1,
+        2,
+    ),
     // Against the arcs nothing goes.
     (
         &[(2, 1, 1), (6, 2, 1), (1, 3, 1), (4, 3, 1), (4, 6, 1)],

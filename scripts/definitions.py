@@ -10,8 +10,6 @@ follow fails. The page has to tell
   of the code with their numbers of lines and what they hold, and what each stream says of its bytes;
 - each definition that it quotes as it stands in the specs, whole.
 
-Whatever else tells people a limit in digits has to tell the constant's own number.
-
 A file that is reached has to hold nothing else, so that its reader never wonders what a definition is there for. The
 last line is 'definitions: N passed, M failed'. With --print the tables of the page are printed.
 
@@ -33,17 +31,6 @@ STARTS = [
 
 # The contract that stands above these, of which the page tells how many lines it takes more.
 CLOSED = [("crates/flow_tools/src/running/texts.rt", "pub fn run_on_texts", "\n{")]
-
-# The files that tell the number of a constant in digits, to people or because they can't cite it.
-TOLD = {
-    "MOST_NODES": "README.md man/flow.1 docs/MESSAGES.md crates/flow/src/commands.rt crates/growths/src/nets.rt "
-    "scripts/independent.py bench/generate.py examples/common/dimacs.py examples/networkx/flow_networkx.py",
-    "MOST_ARCS": "README.md man/flow.1 docs/MESSAGES.md crates/flow/src/commands.rt crates/growths/src/nets.rt "
-    "scripts/independent.py bench/generate.py examples/common/dimacs.py examples/networkx/flow_networkx.py",
-    "MOST_FLOW_LINES": "README.md docs/MESSAGES.md crates/flow/src/commands.rt scripts/independent.py",
-    "LONGEST_LINE": "README.md man/flow.1 docs/MESSAGES.md docs/DEFINITIONS.md crates/flow/src/commands.rt "
-    "scripts/independent.py",
-}
 
 # A name, with what stands before and behind its dots: a run of characters between blanks and brackets.
 WORD = re.compile(r"[^\s(){}\[\];:,]+")
@@ -207,17 +194,6 @@ def rows(counts, outside):
     return table, library, constants, types
 
 
-def numbers_told():
-    """For each constant and each file that tells it: the sentence to be tested, and whether it is so."""
-    limits = "".join(file.read_text() for file in sorted(ROOT.glob("crates/*/src/limits.rt")))
-    for name, files in TOLD.items():
-        number = int(re.search(rf"^pub const {name}: \w+ = ([\d_]+);$", limits, re.M)[1])
-        forms = "|".join(re.escape(form) for form in (f"{number}", f"{number:_}", f"{number:,}"))
-        for file in files.split():
-            found = re.search(rf"(?<![\d_])(?<!\d,)(?:{forms})(?![\d_]|,\d)", (ROOT / file).read_text())
-            yield f"{file} tells {name} as {number:,}", found is not None
-
-
 def streams():
     """What each stream of the crates says of its bytes and its bound, and of which type."""
     found = []
@@ -308,7 +284,6 @@ def main():
             text for _, text in every.get(name, [])
         ]
         tests[f"the page quotes {name} as it stands in the specs"] = found == [quoted]
-    tests.update(numbers_told())
     for test, holds in tests.items():
         if not holds:
             print(f"not so: {test}")

@@ -15,6 +15,8 @@ import subprocess
 import sys
 import tempfile
 
+import independent
+
 NET = b"p max 4 5\nn 1 s\nn 4 t\na 1 2 3\na 1 3 2\na 2 3 1\na 2 4 2\na 3 4 3\n"
 SOLUTION = b"s 5\nf 3 4 3\nf 2 4 2\nf 2 3 1\nf 1 3 2\nf 1 2 3\n"
 SOLVED = b"s 5\nf 1 2 3\nf 1 3 2\nf 2 3 1\nf 2 4 2\nf 3 4 3\n"
@@ -31,7 +33,7 @@ LINES = [b"c note", b"", b"   ", b" c", b"x", b"p max 2 0", b"n 1 s", b"n 2 t", 
 NUMBERS = [0, 1, 2, 9, 10**6, 2**32, 2**64 - 1, 2**64, 10**30]
 
 # What is asked of each mutated problem besides `solve`.
-JOBS = ["solve --value", "cut --arcs", "cut --sink --arcs", "connect", "connect --undirected", "connect --pair"]
+JOBS = [" ".join(words) for words in independent.JOBS if words != ["solve"]]
 
 REFUSING_ALLOCATOR = r"""
 /* An allocator put before the C library's (LD_PRELOAD). It counts the requests for memory of a program, refuses the
@@ -329,7 +331,7 @@ def fuzz(folder, problems, seed):
             check(f"{job} judges the file as solve does", same, (text, answer, solved))
         if solved[0] == 0:
             value = solved[1].split(b"\n")[0][2:]
-            for job in ("cut --arcs", "cut --sink --arcs"):
+            for job in ("cut --arcs", "cut --arcs --sink"):
                 lines = answers[job][1].split(b"\n")
                 total = sum(int(line.split()[3]) for line in lines if line.startswith(b"a "))
                 holds = lines[0] == b"s " + value and total == int(value)

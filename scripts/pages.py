@@ -2,9 +2,9 @@
 """Compares the manual page and the completions with what the program's help says: pages.py FLOW
 
 FLOW is the program that was built. Each command, option, operand, line of output and status that a help names must
-stand in man/flow.1, and nothing else may; and bash, zsh and fish must offer just the commands and options of the help.
-A shell that isn't installed isn't tried; of its file the options are read then. The last line is 'pages: N passed, M
-failed'.
+stand in man/flow.1, and nothing else may; and bash, zsh and fish must offer just the commands and options of the help,
+out of the files that scripts/completions.py writes. A shell that isn't installed isn't tried; of its file the options
+are read then. The last line is 'pages: N passed, M failed'.
 """
 import os
 import pty
@@ -17,52 +17,10 @@ import sys
 import time
 from pathlib import Path
 
+from completions import FILES, FOLDER as COMPLETIONS, Help, helps_of, said
+
 TOP = Path(__file__).resolve().parent.parent
 PAGE = TOP / 'man' / 'flow.1'
-COMPLETIONS = TOP / 'completions'
-
-
-def said(*words, **named):
-    """What a program prints, standard error too."""
-    done = subprocess.run(words, stdout=subprocess.PIPE, stderr=subprocess.STDOUT, text=True, timeout=60, **named)
-    return done.stdout
-
-
-class Help:
-    """What one help text says: commands, options in order, operands, lines of output and statuses."""
-
-    def __init__(self, text):
-        block = {'': []}
-        name = ''
-        for line in text.splitlines():
-            heading = re.fullmatch(r'([A-Z][A-Za-z ]*):', line)
-            if heading:
-                name = heading[1]
-                block[name] = []
-            else:
-                block[name].append(line)
-        head = '\n'.join(block[''])
-        self.commands = re.findall(r'^  (\w+)  +\S', '\n'.join(block.get('Commands', [])), re.M)
-        self.options = [(m[1] or '', m[2]) for m in map(
-            re.compile(r' +(?:(-\w), )?(--[\w-]+).*').fullmatch, block.get('Options', [])) if m]
-        usage = re.search(r'^Usage: flow ?(.*)$', head, re.M)
-        words = usage[1].replace('<', '').replace('>', '').split() if usage else []
-        self.operands = [word for word in words[1:] if word != '[OPTIONS]']
-        self.lines = re.findall(r'^  ([a-z-]+(?: [A-Z]+)+)  +\S', head, re.M)
-        self.statuses = {}
-        last = None
-        for line in block.get('Exit status', []):
-            status = re.fullmatch(r'  (\d)  (\S.*)', line)
-            if status:
-                last = status[1]
-                self.statuses[last] = status[2]
-            elif line.startswith('     ') and last:
-                self.statuses[last] += ' ' + line.strip()
-            elif not line.strip():
-                last = None
-
-    def long(self):
-        return [long for _, long in self.options]
 
 
 class Manual:
@@ -224,7 +182,11 @@ def fish_says(source, commands):
     return found
 
 
-def compare_completions(main, helps, tally):
+def compare_completions(program, main, helps, tally):
+    known = helps_of(program)
+    for name, make in FILES.items():
+        tally.same(f'completions/{name} and what scripts/completions.py writes', (COMPLETIONS / name).read_text(),
+                   make(*known))
     wanted = {'flow ': sorted(main.commands), 'flow --': sorted(main.long())}
     for name, known in helps.items():
         wanted[f'flow {name} --'] = sorted(known.long())
@@ -263,7 +225,7 @@ def main():
         tally.same('what man warns of', typeset.stderr, '')
     else:
         print('pages: man or groff is not installed, so the page was not typeset')
-    compare_completions(top, helps, tally)
+    compare_completions(program, top, helps, tally)
     print(f'pages: {tally.passed} passed, {tally.failed} failed')
     return 1 if tally.failed else 0
 

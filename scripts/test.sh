@@ -48,6 +48,9 @@ add independent python3 scripts/independent.py crates/flow/out/flow
 # The page of definitions tells what the contracts of `run` and of the streams reach.
 add definitions python3 scripts/definitions.py
 
+# Every text tells the limits as their constants say.
+add limits python3 scripts/limits.py
+
 # The manual page and the completions say what the program's help says.
 add pages python3 scripts/pages.py crates/flow/out/flow
 

@@ -1,6 +1,7 @@
 -- What the numbers of arcs at the nodes say of the numbers at all sets of nodes.
 use Rattle.std.proofs.Common.{◌≡◌, ◌≢◌, ℕ, zero, suc, ◌+◌, ◌-◌, ◌*◌, ◌≤◌, ◌<◌, Bool, true, false, cond, not, ◌&&◌, ◌||◌}
 use Rattle.std.proofs.Common.{List, [], ◌∷◌, length, take, get_or, take_all, refl, ◌∙◌, sym, ap, inl, inr, ◌⊎◌, arith}
+use Rattle.std.specs.Prelude.{slice_index}
 use Rattle.std.specs.List.{count_by}
 use Rattle.std.proofs.lemmas.Bool.{cases_Bool}
 use Rattle.std.proofs.lemmas.List.Sums.{sum_by-cons, count_by_more_no, count_by_more_yes}
@@ -236,6 +237,16 @@ pub even_no_bridge : (undirected : Bool) (net : Net) → IsNet net → (undirect
 even_no_bridge undirected net n pairs even X e =
     let half = even_sets undirected net n pairs even X in
     omega (arith, half.1)
+
+-- the least of the numbers at the nodes, which stand in cells, is that of some node
+pub at_some_node : (undirected : Bool) (net : Net) (cells : List ℕ) (k : ℕ) → length cells ≡ net.nodes
+    → ((v : ℕ) → IsNode net v → slice_index cells (v - 1) ≡ counted undirected net (just v))
+    → ((i : ℕ) × (i < length cells) × (slice_index cells i ≡ k))
+    → (v : ℕ) × IsNode net v × (counted undirected net (just v) ≡ k)
+at_some_node undirected net cells k size counts found =
+    let within = found.1 in
+    let node : IsNode net (found.0 + 1) = (omega arith, omega (arith, within, size)) in
+    (found.0 + 1, node, sym (counts (found.0 + 1) node) ∙ ap (slice_index cells) (omega arith) ∙ found.2)
 
 -- the least number at a node is the least of all, if it is at most 1, or 2 and no set has exactly one
 pub told : (undirected : Bool) (net : Net) (k : ℕ) → IsNet net → (undirected ≡ false → IsEitherWay net)

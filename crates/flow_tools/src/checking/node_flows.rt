@@ -143,8 +143,8 @@ fn sum_at(cells: &[u128], nodes: &[u32]) -> u128
 pub(crate) fn outflow_of_sources(problem: &Problem, flows: &NodeFlows) -> i128
     requires into { length flows.now.into.items ≡ problem.now.net.nodes }
     requires out { length flows.now.out.items ≡ problem.now.net.nodes }
-    requires into_fits { sum_by (at_node flows.now.into.items) problem.now.sources < 2 ^ 127 }
-    requires out_fits { sum_by (at_node flows.now.out.items) problem.now.sources < 2 ^ 127 }
+    requires fit { (sum_by (at_node flows.now.into.items) problem.now.sources < 2 ^ 127)
+        × (sum_by (at_node flows.now.out.items) problem.now.sources < 2 ^ 127) }
     ensures { (lines : List FlowLine)
         → AreNodeFlows problem.now.net.nodes lines flows.now.into.items flows.now.out.items
         → result ≡ net_outflow problem.now lines }

@@ -32,16 +32,9 @@ returns-in-Some c = λ feasible_only.
       found.least,
     )
 
-pub outflow_of_sources-found-requires-clause-into_fits : goal.outflow_of_sources-found-requires-clause-into_fits
-outflow_of_sources-found-requires-clause-into_fits c =
-    (sources_fit c.args.problem.now c.args.solution.now.lines.items c.in_ok-flows.flows.into.items
+pub outflow_of_sources-found-requires-clause-fit : goal.outflow_of_sources-found-requires-clause-fit
+outflow_of_sources-found-requires-clause-fit c =
+    sources_fit c.args.problem.now c.args.solution.now.lines.items c.in_ok-flows.flows.into.items
     c.in_ok-flows.flows.out.items c.net.ensures.is_problem
     (rw (c.nodes.ensures.nodes, c.net.ensures.net, c.as_slice.ensures.value) at c.in_ok-flows.ensures)
-    c.requires.limits.lines_within c.requires.limits.lines_most).0
-
-pub outflow_of_sources-found-requires-clause-out_fits : goal.outflow_of_sources-found-requires-clause-out_fits
-outflow_of_sources-found-requires-clause-out_fits c =
-    (sources_fit c.args.problem.now c.args.solution.now.lines.items c.in_ok-flows.flows.into.items
-    c.in_ok-flows.flows.out.items c.net.ensures.is_problem
-    (rw (c.nodes.ensures.nodes, c.net.ensures.net, c.as_slice.ensures.value) at c.in_ok-flows.ensures)
-    c.requires.limits.lines_within c.requires.limits.lines_most).1
+    c.requires.limits.lines_within c.requires.limits.lines_most

@@ -19,4 +19,4 @@ returns c = λ lines f.
     c.as_slice-2.ensures.value c.sources-2.ensures.sources c.sum_at-into.ensures in
     let out_is = sources_out p lines flows.into.items flows.out.items c.sources.ensures.is_problem f in
     let into_is = sources_into p lines flows.into.items flows.out.items c.sources.ensures.is_problem f in
-    omega (arith, ints, c.requires.into_fits, c.requires.out_fits)
+    omega (arith, ints, c.requires.fit.0, c.requires.fit.1)

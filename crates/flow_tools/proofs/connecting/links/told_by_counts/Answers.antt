@@ -1,41 +1,29 @@
 -- `told_by_counts`: the least number at a node is reached by the set of that node, and no set has fewer.
-use Rattle.std.proofs.Common.{refl, ◌≡◌, ◌⊎◌, ◌≤◌, ◌+◌, ◌-◌, ℕ, true, false, ◌∙◌, sym, ap, subst, inl, inr, arith}
-use Rattle.std.specs.Prelude.{slice_index}
+use Rattle.std.proofs.Common.{refl, ◌≡◌, ◌⊎◌, ◌≤◌, ◌-◌, ℕ, true, false, ◌∙◌, sym, subst, inl, inr, arith}
 use Rattle.flow_net.specs.Nets.{IsNode}
 use Rattle.flow_net.specs.NodeSets.{just, IsLeastOver}
 use Rattle.flow_net.specs.Connectivity.{IsProper}
 use Rattle.flow_tools.specs.connecting.Degrees.{ArePairs, IsEven, counted}
-use Rattle.flow_tools.proofs.connecting.LinkLemmas.{told, told_none, even_no_bridge}
+use Rattle.flow_tools.proofs.connecting.LinkLemmas.{at_some_node, told, told_none, even_no_bridge}
 use Rattle.flow_tools.proofs.connecting.links.told_by_counts.Goals as goal
 
 pub returns-then-counts-eq0 : goal.returns-then-counts-eq0
 returns-then-counts-eq0 c =
     let found = c.counts_of-counts.ensures.found in
-    let within = found.1 in
-    let node : IsNode c.args.net.now (found.0 + 1) =
-    (omega arith, omega (arith, within, c.requires.size)) in
-    told_none c.args.undirected c.args.net.now c.nodes.ensures.is_net (
-      found.0 + 1,
-      node,
-      sym (c.requires.counts (found.0 + 1) node) ∙ ap (slice_index c.args.out.now) (omega arith) ∙ found.2
-          ∙ c.if-counts-eq0.true,
-    )
+    told_none c.args.undirected c.args.net.now c.nodes.ensures.is_net
+    (at_some_node c.args.undirected c.args.net.now c.args.out.now 0 c.requires.size c.requires.counts
+    (found.0, found.1, found.2 ∙ c.if-counts-eq0.true))
 
 pub returns-then-is_shown_by : goal.returns-then-is_shown_by
 returns-then-is_shown_by c =
     let net = c.args.net.now in
     let undirected = c.args.undirected in
     let counts = c.counts_of-counts.result in
-    let found = c.counts_of-counts.ensures.found in
-    let within = found.1 in
-    let node : IsNode net (found.0 + 1) = (omega arith, omega (arith, within, c.requires.size)) in
     subst (IsLeastOver (IsProper net) (counted undirected net)) (sym c.from.ensures)
     (told undirected net counts.least c.nodes.ensures.is_net c.requires.balanced
-    (c.is_in_one_piece.ensures c.if-not-is_in_one_piece.false) (
-      found.0 + 1,
-      node,
-      sym (c.requires.counts (found.0 + 1) node) ∙ ap (slice_index c.args.out.now) (omega arith) ∙ found.2,
-    )
+    (c.is_in_one_piece.ensures c.if-not-is_in_one_piece.false)
+    (at_some_node undirected net c.args.out.now counts.least c.requires.size c.requires.counts
+    c.counts_of-counts.ensures.found)
     (elim (c.is_shown_by.ensures.shown c.if-is_shown_by.true) [
       | inl few ↦ inl few
       | inr are ↦ elim (c.can_be_told.ensures c.if-not-can_be_told.false) [
@@ -70,15 +58,10 @@ returns-then-branch c =
     let undirected = c.args.undirected in
     let counts = c.counts_of-counts.result in
     let found = c.counts_of-counts.ensures.found in
-    let within = found.1 in
-    let node : IsNode net (found.0 + 1) = (omega arith, omega (arith, within, c.requires.size)) in
     let two = is_two counts.least (undirected ≡ false → ArePairs net)
     (c.can_be_told.ensures c.if-not-can_be_told.false) (c.is_shown_by.ensures.not_shown c.if-is_shown_by.false) in
     told undirected net 2 c.nodes.ensures.is_net c.requires.balanced
-    (c.is_in_one_piece.ensures c.if-not-is_in_one_piece.false) (
-      found.0 + 1,
-      node,
-      sym (c.requires.counts (found.0 + 1) node) ∙ ap (slice_index c.args.out.now) (omega arith) ∙ found.2
-          ∙ two.0,
-    )
+    (c.is_in_one_piece.ensures c.if-not-is_in_one_piece.false)
+    (at_some_node undirected net c.args.out.now 2 c.requires.size c.requires.counts
+    (found.0, found.1, found.2 ∙ two.0))
     (inr (refl, c.in_ok-has_no_bridge.ensures c.if-branch.true))

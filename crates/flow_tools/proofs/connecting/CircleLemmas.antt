@@ -15,7 +15,7 @@ use Rattle.flow_net.specs.Arcs.{enters}
 use Rattle.flow_net.specs.Connectivity.{leaving, IsProper}
 use Rattle.flow_net.specs.LeastCuts.{IsConnectivity, IsPairConnectivity}
 use Rattle.flow_net.proofs.Connections.{cut_of_two}
-use Rattle.flow_tools.specs.connecting.Degrees.{AreDegrees, next_node, IsBelowNext}
+use Rattle.flow_tools.specs.connecting.Degrees.{next_node, IsBelowNext}
 
 -- between a node inside a set and a later one outside there is one inside whose next is outside
 first_out : (X : ℕ → Bool) (a d : ℕ) → X a ≡ true → X (a + d) ≡ false
@@ -169,18 +169,3 @@ two_nodes net k n two r degree = record { reached = r; least = λ X p. alone X p
           leaves_agree net.nodes X (just a) net.arcs
               (recursion_from_All (IsArcWithin net.nodes) net.arcs n.arcs_within) same,
         )
-
--- a node's degrees in its cells
-pub degree_at : (net : Net) (v : ℕ) (out into : List ℕ) → IsNode net v → AreDegrees net.nodes net.arcs out into
-    → slice_index out (v - 1) ≡ leaving net (just v)
-degree_at net v out into at d =
-    let low = at.0 in
-    let high = at.1 in
-    d.leaving (v - 1) (omega arith) ∙ ap (λ w. leaving net (just w)) (omega arith)
-
-pub degree_into : (net : Net) (v : ℕ) (out into : List ℕ) → IsNode net v → AreDegrees net.nodes net.arcs out into
-    → slice_index into (v - 1) ≡ count_by (enters (just v)) net.arcs
-degree_into net v out into at d =
-    let low = at.0 in
-    let high = at.1 in
-    d.entering (v - 1) (omega arith) ∙ ap (λ w. count_by (enters (just w)) net.arcs) (omega arith)

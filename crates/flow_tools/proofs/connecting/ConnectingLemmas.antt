@@ -246,3 +246,18 @@ into_proper net out into i k n l d e = (
   others_are_proper net (i + 1) n (omega arith, omega arith),
   leaving_others net (i + 1) ∙ sym (d.entering i l) ∙ e,
 )
+
+-- a node's degrees in its cells
+pub degree_at : (net : Net) (v : ℕ) (out into : List ℕ) → IsNode net v → AreDegrees net.nodes net.arcs out into
+    → slice_index out (v - 1) ≡ leaving net (just v)
+degree_at net v out into at d =
+    let low = at.0 in
+    let high = at.1 in
+    d.leaving (v - 1) (omega arith) ∙ ap (λ w. leaving net (just w)) (omega arith)
+
+pub degree_into : (net : Net) (v : ℕ) (out into : List ℕ) → IsNode net v → AreDegrees net.nodes net.arcs out into
+    → slice_index into (v - 1) ≡ count_by (enters (just v)) net.arcs
+degree_into net v out into at d =
+    let low = at.0 in
+    let high = at.1 in
+    d.entering (v - 1) (omega arith) ∙ ap (λ w. count_by (enters (just w)) net.arcs) (omega arith)

@@ -89,7 +89,7 @@ fn carry(net: &Network, balances: &mut [u64], place: u32, amount: u64) -> bool
 /// Makes all balances even.
 fn make_even(balances: &mut [u64])
     ensures size { length balances.new ≡ length balances.old }
-    ensures even { (i : ℕ) → i < length balances.new → slice_index balances.new i ≡ 4611686018427387904 }
+    ensures even { (i : ℕ) → i < length balances.new → slice_index balances.new i ≡ EVEN }
 {
     balances.fill(EVEN);
 }
@@ -97,7 +97,7 @@ fn make_even(balances: &mut [u64])
 /// Whether all balances are even.
 fn are_even(balances: &[u64]) -> bool
     ensures { IsTrue result → (i : ℕ) → i < length balances.now
-        → slice_index balances.now i ≡ 4611686018427387904 }
+        → slice_index balances.now i ≡ EVEN }
 {
     for balance in balances {
         if *balance != EVEN {

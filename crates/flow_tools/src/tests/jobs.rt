@@ -191,7 +191,7 @@ fn a_chain_of_100000_nodes(rt: HostRuntime) -> Result<(), Fail> {
 }
 
 #[test]
-fn a_million_nodes_without_arcs(rt: HostRuntime) -> Result<(), Fail> {
+fn the_most_nodes_without_arcs(rt: HostRuntime) -> Result<(), Fail> {
     let problem = b"p max 1000000 0\nn 1 s\nn 1000000 t\n".as_slice();
     expect(&rt, rt.alloc(), CUT, problem, b"s 0\nn 1\n");
     Ok(())

@@ -3,6 +3,7 @@ use Rattle.std.proofs.Common.{◌<◌, ◌∙◌, subst, arith}
 use Rattle.flow_net.specs.Nets.{arc_at}
 use Rattle.flow_net.proofs.Zips.{arc_within}
 use Rattle.flow_tools.specs.connecting.Circulations.{HasGoneOver, link_place}
+use Rattle.flow_tools.specs.declared.connecting.circulations.TheConstants.{EVEN}
 use Rattle.flow_tools.proofs.connecting.CirculationLemmas.{told_more, none_alone, none_yet}
 use Rattle.flow_tools.proofs.connecting.circulations.go_round.Goals as goal
 
@@ -11,7 +12,7 @@ loop-i-init c = record {
   end = c.links_in-links.ensures.count;
   size = c.make_even.ensures.size ∙ c.requires.balances;
   told = λ X.
-      none_yet c.args.undirected c.args.net.now 4611686018427387904 c.make_even.new.balances X
+      none_yet c.args.undirected c.args.net.now EVEN c.make_even.new.balances X
       (λ i l. c.make_even.ensures.even i (omega (arith, c.make_even.ensures.size, c.requires.balances)));
 }
 
@@ -43,6 +44,6 @@ pub returns : goal.returns
 returns c = λ good.
     let net = c.args.net.now in
     let j = c.loop-i.invariant in
-    none_alone c.args.undirected net 4611686018427387904 c.loop-i.i c.loop-i.balances c.requires.pairs
+    none_alone c.args.undirected net EVEN c.loop-i.i c.loop-i.balances c.requires.pairs
     (omega (arith, j.end, c.loop-i-test.false, c.loop-i.auto.i-end))
     (λ i l. c.are_even.ensures good i (omega (arith, j.size))) j.told

@@ -1,8 +1,7 @@
 -- The least degree is reached by the set of one node, or of all the others, and is at most the degree of each node.
 use Rattle.std.proofs.Common.{◌-◌, arith}
 use Rattle.std.proofs.Math.Nat.{min-le_left}
-use Rattle.flow_tools.proofs.connecting.ConnectingLemmas.{lesser_proper, out_proper, into_proper}
-use Rattle.flow_tools.proofs.connecting.CircleLemmas.{degree_at}
+use Rattle.flow_tools.proofs.connecting.ConnectingLemmas.{degree_at, lesser_proper, out_proper, into_proper}
 use Rattle.flow_tools.proofs.connecting.degrees.least_degree.Goals as goal
 
 pub returns-clause-reached : goal.returns-clause-reached

@@ -4,7 +4,7 @@ use Rattle.std.proofs.Common.{◌≡◌, ◌-◌, ℕ, List, ◌∙◌, sym, ap,
 use Rattle.std.specs.Prelude.{slice_index}
 use Rattle.std.specs.Cmp.Lexicographic.{same_text}
 use Rattle.flow_net.specs.NodeSets.{just}
-use Rattle.flow_tools.proofs.connecting.CircleLemmas.{degree_at, degree_into}
+use Rattle.flow_tools.proofs.connecting.ConnectingLemmas.{degree_at, degree_into}
 use Rattle.flow_tools.proofs.connecting.LinkLemmas.{crossing_sum, balanced_sets}
 use Rattle.flow_tools.proofs.connecting.links.count_links.Goals as goal
 

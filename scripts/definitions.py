@@ -11,9 +11,10 @@ follow fails. The page has to tell
 - each definition that it quotes as it stands in the specs, whole.
 
 A file that is reached has to hold nothing else, so that its reader never wonders what a definition is there for. The
-last line is 'definitions: N passed, M failed'. With --print the tables of the page are printed.
+last line is 'definitions: N passed, M failed'. With --write the tables of the page and its counts are written anew; what
+it quotes is mended by hand.
 
-    python3 scripts/definitions.py [--print]
+    python3 scripts/definitions.py [--write]
 """
 import re
 import sys
@@ -31,6 +32,9 @@ STARTS = [
 
 # The contract that stands above these, of which the page tells how many lines it takes more.
 CLOSED = [("crates/flow_tools/src/running/texts.rt", "pub fn run_on_texts", "\n{")]
+
+# How the rows of the page's tables and lists begin: files, names of the standard library, constants, types, streams.
+ROWS = [r"\| `crates/", r"- `(?:Rattle|Prim)\.", r"\| `[A-Z_]+` \|", r"\| `\w+` of `", r"- `impl"]
 
 # A name, with what stands before and behind its dots: a run of characters between blanks and brackets.
 WORD = re.compile(r"[^\s(){}\[\];:,]+")
@@ -244,7 +248,20 @@ def quotes():
     return found
 
 
+def written(page, lines, sentences):
+    """The page with these rows in its tables and lists, and these counts in its sentences."""
+    head, mark, rest = page.partition("## How much it is")
+    for begin in ROWS:
+        new = "".join(f"{line}\n" for line in lines if re.match(begin, line))
+        rest = re.sub(rf"(?m)(?:^{begin}.*\n)+", lambda _: new, rest, count=1)
+    for sentence in sentences:
+        rest = re.sub(re.sub(r"\d+", r"\\d+", sentence), sentence, rest, count=1)
+    return head + mark + rest
+
+
 def main():
+    if sys.argv[1:] not in ([], ["--write"]):
+        sys.exit(__doc__)
     specs = Specs()
     reached, outside = specs.reached(starts(STARTS))
     closed = specs.reached(starts(CLOSED))[0] - reached
@@ -256,9 +273,6 @@ def main():
         counts[name] = sum(len(defined[item]) for other, item in reached if other == path)
         others[name] = [item for item in defined if (path, item) not in reached]
     table, library, constants, types = rows(counts, outside)
-    if "--print" in sys.argv:
-        print("\n".join(table + streams()))
-    page = PAGE.read_text()
     sentences = [
         f"{sum(counts.values())} lines in {len(counts)} files",
         f"takes {more} lines more",
@@ -266,6 +280,10 @@ def main():
         f"{len(constants)} constants",
         f"{len(types)} types of {sum(types.values())} lines",
     ]
+    page = PAGE.read_text()
+    if sys.argv[1:]:
+        page = written(page, [*table, *(f"- `{line}`" for line in streams())], sentences)
+        PAGE.write_text(page)
     tests = {f"the page says '{sentence}'": sentence in page for sentence in sentences}
     told = re.findall(r"^\| `.* \|$|^- `(?:Rattle|Prim)\..*$", page[page.index("## How much it is") :], re.M)
     for row in sorted({*table, *told}):

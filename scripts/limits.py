@@ -69,6 +69,10 @@ SENTENCES = {
     "scripts/hostile.py": ["b\" \" * {LONGEST_LINE + 1}]"],
     "bench/generate.py": ["NODES, ARCS = {MOST_NODES}, {MOST_ARCS}"],
     "examples/common/dimacs.py": ["MOST_NODES, MOST_ARCS = {MOST_NODES:_}, {MOST_ARCS:_}"],
+    "examples/pixels/README.md": [
+        "at most {MOST_NODES:,} nodes, its pixels and two more, and {MOST_ARCS:,} arcs.",
+        "whole numbers from 0 to {GREATEST_CAPACITY:,}",
+    ],
     "examples/scipy/README.md": ["beyond the limits of `flow`, {MOST_NODES:,} nodes and {MOST_ARCS:,} arcs."],
     "examples/networkx/flow_networkx.py": ["MOST_NODES = {MOST_NODES:_}", "MOST_ARCS = {MOST_ARCS:_}"],
 }

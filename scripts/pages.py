@@ -3,7 +3,7 @@
 
 FLOW is the program that was built. Each command, option, operand, line of output and status that a help names must
 stand in man/flow.1, and nothing else may; and bash, zsh and fish must offer just the commands and options of the help,
-out of the files that scripts/completions.py writes. A shell that isn't installed isn't tried; of its file the options
+out of the files that scripts/from_help.py writes. A shell that isn't installed isn't tried; of its file the options
 are read then. The last line is 'pages: N passed, M failed'.
 """
 import os
@@ -17,10 +17,9 @@ import sys
 import time
 from pathlib import Path
 
-from completions import FILES, FOLDER as COMPLETIONS, Help, helps_of, said
+from from_help import FILES, PAGE, TOP, Help, helps_of, said
 
-TOP = Path(__file__).resolve().parent.parent
-PAGE = TOP / 'man' / 'flow.1'
+COMPLETIONS = TOP / 'completions'
 
 
 class Manual:
@@ -185,8 +184,7 @@ def fish_says(source, commands):
 def compare_completions(program, main, helps, tally):
     known = helps_of(program)
     for name, make in FILES.items():
-        tally.same(f'completions/{name} and what scripts/completions.py writes', (COMPLETIONS / name).read_text(),
-                   make(*known))
+        tally.same(f'whether {name} is what scripts/from_help.py writes', (TOP / name).read_text() == make(*known), True)
     wanted = {'flow ': sorted(main.commands), 'flow --': sorted(main.long())}
     for name, known in helps.items():
         wanted[f'flow {name} --'] = sorted(known.long())

@@ -1,20 +1,22 @@
 #!/usr/bin/env python3
-"""Writes the completions for bash, zsh and fish out of what the program's help says: completions.py FLOW
+"""Writes what follows from the program's help: from_help.py FLOW
 
-FLOW is the program that was built. `scripts/pages.py` sees that the files in completions/ are what this writes, and
-asks the shells what they offer.
+These are the completions for bash, zsh and fish, and in the manual page the synopsis and the options of the commands.
+FLOW is the program that was built. `scripts/pages.py` sees that the files are what this writes, and asks the shells
+what they offer.
 """
 import re
 import subprocess
 import sys
 from pathlib import Path
 
-FOLDER = Path(__file__).resolve().parent.parent / 'completions'
+TOP = Path(__file__).resolve().parent.parent
+PAGE = TOP / 'man' / 'flow.1'
 
 BASH = '''\
 # Completion of flow's command lines for bash. It is loaded by bash-completion from
 # /usr/share/bash-completion/completions/flow, or by a line 'source flow.bash' in ~/.bashrc.
-# Written by scripts/completions.py.
+# Written by scripts/from_help.py.
 
 _flow() {
   local word=${COMP_WORDS[COMP_CWORD]}
@@ -51,7 +53,7 @@ ZSH = '''\
 #compdef flow
 # Completion of flow's command lines for zsh. It belongs into a folder of $fpath, as
 # /usr/share/zsh/vendor-completions, under the name _flow.
-# Written by scripts/completions.py.
+# Written by scripts/from_help.py.
 
 _flow() {
   local context state state_descr line
@@ -83,7 +85,7 @@ _flow "$@"
 FISH = '''\
 # Completion of flow's command lines for fish. It belongs into /usr/share/fish/vendor_completions.d or
 # ~/.config/fish/completions, under the name flow.fish.
-# Written by scripts/completions.py.
+# Written by scripts/from_help.py.
 
 # No files before a command is named; a problem or a solution may be any file.
 complete -c flow -n __fish_use_subcommand -f
@@ -201,8 +203,40 @@ def fish_file(main, helps):
     return FISH.replace('@LINES@', ''.join(lines) + '\n').replace('@COMMANDS@', ' '.join(helps))
 
 
+def typeset(text):
+    """A text in the source of the manual page, a word with its parameters on a line of its own."""
+    parts = re.split(r'(?<!\S)([a-z-]+)((?: [A-Z]{2,})+)(?!\S)', text.replace('-', '\\-'))
+    lines = []
+    for place in range(0, len(parts), 3):
+        lines += [parts[place].strip()] if parts[place].strip() else []
+        lines += [f'.BI {parts[place + 1]} "{parts[place + 2]}"'] if place + 1 < len(parts) else []
+    return '\n'.join(lines) + ('\n' if lines[-1].startswith('.') else '.\n')
+
+
+def synopsis(helps):
+    """The lines of the manual page's synopsis."""
+    lines = []
+    for name, known in helps.items():
+        flags = [f'.RB [ {typeset(long)[:-2]} ]' for short, long in known.options if not short]
+        operands = [f'.RI [ {word[1:-1]} ]' if word.startswith('[') else f'.I {word}' for word in known.operands]
+        lines += [f'.B flow {name}', *flags, *operands, '.br']
+    return '\n'.join([*lines, '.B flow help', '.RI [ COMMAND ]']) + '\n'
+
+
+def manual_page(main, helps):
+    """The manual page, with its synopsis and the options of its commands as the helps say."""
+    page = re.sub(r'(?<=^\.SH SYNOPSIS\n).*?(?=^\.SH)', lambda _: synopsis(helps), PAGE.read_text(), flags=re.M | re.S)
+    for name, known in helps.items():
+        options = [f'.TP\n.B {typeset(long)[:-2]}\n{typeset(known.meanings[long])}'
+                   for short, long in known.options if not short]
+        page = re.sub(rf'(^\.SS {name}\n(?:(?!\.S).*\n)*?)(?:\.TP\n\.B \\-\\-.*\n(?:(?!\.TP|\.S).*\n)+)+',
+                      lambda found: found[1] + ''.join(options), page, flags=re.M)
+    return page
+
+
 # The files, and what makes the text of each.
-FILES = {'flow.bash': bash_file, '_flow': zsh_file, 'flow.fish': fish_file}
+FILES = {'completions/flow.bash': bash_file, 'completions/_flow': zsh_file, 'completions/flow.fish': fish_file,
+         'man/flow.1': manual_page}
 
 
 def main():
@@ -210,7 +244,7 @@ def main():
         sys.exit(__doc__)
     helps = helps_of(str(Path(sys.argv[1]).resolve()))
     for name, make in FILES.items():
-        (FOLDER / name).write_text(make(*helps))
+        (TOP / name).write_text(make(*helps))
 
 
 if __name__ == '__main__':

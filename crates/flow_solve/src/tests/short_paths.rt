@@ -42,6 +42,12 @@ const SHORT: &[(&[(u32, u32, u64)], u128, u128)] = &[
     // Over one node, and then over two.
     (&[(1, 2, 5), (2, 6, 2), (2, 3, 9), (3, 6, 2)], 4, 4),
     (&[(1, 2, 1), (2, 6, 5), (1, 3, 4), (3, 2, 4)], 5, 5),
+    // Node 2 comes first, which can take but 1 of the 5 from the source: the path over node 3 still ends by it.
+    (
+        &[(1, 3, 4), (3, 2, 4), (1, 2, 1), (2, 6, 5), (4, 6, 1)],
+        5,
+        5,
+    ),
     // The arc from the source to the sink is left to the trees, and so is a path over three nodes.
     (
         &[(1, 6, 7), (1, 2, 1), (2, 3, 1), (3, 4, 1), (4, 6, 1)],

@@ -125,9 +125,12 @@ fn end_at(
         return true;
     }
     augment_over(task, flow, grown, cells, cross(direction, on));
-    // Where this filled the half-arc to the terminal, no path has to try it again.
-    put(last, node as usize - 1, NO_PARENT);
-    cells[parent_cell(node)] != NO_PARENT
+    let is_left = cells[parent_cell(node)] != NO_PARENT;
+    if is_left {
+        // Then the half-arc to the terminal was filled, and no path has to try it again.
+        put(last, node as usize - 1, NO_PARENT);
+    }
+    is_left
 }
 
 /// Augments along the paths that go on from a node over one half-arc or two, until nothing remains on the half-arc over

@@ -10,10 +10,10 @@
 //! flow can be taken back. A solver gets at flows by the looks and pushes of [`flow_net::FlowTable`] alone, and each
 //! of these is a counted step; the ends of arcs it may read freely.
 //!
-//! No call takes memory: all work is done in the first [`work_len`] cells of a slice that the caller lends. Two calls
-//! may give up: [`connectivity_by_growth`] answers nothing where the steps that it may take don't suffice, and
-//! [`name_nodes`] answers false where its names fail their test. No contract says that they ever succeed; callers go
-//! another way then.
+//! No call takes memory: all work is done in the first [`work_len`] cells of a slice that the caller lends. One call may
+//! give up: [`connectivity_by_growth`] answers nothing where the steps that it may take don't suffice. No contract says
+//! that it ever succeeds; callers go another way then.
+//!
 //! A cell holds a half-arc, a place, a distance or a rank. With `n` nodes and `m` arcs there are, in this order:
 //!
 //! | Cells | What they hold |
@@ -60,7 +60,6 @@
 mod growth;
 mod levels;
 mod method;
-mod naming;
 mod paths;
 mod residual;
 mod sides;
@@ -70,7 +69,6 @@ mod task;
 pub use growth::connectivity_by_growth;
 pub use levels::Levels;
 pub use method::{Method, work_len};
-pub use naming::{is_scattered, name_nodes};
 pub use paths::Paths;
 pub use sides::{cut_nearest_sinks, cut_nearest_sources, has_augmenting_path, reach, reach_back};
 

@@ -9,8 +9,9 @@ ghost use Rattle.flow_solve.specs.Bounds.{work_cells};
 ghost use Rattle.flow_tools.specs.solving.ArrangedProblems.{AreListsFor, IsArrangedBy, IsSameOrArranged};
 
 use crate::cells::{filled, work_for};
-use flow_net::{FlowTable, Network, OutOfMemory, Problem, arrange, restore};
-use flow_solve::{is_scattered, name_nodes};
+use flow_net::{
+    FlowTable, Network, OutOfMemory, Problem, arrange, is_scattered, name_nodes, restore,
+};
 use std::alloc::Global;
 
 /// The lists by which a problem is arranged: 8 bytes for each node and 8 for each arc.

@@ -7,8 +7,8 @@ use crate::tests::runs::{
     CHECK, CUT, CUT_SINK, DIRECTED, DIRECTED_PAIR, SOLVE, UNDIRECTED, UNDIRECTED_PAIR, VALUE,
 };
 use crate::{Job, run_on_texts};
-use flow_net::{Arc, MOST_ARCS, Network};
-use flow_solve::{is_scattered, work_len};
+use flow_net::{Arc, MOST_ARCS, Network, is_scattered};
+use flow_solve::work_len;
 use flow_text::{ProblemReader, arc_line};
 use std::alloc::Global;
 use std::process::Abort;

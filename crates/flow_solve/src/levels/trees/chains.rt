@@ -11,13 +11,14 @@ ghost use Rattle.flow_net.specs.NodeSets.{one_of};
 ghost use Rattle.flow_net.specs.Flows.{Fits};
 ghost use Rattle.flow_solve.specs.residual.Packs.{IsPacked};
 ghost use Rattle.flow_solve.specs.Task.{HasFlow, IsTask};
-ghost use Rattle.flow_solve.specs.levels.Trees.{supplied_by, IsSupplied};
+ghost use Rattle.flow_solve.specs.levels.Trees.{supplied_by, AreGrowing, IsForest, IsSupplied, KeepsFlow};
 ghost use Rattle.flow_solve.specs.Steps.{PaysLooks, PaysSteps, TakesSteps};
 
 use crate::levels::spending::spend;
 use crate::levels::trees::forest::{LEAST_CHILD, Trees, abandon_first, label_cell, parent_cell};
 use crate::residual::cells::get;
-use crate::residual::half_arcs::{Direction, cross, head, tail};
+use crate::residual::half_arcs::Direction::{self, Backwards, Forwards};
+use crate::residual::half_arcs::{cross, head, tail};
 use crate::residual::packing::Packed;
 use crate::task::Task;
 use flow_net::FlowTable;
@@ -29,8 +30,8 @@ pub(crate) fn supply_half(direction: Direction, half: u32) -> u32
     ensures half { result ≡ supplied_by direction half }
 {
     match direction {
-        Direction::Forwards => cross(Direction::Backwards, half),
-        Direction::Backwards => half,
+        Forwards => cross(Backwards, half),
+        Backwards => half,
     }
 }
 
@@ -56,9 +57,7 @@ fn measure(
     cells: &[u32],
     node: u32,
 ) -> Chain
-    requires fits { Fits packed.net.now flow.old.flows }
-    requires packed { IsPacked packed.net.now packed.first.now packed.halves.now }
-    requires size { 4 * packed.net.now.nodes ≤ length cells.now }
+    requires forest { IsForest packed flow.old cells.now }
     requires node { IsNode packed.net.now node }
     ensures paid { PaysLooks flow.old trees.old.left flow.new (trees.new.left + 2 * result.len) }
 {
@@ -97,9 +96,7 @@ fn push_along(
     len: u32,
     amount: u64,
 ) -> Option<u32>
-    requires fits { Fits packed.net.now flow.old.flows }
-    requires packed { IsPacked packed.net.now packed.first.now packed.halves.now }
-    requires size { 4 * packed.net.now.nodes ≤ length cells.old }
+    requires forest { IsForest packed flow.old cells.old }
     requires node { IsNode packed.net.now node }
     ensures fits { Fits packed.entry.net.now flow.new.flows }
     ensures root { IfSome result (λ root. IsNode packed.entry.net.now root) }
@@ -180,30 +177,12 @@ fn push_through(
     }
     flow.push(packed.net, touch.half, amount);
     let before = touch.before;
-    let source = push_along(
-        packed,
-        Direction::Forwards,
-        flow,
-        trees,
-        cells,
-        from,
-        before,
-        amount,
-    );
+    let source = push_along(packed, Forwards, flow, trees, cells, from, before, amount);
     let Some(source) = source else {
         return false;
     };
     let behind = touch.behind;
-    let sink = push_along(
-        packed,
-        Direction::Backwards,
-        flow,
-        trees,
-        cells,
-        to,
-        behind,
-        amount,
-    );
+    let sink = push_along(packed, Backwards, flow, trees, cells, to, behind, amount);
     let Some(sink) = sink else {
         return false;
     };
@@ -229,12 +208,9 @@ pub(crate) fn augment_over(
     cells: &mut [u32],
     half: u32,
 ) -> u64
-    requires task { IsTask task }
-    requires size { 4 * task.packed.net.now.nodes ≤ length cells.old }
-    requires flow { HasFlow task flow.old.flows grown.old.value }
+    requires growing { AreGrowing task flow.old grown.old cells.old }
     requires half { half < 2 * length task.packed.net.now.arcs }
-    ensures flow { HasFlow task.entry flow.new.flows grown.new.value }
-    ensures paid { PaysSteps flow.old grown.old.trees.left flow.new grown.new.trees.left }
+    ensures { KeepsFlow task.entry flow.old grown.old.trees.left flow.new grown.new }
 {
     let packed = task.packed;
     let trees = &mut grown.trees;
@@ -242,9 +218,9 @@ pub(crate) fn augment_over(
         return 0;
     }
     let from = tail(packed.net, half);
-    let before = measure(packed, Direction::Forwards, flow, trees, cells, from);
+    let before = measure(packed, Forwards, flow, trees, cells, from);
     let to = head(packed.net, half);
-    let behind = measure(packed, Direction::Backwards, flow, trees, cells, to);
+    let behind = measure(packed, Backwards, flow, trees, cells, to);
     let (_, room) = flow.look(packed.net, half);
     let amount = room.min(before.room).min(behind.room);
     if amount == 0 {

@@ -4,6 +4,7 @@ ghost use Rattle.std.specs.Prelude.{◌≡◌, ◌+◌, ◌<◌, ◌≤◌, ◌*
 ghost use Rattle.flow_net.specs.Nets.{IsNode};
 ghost use Rattle.flow_net.specs.Flows.{Fits};
 ghost use Rattle.flow_solve.specs.residual.Packs.{IsPacked};
+ghost use Rattle.flow_solve.specs.levels.Trees.{IsForest};
 ghost use Rattle.flow_solve.specs.Steps.{OnlyLooks, PaysLooks};
 
 use crate::levels::spending::spend;
@@ -81,9 +82,7 @@ fn offer(
     half: u32,
     nearest: u32,
 ) -> u32
-    requires fits { Fits packed.net.now flow.old.flows }
-    requires packed { IsPacked packed.net.now packed.first.now packed.halves.now }
-    requires size { 4 * packed.net.now.nodes ≤ length cells.old }
+    requires forest { IsForest packed flow.old cells.old }
     requires half { half < 2 * length packed.net.now.arcs }
     ensures looks { OnlyLooks flow.old flow.new 1 }
     ensures left { trees.new.left ≤ trees.old.left }
@@ -120,9 +119,7 @@ fn find_parent(
     cells: &mut [u32],
     node: u32,
 ) -> bool
-    requires fits { Fits packed.net.now flow.old.flows }
-    requires packed { IsPacked packed.net.now packed.first.now packed.halves.now }
-    requires size { 4 * packed.net.now.nodes ≤ length cells.old }
+    requires forest { IsForest packed flow.old cells.old }
     requires node { IsNode packed.net.now node }
     ensures paid { PaysLooks flow.old trees.old.left flow.new trees.new.left }
 {
@@ -183,16 +180,8 @@ fn part(
 }
 
 /// Sets an orphan free that found no parent.
-fn set_free(
-    packed: Packed<'_>,
-    flow: &mut FlowTable,
-    trees: &mut Trees,
-    cells: &mut [u32],
-    node: u32,
-)
-    requires fits { Fits packed.net.now flow.old.flows }
-    requires packed { IsPacked packed.net.now packed.first.now packed.halves.now }
-    requires size { 4 * packed.net.now.nodes ≤ length cells.old }
+fn free(packed: Packed<'_>, flow: &mut FlowTable, trees: &mut Trees, cells: &mut [u32], node: u32)
+    requires forest { IsForest packed flow.old cells.old }
     requires node { IsNode packed.net.now node }
     ensures paid { PaysLooks flow.old trees.old.left flow.new trees.new.left }
 {
@@ -202,14 +191,8 @@ fn set_free(
     let end = packed.first[node as usize];
     if spend(&mut trees.left, u64::from(end - begin)) {
         for spot in begin..end {
-            part(
-                packed,
-                flow,
-                trees,
-                cells,
-                own,
-                packed.halves[spot as usize],
-            );
+            let half = packed.halves[spot as usize];
+            part(packed, flow, trees, cells, own, half);
         }
     }
 }
@@ -221,9 +204,7 @@ pub(crate) fn adopt(
     trees: &mut Trees,
     cells: &mut [u32],
 ) -> bool
-    requires fits { Fits packed.net.now flow.old.flows }
-    requires packed { IsPacked packed.net.now packed.first.now packed.halves.now }
-    requires size { 4 * packed.net.now.nodes ≤ length cells.old }
+    requires forest { IsForest packed flow.old cells.old }
     ensures paid { PaysLooks flow.old trees.old.left flow.new trees.new.left }
 {
     let nodes = packed.net.nodes();
@@ -234,7 +215,7 @@ pub(crate) fn adopt(
             return node == END;
         }
         if !find_parent(packed, flow, trees, cells, node) {
-            set_free(packed, flow, trees, cells, node);
+            free(packed, flow, trees, cells, node);
         }
     }
     false

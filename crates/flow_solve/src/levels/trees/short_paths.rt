@@ -1,31 +1,26 @@
 //! Short paths, before the trees grow: from a source over one node or two to a sink. No tree is there yet that a push
 //! could break, so what they bring costs no repair. Assignments get most of their flow so.
 //!
-//! They are looked for from the sources, or backwards from the sinks where fewer half-arcs leave these.
+//! They are looked for from the sources, or backwards from the sinks where fewer half-arcs leave these. From a terminal
+//! at the other end each node next to it has a *note* of the half-arc that leads there: it stands where the trees have
+//! the next active node, so they have to begin anew afterwards.
 ghost use Rattle.std.specs.Prelude.{◌≡◌, ◌+◌, ◌<◌, ◌≤◌, ◌*◌, length};
 ghost use Rattle.std.specs.List.{All};
 ghost use Rattle.flow_net.specs.Nets.{IsNode};
-ghost use Rattle.flow_solve.specs.Task.{HasFlow, IsTask};
+ghost use Rattle.flow_solve.specs.Task.{IsTask};
 ghost use Rattle.flow_solve.specs.residual.Packs.{IsPacked};
-ghost use Rattle.flow_solve.specs.Steps.{PaysSteps};
+ghost use Rattle.flow_solve.specs.levels.Trees.{AreGrowing, KeepsFlow};
 
 use crate::levels::spending::spend;
 use crate::levels::trees::chains::{Grown, augment_over};
-use crate::levels::trees::forest::{LEAST_CHILD, NO_NODES, NO_PARENT, label_cell, parent_cell};
-use crate::residual::cells::{get, put};
-use crate::residual::half_arcs::{Direction, cross, head, tail, twin};
+use crate::levels::trees::forest::{
+    NO_PARENT, direction_of, label_cell, next_active_cell, parent_cell,
+};
+use crate::residual::cells::put;
+use crate::residual::half_arcs::{cross, head, tail, twin};
 use crate::residual::packing::Packed;
 use crate::task::Task;
 use flow_net::FlowTable;
-
-/// The label of a node for as long as it stands next to a terminal at which paths begin: a child's, in the tree that
-/// grows in this direction.
-fn child_label(direction: Direction) -> u32 {
-    match direction {
-        Direction::Forwards => LEAST_CHILD,
-        Direction::Backwards => LEAST_CHILD + 1,
-    }
-}
 
 /// How many half-arcs leave some terminals.
 fn half_arcs_at(packed: Packed<'_>, terminals: &[u32]) -> u64
@@ -41,235 +36,161 @@ fn half_arcs_at(packed: Packed<'_>, terminals: &[u32]) -> u64
     sum
 }
 
-/// Puts down for each node that a half-arc leads from there to a terminal.
-fn note_last(packed: Packed<'_>, last: &mut [u32], terminal: u32)
+/// Notes at each node next to a terminal one more than the half-arc that leads from there to it.
+fn note_last(packed: Packed<'_>, cells: &mut [u32], terminal: u32)
     requires packed { IsPacked packed.net.now packed.first.now packed.halves.now }
     requires terminal { IsNode packed.net.now terminal }
 {
     for spot in packed.first[terminal as usize - 1]..packed.first[terminal as usize] {
         let half = packed.halves[spot as usize];
-        put(last, head(packed.net, half) as usize - 1, twin(half));
+        let note = twin(half).saturating_add(1);
+        put(cells, next_active_cell(head(packed.net, half)), note);
     }
 }
 
-/// Puts down for each node a half-arc from there to one of some terminals, or `NO_PARENT`.
-fn note_all_last(packed: Packed<'_>, last: &mut [u32], terminals: &[u32])
+/// Notes at each node next to one of some terminals a half-arc that leads there.
+fn note_all_last(packed: Packed<'_>, cells: &mut [u32], terminals: &[u32])
     requires packed { IsPacked packed.net.now packed.first.now packed.halves.now }
     requires terminals { All (IsNode packed.net.now) terminals.now }
 {
-    last.fill(NO_PARENT);
     for terminal in terminals {
-        note_last(packed, last, *terminal);
+        note_last(packed, cells, *terminal);
     }
 }
 
 /// Augments along the path that goes on over a half-arc to a node and from there to a terminal, if there is one.
-/// Answers whether something still remains on the half-arc over which the path comes.
-fn go_on(
-    task: Task<'_>,
-    flow: &mut FlowTable,
-    grown: &mut Grown,
-    cells: &mut [u32],
-    last: &mut [u32],
-    direction: Direction,
-    half: u32,
-) -> bool
-    requires task { IsTask task }
-    requires size { 4 * task.packed.net.now.nodes ≤ length cells.old }
-    requires flow { HasFlow task flow.old.flows grown.old.value }
+fn go_on(task: Task<'_>, flow: &mut FlowTable, grown: &mut Grown, cells: &mut [u32], half: u32)
+    requires growing { AreGrowing task flow.old grown.old cells.old }
     requires half { half < 2 * length task.packed.net.now.arcs }
-    ensures flow { HasFlow task.entry flow.new.flows grown.new.value }
-    ensures paid { PaysSteps flow.old (grown.old.trees.left + 1) flow.new grown.new.trees.left }
+    ensures { KeepsFlow task.entry flow.old (grown.old.trees.left + 1) flow.new grown.new }
 {
-    let next = head(task.packed.net, half);
-    let on = get(last, next as usize - 1);
-    if on == NO_PARENT || cells[label_cell(next)] != 0 {
-        return true;
+    let net = task.packed.net;
+    let next = head(net, half);
+    let note = cells[next_active_cell(next)];
+    if note == 0 || cells[label_cell(next)] != 0 {
+        return;
     }
-    let across = cross(direction, half);
-    let (_, room) = flow.look(task.packed.net, across);
+    let here = cells[label_cell(tail(net, half))];
+    let across = cross(direction_of(here), half);
+    let (_, room) = flow.look(net, across);
     if room == 0 {
-        return true;
+        return;
     }
     // A child's label in the other tree.
-    cells[label_cell(next)] = child_label(direction) ^ 1;
-    cells[parent_cell(next)] = on;
+    cells[label_cell(next)] = here ^ 1;
+    cells[parent_cell(next)] = note - 1;
     augment_over(task, flow, grown, cells, across);
     if cells[parent_cell(next)] == NO_PARENT {
-        put(last, next as usize - 1, NO_PARENT);
+        cells[next_active_cell(next)] = 0;
     }
     cells[label_cell(next)] = 0;
-    cells[parent_cell(tail(task.packed.net, half))] != NO_PARENT
 }
 
-/// Augments along the path that goes on from a node over one half-arc to a terminal, if there is one. Answers whether
-/// something still remains on the half-arc over which the path comes.
-fn end_at(
-    task: Task<'_>,
-    flow: &mut FlowTable,
-    grown: &mut Grown,
-    cells: &mut [u32],
-    last: &mut [u32],
-    direction: Direction,
-    node: u32,
-) -> bool
-    requires task { IsTask task }
-    requires size { 4 * task.packed.net.now.nodes ≤ length cells.old }
-    requires flow { HasFlow task flow.old.flows grown.old.value }
+/// Augments along the path that goes on from a node over one half-arc to a terminal, if there is one.
+fn end_at(task: Task<'_>, flow: &mut FlowTable, grown: &mut Grown, cells: &mut [u32], node: u32)
+    requires growing { AreGrowing task flow.old grown.old cells.old }
     requires node { IsNode task.packed.net.now node }
-    ensures flow { HasFlow task.entry flow.new.flows grown.new.value }
-    ensures paid { PaysSteps flow.old grown.old.trees.left flow.new grown.new.trees.left }
+    ensures { KeepsFlow task.entry flow.old grown.old.trees.left flow.new grown.new }
 {
-    let on = get(last, node as usize - 1);
+    let on = cells[next_active_cell(node)].wrapping_sub(1);
     if on as usize >= task.packed.halves.len() {
-        return true;
+        return;
     }
+    let direction = direction_of(cells[label_cell(node)]);
     augment_over(task, flow, grown, cells, cross(direction, on));
-    let is_left = cells[parent_cell(node)] != NO_PARENT;
-    if is_left {
-        // Then the half-arc to the terminal was filled, and no path has to try it again.
-        put(last, node as usize - 1, NO_PARENT);
+    if cells[parent_cell(node)] != NO_PARENT {
+        // The half-arc to the terminal was filled, or nothing more may be done: no path has to try it again.
+        cells[next_active_cell(node)] = 0;
     }
-    is_left
 }
 
 /// Augments along the paths that go on from a node over one half-arc or two, until nothing remains on the half-arc over
 /// which they come.
-fn go_on_from(
-    task: Task<'_>,
-    flow: &mut FlowTable,
-    grown: &mut Grown,
-    cells: &mut [u32],
-    last: &mut [u32],
-    direction: Direction,
-    node: u32,
-)
-    requires task { IsTask task }
-    requires size { 4 * task.packed.net.now.nodes ≤ length cells.old }
-    requires flow { HasFlow task flow.old.flows grown.old.value }
+fn go_on_from(task: Task<'_>, flow: &mut FlowTable, grown: &mut Grown, cells: &mut [u32], node: u32)
+    requires growing { AreGrowing task flow.old grown.old cells.old }
     requires node { IsNode task.packed.net.now node }
-    ensures flow { HasFlow task.entry flow.new.flows grown.new.value }
-    ensures paid { PaysSteps flow.old grown.old.trees.left flow.new grown.new.trees.left }
+    ensures { KeepsFlow task.entry flow.old grown.old.trees.left flow.new grown.new }
 {
     let packed = task.packed;
-    if !end_at(task, flow, grown, cells, last, direction, node) {
-        return;
-    }
+    end_at(task, flow, grown, cells, node);
     let begin = packed.first[node as usize - 1];
     let end = packed.first[node as usize];
     if !spend(&mut grown.trees.left, u64::from(end - begin)) {
         return;
     }
     for spot in begin..end {
-        let half = packed.halves[spot as usize];
-        if !go_on(task, flow, grown, cells, last, direction, half) {
+        if cells[parent_cell(node)] == NO_PARENT {
             return;
         }
+        go_on(task, flow, grown, cells, packed.halves[spot as usize]);
     }
 }
 
 /// Augments along the short paths that begin with a half-arc from a terminal.
-fn begin_over(
-    task: Task<'_>,
-    flow: &mut FlowTable,
-    grown: &mut Grown,
-    cells: &mut [u32],
-    last: &mut [u32],
-    direction: Direction,
-    half: u32,
-)
-    requires task { IsTask task }
-    requires size { 4 * task.packed.net.now.nodes ≤ length cells.old }
-    requires flow { HasFlow task flow.old.flows grown.old.value }
+fn begin_over(task: Task<'_>, flow: &mut FlowTable, grown: &mut Grown, cells: &mut [u32], half: u32)
+    requires growing { AreGrowing task flow.old grown.old cells.old }
     requires half { half < 2 * length task.packed.net.now.arcs }
-    ensures flow { HasFlow task.entry flow.new.flows grown.new.value }
-    ensures paid { PaysSteps flow.old (grown.old.trees.left + 1) flow.new grown.new.trees.left }
+    ensures { KeepsFlow task.entry flow.old (grown.old.trees.left + 1) flow.new grown.new }
 {
-    let node = head(task.packed.net, half);
+    let net = task.packed.net;
+    let node = head(net, half);
     if cells[label_cell(node)] != 0 {
         return;
     }
-    let (_, room) = flow.look(task.packed.net, cross(direction, half));
+    let root = cells[label_cell(tail(net, half))];
+    let (_, room) = flow.look(net, cross(direction_of(root), half));
     if room == 0 {
         return;
     }
-    cells[label_cell(node)] = child_label(direction);
+    cells[label_cell(node)] = root.saturating_add(2);
     cells[parent_cell(node)] = twin(half);
-    go_on_from(task, flow, grown, cells, last, direction, node);
+    go_on_from(task, flow, grown, cells, node);
     cells[label_cell(node)] = 0;
 }
 
 /// Augments along the short paths from a terminal.
-fn begin_at(
-    task: Task<'_>,
-    flow: &mut FlowTable,
-    grown: &mut Grown,
-    cells: &mut [u32],
-    last: &mut [u32],
-    direction: Direction,
-    terminal: u32,
-)
-    requires task { IsTask task }
-    requires size { 4 * task.packed.net.now.nodes ≤ length cells.old }
-    requires flow { HasFlow task flow.old.flows grown.old.value }
-    requires terminal { IsNode task.packed.net.now terminal }
-    ensures flow { HasFlow task.entry flow.new.flows grown.new.value }
-    ensures paid { PaysSteps flow.old grown.old.trees.left flow.new grown.new.trees.left }
+fn begin_at(task: Task<'_>, flow: &mut FlowTable, grown: &mut Grown, cells: &mut [u32], node: u32)
+    requires growing { AreGrowing task flow.old grown.old cells.old }
+    requires node { IsNode task.packed.net.now node }
+    ensures { KeepsFlow task.entry flow.old grown.old.trees.left flow.new grown.new }
 {
     let packed = task.packed;
-    let begin = packed.first[terminal as usize - 1];
-    let end = packed.first[terminal as usize];
+    let begin = packed.first[node as usize - 1];
+    let end = packed.first[node as usize];
     if spend(&mut grown.trees.left, u64::from(end - begin)) {
         for spot in begin..end {
-            let half = packed.halves[spot as usize];
-            begin_over(task, flow, grown, cells, last, direction, half);
+            begin_over(task, flow, grown, cells, packed.halves[spot as usize]);
         }
     }
 }
 
-/// Augments along the short paths between terminals of both kinds, beginning at those of the one, in a direction.
-fn augment_between(
-    task: Task<'_>,
-    flow: &mut FlowTable,
-    grown: &mut Grown,
-    cells: &mut [u32],
-    direction: Direction,
-    from: &[u32],
-    to: &[u32],
-)
+/// The terminals at which short paths are begun, those that fewer half-arcs leave, and the others.
+fn ends(task: Task<'_>) -> (&[u32], &[u32])
     requires task { IsTask task }
-    requires size { 4 * task.packed.net.now.nodes ≤ length cells.old }
-    requires flow { HasFlow task flow.old.flows grown.old.value }
-    requires from { All (IsNode task.packed.net.now) from.now }
-    requires to { All (IsNode task.packed.net.now) to.now }
-    ensures flow { HasFlow task.entry flow.new.flows grown.new.value }
-    ensures paid { PaysSteps flow.old grown.old.trees.left flow.new grown.new.trees.left }
+    ensures from { All (IsNode task.entry.packed.net.now) result.0.now }
+    ensures to { All (IsNode task.entry.packed.net.now) result.1.now }
 {
-    let (cells, last) = cells.split_at_mut(4 * task.packed.net.nodes() as usize);
-    note_all_last(task.packed, last, to);
-    for terminal in from {
-        begin_at(task, flow, grown, cells, last, direction, *terminal);
+    let Task { packed, s, t } = task;
+    if half_arcs_at(packed, s) <= half_arcs_at(packed, t) {
+        (s, t)
+    } else {
+        (t, s)
     }
 }
 
-/// Augments along paths of two and of three half-arcs, and leaves the trees as they were, with their roots alone.
+/// Augments along paths of two and of three half-arcs, with two trees that have their roots alone.
 pub(crate) fn augment_short_paths(
     task: Task<'_>,
     flow: &mut FlowTable,
     grown: &mut Grown,
     cells: &mut [u32],
 )
-    requires task { IsTask task }
-    requires size { 4 * task.packed.net.now.nodes ≤ length cells.old }
-    requires flow { HasFlow task flow.old.flows grown.old.value }
-    ensures flow { HasFlow task.entry flow.new.flows grown.new.value }
-    ensures paid { PaysSteps flow.old grown.old.trees.left flow.new grown.new.trees.left }
+    requires growing { AreGrowing task flow.old grown.old cells.old }
+    ensures { KeepsFlow task.entry flow.old grown.old.trees.left flow.new grown.new }
 {
-    let Task { packed, s, t } = task;
-    if half_arcs_at(packed, s) <= half_arcs_at(packed, t) {
-        augment_between(task, flow, grown, cells, Direction::Forwards, s, t);
-    } else {
-        augment_between(task, flow, grown, cells, Direction::Backwards, t, s);
+    let (from, to) = ends(task);
+    note_all_last(task.packed, cells, to);
+    for terminal in from {
+        begin_at(task, flow, grown, cells, *terminal);
     }
-    grown.trees.orphans = NO_NODES;
 }

@@ -1,17 +1,20 @@
 -- `augment_over`: looks leave the flow alone, and what was pushed through is worth so much more; a table that was
 -- cleared carries the flow of value 0.
-use Rattle.std.proofs.Common.{◌≡◌, ℕ, List, ◌+◌, length, replicate, ◌∙◌, sym, ap, subst, arith}
+use Rattle.std.proofs.Common.{◌≡◌, ℕ, List, ◌+◌, length, replicate, ◌∙◌, sym, ap, subst, arith, rules}
 use Rattle.flow_solve.specs.Task.{HasFlow}
 use Rattle.flow_solve.proofs.LevelLemmas.Carried.{flow_fits, flow_same}
 use Rattle.flow_solve.proofs.Raises.{zero_flow}
 use Rattle.flow_solve.proofs.levels.trees.chains.augment_over.Goals as goal
 
-pub returns-then-not-push_through-clause-flow : goal.returns-then-not-push_through-clause-flow
-returns-then-not-push_through-clause-flow c =
+pub returns-then-not-push_through : goal.returns-then-not-push_through
+returns-then-not-push_through c =
     let task = c.args.task in let net = task.packed.net.now in
     let zeros : c.clear.new.self.flows ≡ replicate (length net.arcs) 0 =
     c.clear.ensures.flows ∙ ap (λ n. replicate n 0) c.push_through.ensures.fits.count in
-    subst (λ (xs : List ℕ). HasFlow task xs 0) (sym zeros) (zero_flow net task.s.now task.t.now)
+    record {
+      flow = subst (λ (xs : List ℕ). HasFlow task xs 0) (sym zeros) (zero_flow net task.s.now task.t.now);
+      paid = search rules;
+    }
 
 pub overflow_add-grown : goal.overflow_add-grown
 overflow_add-grown c =
@@ -19,21 +22,24 @@ overflow_add-grown c =
     let k = c.args.grown.now.value in let amount = c.min-amount.result in
     let looks =
     c.look-room.ensures.flows ∙ c.measure-behind.ensures.paid.flows ∙ c.measure-before.ensures.paid.flows in
-    let before = flow_same net s t c.args.flow.now.flows c.look-room.new.self.flows k looks c.requires.flow in
+    let before = flow_same net s t c.args.flow.now.flows c.look-room.new.self.flows k looks c.requires.growing.flow in
     let now = c.push_through.ensures.flow c.if-not-push_through.false k before in
     omega (
       arith,
-      flow_fits net s t c.push_through.new.flow.flows (k + amount) c.requires.task.packed.limits
-          c.requires.task.terminals now,
+      flow_fits net s t c.push_through.new.flow.flows (k + amount) c.requires.growing.task.packed.limits
+          c.requires.growing.task.terminals now,
       c.from.ensures,
     )
 
-pub returns-clause-flow : goal.returns-clause-flow
-returns-clause-flow c =
+pub returns : goal.returns
+returns c =
     let task = c.args.task in let net = task.packed.net.now in let s = task.s.now in let t = task.t.now in
     let k = c.args.grown.now.value in let amount = c.min-amount.result in
     let looks =
     c.look-room.ensures.flows ∙ c.measure-behind.ensures.paid.flows ∙ c.measure-before.ensures.paid.flows in
-    let before = flow_same net s t c.args.flow.now.flows c.look-room.new.self.flows k looks c.requires.flow in
+    let before = flow_same net s t c.args.flow.now.flows c.look-room.new.self.flows k looks c.requires.growing.flow in
     let now = c.push_through.ensures.flow c.if-not-push_through.false k before in
-    subst (λ (v : ℕ). HasFlow task c.push_through.new.flow.flows (k + v)) (sym c.from.ensures) now
+    record {
+      flow = subst (λ (v : ℕ). HasFlow task c.push_through.new.flow.flows (k + v)) (sym c.from.ensures) now;
+      paid = search rules;
+    }

@@ -1,8 +1,8 @@
--- `set_free`: the half-arcs ahead are paid, and at most one look at each; the flows stay.
+-- `free`: the half-arcs ahead are paid, and at most one look at each; the flows stay.
 use Rattle.std.proofs.Common.{◌+◌, ◌-◌}
 use Rattle.flow_net.specs.Flows.{Fits}
 use Rattle.flow_solve.specs.Steps.{PaysLooks}
-use Rattle.flow_solve.proofs.levels.trees.orphans.set_free.Given as goal
+use Rattle.flow_solve.proofs.levels.trees.orphans.free.Given as goal
 
 abbrev pub invariant-loop-spot : goal.invariant-loop-spot
 invariant-loop-spot l = record {

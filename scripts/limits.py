@@ -2,8 +2,8 @@
 """Sees that every text tells the limits as their constants say: limits.py [--write]
 
 A limit is one constant of a file limits.rt. Help, manual page, documents, tests and scripts tell it in digits, in the
-sentences below: each has to stand in its file, as often as it is here. With --write the digits of these sentences are
-made those of the constants. The last line is 'limits: N passed, M failed'.
+sentences below: each has to stand in its file just once. With --write the digits of these sentences are made those
+of the constants. The last line is 'limits: N passed, M failed'.
 """
 import re
 import sys

@@ -1,4 +1,4 @@
--- How many arcs leave and enter a node, self-loops left out, and what such numbers can be.
+-- How many arcs leave and enter a node or are counted at a set; even numbers; arcs in pairs; the circle of all nodes.
 use Rattle.std.specs.Prelude.{◌≡◌, ℕ, ◌+◌, ◌*◌, ◌<◌, ◌≤◌, ◌==◌, Bool, List, length, slice_index, if◌then◌else◌}
 use Rattle.std.specs.List.{count_by}
 use Rattle.flow_net.specs.declared.networks.Arc.{Arc}

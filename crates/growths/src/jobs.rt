@@ -27,7 +27,7 @@ fn run_named(alloc: Global, name: &[u8]) -> &'static [u8] {
     match name {
         b"run_solve" => run_job(
             alloc,
-            Job::Solve { value_only: false },
+            Job::SOLVE,
             FOUR_NODES,
             b"s 5\nf 1 2 3\nf 1 3 2\nf 2 3 1\nf 2 4 2\nf 3 4 3\n",
         ),
@@ -49,15 +49,8 @@ fn run_named(alloc: Global, name: &[u8]) -> &'static [u8] {
             FOUR_NODES,
             b"k 2\n",
         ),
-        b"run_check" => run_job(
-            alloc,
-            Job::Check {
-                feasible_only: false,
-            },
-            FOUR_NODES,
-            b"optimal 5\n",
-        ),
-        b"run_faulty" => run_job(alloc, Job::Solve { value_only: false }, TOO_FEW_ARCS, b""),
+        b"run_check" => run_job(alloc, Job::CHECK, FOUR_NODES, b"optimal 5\n"),
+        b"run_faulty" => run_job(alloc, Job::SOLVE, TOO_FEW_ARCS, b""),
         b"run_on_texts" => run_texts(alloc),
         _ => b"no such call",
     }
@@ -68,9 +61,7 @@ fn run_named(alloc: Global, name: &[u8]) -> &'static [u8] {
 fn run_texts(alloc: Global) -> &'static [u8] {
     let mut out: Vec<u8> = Vec::new(alloc);
     let mut err: Vec<u8> = Vec::new(alloc);
-    let job = Job::Check {
-        feasible_only: false,
-    };
+    let job = Job::CHECK;
     let answer = b"optimal 5\n".as_slice();
     match run_on_texts(alloc, job, FOUR_NODES, OPTIMAL, &mut out, &mut err) {
         Ok(0) if out.as_slice() == answer && err.is_empty() => b"answered",

@@ -40,6 +40,32 @@ pub enum Job {
     },
 }
 
+/// What each command asks without a flag, and `flow solve` with `--value`.
+impl Job {
+    /// `flow solve`: the greatest value, and a flow that has it.
+    pub const SOLVE: Job = Job::Solve { value_only: false };
+
+    /// `flow solve --value`: the greatest value alone.
+    pub const VALUE: Job = Job::Solve { value_only: true };
+
+    /// `flow cut`: the capacity of a minimum cut, and the least source side.
+    pub const CUT: Job = Job::Cut {
+        arcs: false,
+        sink: false,
+    };
+
+    /// `flow connect`: the edge connectivity, with each arc counted by its direction.
+    pub const CONNECT: Job = Job::Connect {
+        undirected: false,
+        pair: false,
+    };
+
+    /// `flow check`: whether a solution is feasible, and its value the greatest.
+    pub const CHECK: Job = Job::Check {
+        feasible_only: false,
+    };
+}
+
 /// Why a run ends without an answer.
 #[derive(Clone, Copy, Debug, PartialEq, Eq)]
 pub enum Stop {

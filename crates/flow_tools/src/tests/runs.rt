@@ -5,14 +5,11 @@ use crate::{Input, Job, run};
 use std::alloc::Global;
 
 /// The jobs, with each of their flags as tests want it.
-pub(crate) const SOLVE: Job = Job::Solve { value_only: false };
+pub(crate) const SOLVE: Job = Job::SOLVE;
 
-pub(crate) const VALUE: Job = Job::Solve { value_only: true };
+pub(crate) const VALUE: Job = Job::VALUE;
 
-pub(crate) const CUT: Job = Job::Cut {
-    arcs: false,
-    sink: false,
-};
+pub(crate) const CUT: Job = Job::CUT;
 
 pub(crate) const CUT_ARCS: Job = Job::Cut {
     arcs: true,
@@ -29,10 +26,7 @@ pub(crate) const CUT_SINK_ARCS: Job = Job::Cut {
     sink: true,
 };
 
-pub(crate) const DIRECTED: Job = Job::Connect {
-    undirected: false,
-    pair: false,
-};
+pub(crate) const DIRECTED: Job = Job::CONNECT;
 
 pub(crate) const UNDIRECTED: Job = Job::Connect {
     undirected: true,
@@ -49,9 +43,7 @@ pub(crate) const UNDIRECTED_PAIR: Job = Job::Connect {
     pair: true,
 };
 
-pub(crate) const CHECK: Job = Job::Check {
-    feasible_only: false,
-};
+pub(crate) const CHECK: Job = Job::CHECK;
 
 /// What a run left behind.
 #[derive(Drop)]

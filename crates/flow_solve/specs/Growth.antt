@@ -1,4 +1,5 @@
--- Flows between a node and the nodes before it in an order, which are terminals; what the cells hold meanwhile.
+-- Flows between a node and the nodes before it in an order, which are terminals; what the cells hold meanwhile;
+-- degrees, and networks where as many arcs enter each set as leave it.
 use Rattle.std.specs.Prelude.{◌≡◌, ℕ, zero, suc, ◌+◌, ◌-◌, ◌*◌, ◌≤◌, ◌<◌, nat_le, nat_lt, Bool, false, List, length}
 use Rattle.std.specs.Prelude.{slice_index, Option, MatchOption}
 use Rattle.std.specs.List.{count_by}
@@ -6,7 +7,7 @@ use Rattle.flow_net.specs.declared.networks.Arc.{Arc}
 use Rattle.flow_net.specs.Nets.{Net, IsNode}
 use Rattle.flow_net.specs.NodeSets.{just}
 use Rattle.flow_net.specs.Orders.{IsOrder, before}
-use Rattle.flow_net.specs.Flows.{out_of, into, IsFeasible}
+use Rattle.flow_net.specs.Flows.{out_of, into, Fits, IsFeasible}
 use Rattle.flow_net.specs.Connectivity.{leaving, IsProper}
 use Rattle.flow_net.specs.Cuts.{leaves, IsCut}
 use Rattle.flow_net.specs.Arcs.{enters}
@@ -45,6 +46,11 @@ pub record IsRaised (dir : Direction) (net : Net) (order : List ℕ) (k : ℕ) (
 abbrev pub Carries : Turn → List ℕ → ℕ → Type 0
 Carries turn xs value = IsRaised turn.direction turn.packed.net.now turn.order.now turn.place xs value
 
+-- a feasible flow of a turn, of so much and no more than is wanted
+pub record CarriesUpTo (turn : Turn) (xs : List ℕ) (value wanted : ℕ) : Type 0 where
+  pub raised : Carries turn xs value
+  pub below : value ≤ wanted
+
 -- a unit more than before
 abbrev pub BringsUnit : Turn → List ℕ → List ℕ → Type 0
 BringsUnit turn before after = (value : ℕ) → Carries turn before value → Carries turn after (value + 1)
@@ -72,12 +78,12 @@ abbrev pub AreDegrees : ℕ → (Arc → ℕ) → List Arc → List ℕ → Type
 AreDegrees nodes end arcs cells =
     (v : ℕ) → 1 ≤ v → v ≤ nodes → slice_index cells (v - 1) ≡ count_by (λ a. just v (end a)) arcs
 
--- each set that parts the node at a place from those before it has as many of these arcs
+-- each set that parts the node at a place from those before it has at least as many of these arcs
 abbrev pub IsBelow : Direction → Net → List ℕ → ℕ → ℕ → Type 0
 IsBelow dir net order i k =
     (X : ℕ → Bool) → IsCut (just (slice_index order i)) (before order i) X → k ≤ parted dir net X
 
--- so do the sets of all turns but the first
+-- so have the sets of all turns but the first
 abbrev pub AreBelow : Turn → ℕ → Type 0
 AreBelow turn k =
     (i : ℕ) → 1 ≤ i → i < turn.packed.net.now.nodes → IsBelow turn.direction turn.packed.net.now turn.order.now i k
@@ -100,6 +106,12 @@ pub record HavePlaces (turn : Turn) (cells : List ℕ) : Type 0 where
   pub size : length cells ≡ turn.packed.net.now.nodes
   pub places : ArePlaces turn.packed.net.now.nodes turn.order.now cells
 
+-- a turn, a flow that fits its network, and cells that hold the places of its order
+pub record IsTurnWith (turn : Turn) (xs cells : List ℕ) : Type 0 where
+  pub fits : Fits turn.packed.net.now xs
+  pub placed : HavePlaces turn cells
+  pub is_turn : IsTurn turn
+
 -- the set of the nodes before a place, by their cells
 abbrev pub earlier_in : List ℕ → ℕ → ℕ → Bool
 earlier_in cells k v = nat_lt (slice_index cells (v - 1)) k
@@ -112,6 +124,12 @@ IsClean n cells = (p : ℕ) → p < n → slice_index cells p < n
 pub record IsReady (turn : Turn) (cells : List ℕ) : Type 0 where
   pub placed : HavePlaces turn cells
   pub clean : IsClean turn.packed.net.now.nodes cells
+
+-- all nodes in an order, with their places in the cells, and no node is seen
+pub record IsArranged (net : Net) (order cells : List ℕ) : Type 0 where
+  pub ordered : IsOrder net order
+  pub places : ArePlaces net.nodes order cells
+  pub clean : IsClean net.nodes cells
 
 -- the row has nodes, as many as there are
 abbrev pub AreNodes : List ℕ → Type 0
@@ -144,10 +162,21 @@ IsTurnClosed turn xs cells =
 abbrev pub AreQueued : Turn → List ℕ → List ℕ → ℕ → Type 0
 AreQueued turn cells queue tail = IsQueued turn.packed.net.now.nodes turn.order.now cells queue tail
 
--- a queue of the nodes that are seen is one afterwards too
-abbrev pub KeepsQueues : Turn → List ℕ → List ℕ → Type 0
-KeepsQueues turn before after =
-    (queue : List ℕ) (tail : ℕ) → AreQueued turn before queue tail → AreQueued turn after queue tail
+-- the cells hold places, and the queue has the nodes that are seen
+pub record HaveSeen (turn : Turn) (cells queue : List ℕ) (tail : ℕ) : Type 0 where
+  pub placed : HavePlaces turn cells
+  pub queued : AreQueued turn cells queue tail
+
+-- a turn's search, with a queue as long as the nodes, which has those that are seen
+pub record IsSearch (turn : Turn) (xs cells queue : List ℕ) (tail : ℕ) : Type 0 where
+  pub size : length queue ≡ turn.packed.net.now.nodes
+  pub queued : AreQueued turn cells queue tail
+  pub has_turn : IsTurnWith turn xs cells
+
+-- the cells hold places afterwards, and a queue of the nodes that are seen is one still
+pub record KeepsSeen (turn : Turn) (before after : List ℕ) : Type 0 where
+  pub placed : HavePlaces turn after
+  pub queued : (queue : List ℕ) (tail : ℕ) → AreQueued turn before queue tail → AreQueued turn after queue tail
 
 -- each place has a node, and each node stands at the place that its cell holds
 pub record IsInOrder (n : ℕ) (order cells : List ℕ) : Type 0 where

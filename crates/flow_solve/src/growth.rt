@@ -11,18 +11,16 @@
 //! with current places, as [`Levels`](crate::Levels) does. Its paths are found by search and walk, of which nothing is
 //! proved but that they stay within the cells. What they find is tested as it is used: each half-arc of a path when a
 //! unit is pushed over it, and each half-arc that leaves the set of the nodes that were seen when no more can be
-//! raised. All looks and pushes are counted against a number that the caller sets; where it is used up the answer is
-//! none.
+//! raised. All looks and pushes are counted against a number that the caller sets; where it is used up, or a test
+//! fails, the answer is none.
 ghost use Rattle.std.specs.Prelude.{◌≡◌, ℕ, Bool, ◌+◌, ◌*◌, ◌≤◌, IfSome, length};
 ghost use Rattle.std.specs.List.{All};
 ghost use Rattle.flow_net.specs.Flows.{Fits};
-ghost use Rattle.flow_net.specs.Orders.{IsOrder};
 ghost use Rattle.flow_net.specs.Connectivity.{leaving, IsProper};
 ghost use Rattle.flow_net.specs.LeastCuts.{IsConnectivity};
 ghost use Rattle.flow_solve.specs.residual.Packs.{IsPacked};
 ghost use Rattle.flow_solve.specs.Bounds.{work_cells};
-ghost use Rattle.flow_solve.specs.Growth.{AreBelow, ArePlaces, HavePlaces, IsClean, IsReached, IsReady, IsTurn};
-ghost use Rattle.flow_solve.specs.Growth.{PaysIfAny};
+ghost use Rattle.flow_solve.specs.Growth.{AreBelow, IsArranged, IsClean, IsReached, IsReady, IsTurnWith, PaysIfAny};
 
 mod branches;
 pub(crate) mod degrees;
@@ -44,7 +42,8 @@ use raising::raise;
 use turns::{Budgeted, Turn};
 
 /// One pass over the order: each node behind that of the first turn has its own. `least` holds the least number so far
-/// and how many looks and pushes are left; the answer is the same after the pass, or nothing where they are used up.
+/// and how many looks and pushes are left; the answer is the same after the pass, or nothing where they are used up or
+/// a test fails.
 fn run_pass(
     first: Turn<'_>,
     flow: &mut FlowTable,
@@ -53,9 +52,7 @@ fn run_pass(
     least: Budgeted,
 ) -> Option<Budgeted>
     requires unit { All (λ a. a.cap ≡ 1) first.packed.net.now.arcs }
-    requires fits { Fits first.packed.net.now flow.old.flows }
-    requires turn { IsTurn first }
-    requires cells { HavePlaces first cells.old }
+    requires turn { IsTurnWith first flow.old.flows cells.old }
     requires clean { IsClean first.packed.net.now.nodes cells.old }
     requires rest_size { length rest.old ≡ 3 * first.packed.net.now.nodes }
     requires reached { IsReached first.packed.net.now least.value }
@@ -72,12 +69,7 @@ fn run_pass(
         if least.value == 0 {
             return Some(least);
         }
-        let turn = Turn {
-            packed: first.packed,
-            order: first.order,
-            direction: first.direction,
-            place,
-        };
+        let turn = Turn { place, ..first };
         least = raise(turn, flow, cells, rest, least.value, least.left)?;
     }
     Some(least)
@@ -97,9 +89,7 @@ fn arrange(
     requires size { length cells.old ≡ packed.net.now.nodes }
     requires rest_size { length rest.old ≡ 3 * packed.net.now.nodes }
     requires reached { IsReached packed.net.now least }
-    ensures order { IfSome result (λ _. IsOrder packed.entry.net.now order.new) }
-    ensures places { IfSome result (λ _. ArePlaces packed.entry.net.now.nodes order.new cells.new) }
-    ensures clean { IfSome result (λ _. IsClean packed.entry.net.now.nodes cells.new) }
+    ensures arranged { IfSome result (λ _. IsArranged packed.entry.net.now order.new cells.new) }
     ensures reached { IfSome result (λ r. IsReached packed.entry.net.now r) }
 {
     let n = packed.net.nodes() as usize;
@@ -112,7 +102,7 @@ fn arrange(
 
 /// The edge connectivity of a network in which every capacity is 1, where a set of nodes is known that `least` arcs
 /// leave and that is neither empty nor all. It takes at most `budget` looks and pushes, and answers nothing where these
-/// don't suffice.
+/// don't suffice or a test fails.
 ///
 /// That it answers at all is tested, and not promised: a body that always answers nothing meets this contract. Whoever
 /// calls it needs another way to the number, as `connectivity` of `flow_tools` has, and so is right either way.
@@ -145,10 +135,8 @@ pub fn connectivity_by_growth(
     let packed = Packed { net, first, halves };
     let value = arrange(packed, order, cells, three, least)?;
     let order: &[u32] = order;
-    let start = Budgeted {
-        value,
-        left: budget,
-    };
+    let left = budget;
+    let start = Budgeted { value, left };
     let mut turn = Turn {
         packed,
         order,

@@ -1,7 +1,8 @@
 -- The sets of the nodes before a place in an order: a first bound on the connectivity.
 use Rattle.std.proofs.Common.{◌≡◌, ℕ, ◌-◌, ◌≤◌, ◌<◌, Bool, true, false, not, List, length, get_or}
-use Rattle.std.proofs.Common.{◌∙◌, sym, ap, ltb, arith}
+use Rattle.std.proofs.Common.{◌∙◌, sym, ap, min, ltb, inl, inr, arith}
 use Rattle.std.specs.Prelude.{slice_index}
+use Rattle.std.proofs.lemmas.Bool.{cases_lt}
 use Rattle.std.proofs.lemmas.Bool.Decides.{nat_tests}
 use Rattle.flow_net.specs.Nets.{Net}
 use Rattle.flow_net.specs.Orders.{IsOrder}
@@ -9,12 +10,12 @@ use Rattle.flow_net.specs.Cuts.{leaves}
 use Rattle.flow_net.specs.Arcs.{enters}
 use Rattle.flow_net.specs.Connectivity.{leaving, IsProper}
 use Rattle.flow_solve.specs.declared.residual.half_arcs.Direction.TheVariants.{Forwards, Backwards}
-use Rattle.flow_solve.specs.Growth.{ArePlaces, IsClean, earlier_in, parted}
+use Rattle.flow_solve.specs.Growth.{ArePlaces, IsClean, IsReached, earlier_in, parted}
 use Rattle.flow_net.proofs.GrowthLemmas.{count_by_agree, leaves_others}
 use Rattle.flow_solve.proofs.GrowthLemmas.SeenCells.{cell_at}
 
-less : (x y : ℕ) → x < y → ltb x y ≡ true
-less x y l = grind (arith, nat_tests)
+lower : (x y : ℕ) → x < y → ltb x y ≡ true
+lower x y l = grind (arith, nat_tests)
 
 not_less : (x y : ℕ) → y ≤ x → ltb x y ≡ false
 not_less x y l = grind (arith, nat_tests)
@@ -36,7 +37,7 @@ module _ {net : Net} {order : List ℕ} (cells : List ℕ) (k : ℕ) (o : IsOrde
       let v = o.within 0 (omega arith) in
       let w = o.within k (omega arith) in
       record {
-        inside = (slice_index order 0, v.0, v.1, less (get_or cells (slice_index order 0 - 1) 0) k (omega arith));
+        inside = (slice_index order 0, v.0, v.1, lower (get_or cells (slice_index order 0 - 1) 0) k (omega arith));
         outside = (slice_index order k, w.0, w.1, not_less (get_or cells (slice_index order k - 1) 0) k (omega arith));
       }
 
@@ -53,3 +54,10 @@ module _ {net : Net} {order : List ℕ} (cells : List ℕ) (k : ℕ) (o : IsOrde
     count_by_agree (leaves (λ v. not (earlier_in cells k v))) (enters (earlier_in cells k)) net.arcs
         (leaves_others (earlier_in cells k)) ∙ sym e,
   )
+
+-- the least of two numbers that sets have is one that a set has
+pub least_reached : (net : Net) (j k l : ℕ) → l ≡ min j k → IsReached net j → IsReached net k → IsReached net l
+least_reached net j k l e a b = elim (cases_lt j k) [
+  | inl less ↦ (a.0, a.1, a.2 ∙ omega arith)
+  | inr more ↦ (b.0, b.1, b.2 ∙ omega arith)
+]

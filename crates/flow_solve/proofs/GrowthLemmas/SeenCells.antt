@@ -1,6 +1,7 @@
 -- The cells and the queue of a search: which nodes are seen.
 use Rattle.std.proofs.Common.{◌≡◌, ◌≢◌, ℕ, zero, suc, ◌+◌, ◌-◌, ◌≤◌, ◌<◌, ◌⊎◌, true, List, length}
-use Rattle.std.proofs.Common.{get_or, set, get_or-set_same, get_or-set_other, ◌∙◌, sym, ap, subst, inl, inr, leb, arith}
+use Rattle.std.proofs.Common.{get_or, set, get_or-set_same, get_or-set_other, length-set, ◌∙◌, sym, ap, subst, inl, inr, leb}
+use Rattle.std.proofs.Common.{arith}
 use Rattle.std.specs.Prelude.{slice_index}
 use Rattle.std.proofs.lemmas.Bool.{cases_Bool, cases_eq, cases_lt, false≢true, eqb-true}
 use Rattle.std.proofs.lemmas.Bool.Decides.{nat_tests}
@@ -13,10 +14,12 @@ use Rattle.flow_net.specs.Orders.{IsOrder, before}
 use Rattle.flow_net.specs.Cuts.{IsCut}
 use Rattle.flow_net.specs.Residual.{tail_of, head_of, residual}
 use Rattle.flow_net.proofs.GrowthLemmas.{before_at, before_place}
+use Rattle.flow_solve.specs.declared.growth.turns.Turn.{Turn}
 use Rattle.flow_solve.specs.declared.residual.half_arcs.Direction.{Direction}
 use Rattle.flow_solve.specs.residual.Packs.{group_of}
 use Rattle.flow_solve.specs.residual.HalfArcs.{near_end, far_end, crossed, IsClosedFor}
-use Rattle.flow_solve.specs.Growth.{ArePlaces, IsClean, IsQueued, IsPassed, IsInOrder, seen_in}
+use Rattle.flow_solve.specs.Growth.{ArePlaces, HavePlaces, IsArranged, IsClean, IsQueued, AreQueued, HaveSeen, KeepsSeen}
+use Rattle.flow_solve.specs.Growth.{IsPassed, IsInOrder, seen_in}
 use Rattle.flow_solve.proofs.ResidualLemmas.Crossings.{near_crossed, far_crossed, crossed_crossed, crossed_within}
 use Rattle.flow_solve.proofs.ResidualLemmas.Crossings.{tail_group}
 
@@ -75,6 +78,26 @@ module _ (n : ℕ) (order cells queue : List ℕ) (tail : ℕ) where
       | inr o ↦ q.waits j h (omega (arith, o.1))
     ];
   }
+
+-- both at once
+pub seen_more : (turn : Turn) (cells queue : List ℕ) (tail p v : ℕ) → length queue ≡ turn.packed.net.now.nodes
+    → p < turn.packed.net.now.nodes → tail < turn.packed.net.now.nodes → get_or cells p 0 < turn.packed.net.now.nodes
+    → turn.packed.net.now.nodes ≤ v → HavePlaces turn cells → AreQueued turn cells queue tail
+    → HaveSeen turn (set cells p v) (set queue tail (get_or cells p 0)) (tail + 1)
+seen_more turn cells queue tail p v ql l t c m h q =
+    let n = turn.packed.net.now.nodes in let order = turn.order.now in
+    record {
+      placed = record {
+        size = length-set cells p v ∙ h.size;
+        places = places_marked n order cells p v (omega (arith, h.size)) m h.places;
+      };
+      queued = queued_more n order cells queue tail p v ql h.size l t c m h.places q;
+    }
+
+-- what is kept twice is kept
+pub kept_on : {turn : Turn} {before now after : List ℕ} → KeepsSeen turn before now → KeepsSeen turn now after
+    → KeepsSeen turn before after
+kept_on a b = record { placed = b.placed; queued = λ queue tail q. b.queued queue tail (a.queued queue tail q) }
 
 -- where no node is seen the queue is empty
 pub queued_none : (n : ℕ) (order cells queue : List ℕ) → IsClean n cells → IsQueued n order cells queue 0
@@ -250,11 +273,13 @@ whole_order net order cells l w = record {
       (slice_index cells (v - 1), omega (arith, r.0), r.1 ∙ omega arith);
 }
 
-pub whole_places : (n : ℕ) (order cells : List ℕ) → IsInOrder n order cells → ArePlaces n order cells
-whole_places n order cells w p h k = let r = w.places p h in r.1
-
-pub whole_clean : (n : ℕ) (order cells : List ℕ) → IsInOrder n order cells → IsClean n cells
-whole_clean n order cells w p h = let r = w.places p h in r.0
+pub whole_arranged : (net : Net) (order cells : List ℕ) → length order ≡ net.nodes → IsInOrder net.nodes order cells
+    → IsArranged net order cells
+whole_arranged net order cells l w = record {
+  ordered = whole_order net order cells l w;
+  places = λ p h k. (let r = w.places p h in r.1);
+  clean = λ p h. (let r = w.places p h in r.0);
+}
 
 -- a place before another is that of a node before it
 pub terminal_at : (net : Net) (order cells : List ℕ) (k x : ℕ) → length order ≡ net.nodes → k < net.nodes → IsNode net x
@@ -266,7 +291,7 @@ terminal_at net order cells k x s l at a h =
     subst (λ z. before order k z ≡ true) here (before_at order k (slice_index cells (x - 1)) h (omega arith))
 
 -- the lemmas by which functions keep the cells: a node is entered, is marked, and all are forgotten
-pub ruleset node_entered = (places_marked, queued_more)
+pub ruleset node_entered = (seen_more, places_marked, queued_more)
 
 pub ruleset node_marked = (places_marked, queued_same)
 

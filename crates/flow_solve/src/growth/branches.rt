@@ -8,8 +8,8 @@
 ghost use Rattle.std.specs.Prelude.{◌≡◌, ◌+◌, ◌*◌, ◌<◌, ◌≤◌, IfSome, IsTrue, length};
 ghost use Rattle.flow_net.specs.Nets.{IsNode};
 ghost use Rattle.flow_net.specs.Flows.{Fits};
-ghost use Rattle.flow_solve.specs.Growth.{AreQueued, Carries, HavePlaces, IsClean, IsReady, IsTurn, KeepsQueues};
-ghost use Rattle.flow_solve.specs.Growth.{PaysIfAny};
+ghost use Rattle.flow_solve.specs.Growth.{CarriesUpTo, HavePlaces, HaveSeen, IsClean, IsReady, IsSearch, IsTurn};
+ghost use Rattle.flow_solve.specs.Growth.{IsTurnWith, KeepsSeen, PaysIfAny};
 ghost use Rattle.flow_solve.specs.Steps.{PaysLooks};
 
 use crate::growth::frontier::forget;
@@ -61,13 +61,11 @@ fn enter_branch(
     half: u32,
 ) -> u32
     requires turn { IsTurn turn }
-    requires cells { HavePlaces turn cells.old }
+    requires seen { HaveSeen turn cells.old queue.old tail }
     requires queue_size { length queue.old ≡ turn.packed.net.now.nodes }
     requires via_size { length via.old ≡ turn.packed.net.now.nodes }
-    requires queued { AreQueued turn cells.old queue.old tail }
     requires half { half < 2 * length turn.packed.net.now.arcs }
-    ensures cells { HavePlaces turn.entry cells.new }
-    ensures queued { AreQueued turn.entry cells.new queue.new result }
+    ensures seen { HaveSeen turn.entry cells.new queue.new result }
 {
     let net = turn.packed.net;
     let n = net.nodes();
@@ -102,8 +100,7 @@ fn give_up(turn: Turn<'_>, cells: &mut [u32], node: u32)
     requires turn { IsTurn turn }
     requires cells { HavePlaces turn cells.old }
     requires node { IsNode turn.packed.net.now node }
-    ensures cells { HavePlaces turn.entry cells.new }
-    ensures queued { KeepsQueues turn.entry cells.old cells.new }
+    ensures seen { KeepsSeen turn.entry cells.old cells.new }
 {
     let nodes = turn.packed.net.nodes();
     let branch = cells[node as usize - 1];
@@ -126,15 +123,10 @@ fn spread_over(
     via: &mut [u32],
     spread: Spread,
 ) -> Spread
-    requires fits { Fits turn.packed.net.now flow.old.flows }
-    requires turn { IsTurn turn }
-    requires cells { HavePlaces turn cells.old }
-    requires queue_size { length queue.old ≡ turn.packed.net.now.nodes }
+    requires search { IsSearch turn flow.old.flows cells.old queue.old spread.tail }
     requires via_size { length via.old ≡ turn.packed.net.now.nodes }
-    requires queued { AreQueued turn cells.old queue.old spread.tail }
     requires half { spread.half < 2 * length turn.packed.net.now.arcs }
-    ensures cells { HavePlaces turn.entry cells.new }
-    ensures queued { AreQueued turn.entry cells.new queue.new result.tail }
+    ensures seen { HaveSeen turn.entry cells.new queue.new result.tail }
     ensures half { result.half < 2 * length turn.entry.packed.net.now.arcs }
     ensures next { result.at ≡ spread.at }
     ensures looks { PaysLooks flow.old spread.left flow.new result.left }
@@ -170,15 +162,10 @@ fn spread_on(
     via: &mut [u32],
     spread: Spread,
 ) -> Spread
-    requires fits { Fits turn.packed.net.now flow.old.flows }
-    requires turn { IsTurn turn }
-    requires cells { HavePlaces turn cells.old }
-    requires queue_size { length queue.old ≡ turn.packed.net.now.nodes }
+    requires search { IsSearch turn flow.old.flows cells.old queue.old spread.tail }
     requires via_size { length via.old ≡ turn.packed.net.now.nodes }
-    requires queued { AreQueued turn cells.old queue.old spread.tail }
     requires next { spread.at < spread.tail }
-    ensures cells { HavePlaces turn.entry cells.new }
-    ensures queued { AreQueued turn.entry cells.new queue.new result.tail }
+    ensures seen { HaveSeen turn.entry cells.new queue.new result.tail }
     ensures half { IsTrue result.met → result.half < 2 * length turn.entry.packed.net.now.arcs }
     ensures next { result.at ≡ spread.at + 1 }
     ensures looks { PaysLooks flow.old spread.left flow.new result.left }
@@ -231,7 +218,7 @@ fn trace(turn: Turn<'_>, via: &[u32], path: &mut [u32], last: u32) -> Option<u32
 }
 
 /// Sends a unit for each branch that comes to a terminal, until the flow is worth what is wanted. Answers nothing where
-/// the looks and pushes are used up.
+/// the looks and pushes are used up or a test fails.
 pub(crate) fn send_by_branches(
     turn: Turn<'_>,
     flow: &mut FlowTable,
@@ -240,17 +227,13 @@ pub(crate) fn send_by_branches(
     sent: Budgeted,
     wanted: u64,
 ) -> Option<Budgeted>
-    requires fits { Fits turn.packed.net.now flow.old.flows }
-    requires turn { IsTurn turn }
-    requires cells { HavePlaces turn cells.old }
+    requires turn { IsTurnWith turn flow.old.flows cells.old }
     requires rest_size { length rest.old ≡ 3 * turn.packed.net.now.nodes }
     requires clean { IsClean turn.packed.net.now.nodes cells.old }
-    requires raised { Carries turn flow.old.flows sent.value }
-    requires below { sent.value ≤ wanted }
+    requires raised { CarriesUpTo turn flow.old.flows sent.value wanted }
     ensures fits { Fits turn.entry.packed.net.now flow.new.flows }
     ensures ready { IfSome result (λ _. IsReady turn.entry cells.new) }
-    ensures raised { IfSome result (λ r. Carries turn.entry flow.new.flows r.value) }
-    ensures below { IfSome result (λ r. r.value ≤ wanted) }
+    ensures raised { IfSome result (λ r. CarriesUpTo turn.entry flow.new.flows r.value wanted) }
     ensures paid { PaysIfAny flow.old sent.left flow.new result }
 {
     let n = turn.packed.net.nodes();
@@ -274,11 +257,8 @@ pub(crate) fn send_by_branches(
         if spread.met {
             let begin = trace(turn, via, path, spread.half)?;
             sent = send_along(turn, flow, cells, &path[begin as usize..], sent)?;
-            give_up(
-                turn,
-                cells,
-                near(turn.packed.net, turn.direction, spread.half),
-            );
+            let node = near(turn.packed.net, turn.direction, spread.half);
+            give_up(turn, cells, node);
             spread.left = sent.left;
             end = spread.tail.saturating_mul(PATIENCE);
         }

@@ -5,10 +5,11 @@ ghost use Rattle.flow_net.specs.Flows.{Fits};
 ghost use Rattle.flow_net.specs.Orders.{before};
 ghost use Rattle.flow_net.specs.Residual.{head_of};
 ghost use Rattle.flow_solve.specs.residual.Packs.{group_of};
-ghost use Rattle.flow_solve.specs.Growth.{Carries, HavePlaces, IsTurn, PaysIfAny};
+ghost use Rattle.flow_solve.specs.Growth.{Carries, CarriesUpTo, IsTurn, IsTurnWith, PaysIfAny};
 
 use crate::growth::turns::{Budgeted, Turn};
-use crate::residual::half_arcs::{Direction, cross, head};
+use crate::residual::half_arcs::Direction::{self, Backwards, Forwards};
+use crate::residual::half_arcs::{cross, head};
 use flow_net::{FlowTable, GREATEST_CAPACITY, Network};
 
 /// Sends a unit over a half-arc from the node of the turn to a node before it, if something remains on it. Answers
@@ -53,13 +54,10 @@ pub(crate) fn send_directly(
     wanted: u64,
     left: u64,
 ) -> Option<Budgeted>
-    requires fits { Fits turn.packed.net.now flow.old.flows }
-    requires turn { IsTurn turn }
-    requires cells { HavePlaces turn cells.now }
+    requires turn { IsTurnWith turn flow.old.flows cells.now }
     requires raised { Carries turn flow.old.flows 0 }
     ensures fits { Fits turn.entry.packed.net.now flow.new.flows }
-    ensures raised { IfSome result (λ r. Carries turn.entry flow.new.flows r.value) }
-    ensures below { IfSome result (λ r. r.value ≤ wanted) }
+    ensures raised { IfSome result (λ r. CarriesUpTo turn.entry flow.new.flows r.value wanted) }
     ensures paid { PaysIfAny flow.old left flow.new result }
 {
     let packed = turn.packed;
@@ -89,15 +87,8 @@ pub(crate) fn straighter_way(net: &Network, cells: &[u32]) -> Direction
         let arc = net.arc(i);
         let from = cells[arc.src as usize - 1];
         let to = cells[arc.dst as usize - 1];
-        if to < from {
-            back += 1;
-        } else if from < to {
-            on += 1;
-        }
+        back += u32::from(to < from);
+        on += u32::from(from < to);
     }
-    if on < back {
-        Direction::Forwards
-    } else {
-        Direction::Backwards
-    }
+    if on < back { Forwards } else { Backwards }
 }

@@ -2,8 +2,8 @@
 ghost use Rattle.std.specs.Prelude.{◌≡◌, ◌+◌, ◌*◌, ◌<◌, ◌≤◌, MatchOption, IfSome, length};
 ghost use Rattle.flow_net.specs.Nets.{IsNode};
 ghost use Rattle.flow_net.specs.Flows.{Fits};
-ghost use Rattle.flow_solve.specs.Growth.{AreNodes, ArePlaces, AreQueued, HavePlaces, IsClean, IsQueued, IsTurn};
-ghost use Rattle.flow_solve.specs.Growth.{IsTurnClosed, IsTurnCut, Passes};
+ghost use Rattle.flow_solve.specs.Growth.{AreNodes, ArePlaces, HaveSeen, IsClean, IsQueued, IsSearch, IsTurnClosed};
+ghost use Rattle.flow_solve.specs.Growth.{IsTurnCut, IsTurnWith, Passes};
 ghost use Rattle.flow_solve.specs.Steps.{OnlyLooks, PaysLooks};
 
 use crate::growth::turns::Turn;
@@ -55,15 +55,10 @@ fn expand_over(
     frontier: Frontier,
     exit: Exit,
 ) -> Frontier
-    requires fits { Fits turn.packed.net.now flow.old.flows }
-    requires turn { IsTurn turn }
-    requires cells { HavePlaces turn cells.old }
-    requires queue_size { length queue.old ≡ turn.packed.net.now.nodes }
-    requires queued { AreQueued turn cells.old queue.old frontier.tail }
+    requires search { IsSearch turn flow.old.flows cells.old queue.old frontier.tail }
     requires half { exit.half < 2 * length turn.packed.net.now.arcs }
     requires level { turn.packed.net.now.nodes ≤ exit.level }
-    ensures cells { HavePlaces turn.entry cells.new }
-    ensures queued { AreQueued turn.entry cells.new queue.new result.tail }
+    ensures seen { HaveSeen turn.entry cells.new queue.new result.tail }
     ensures looks { PaysLooks flow.old frontier.left flow.new result.left }
 {
     let net = turn.packed.net;
@@ -99,14 +94,9 @@ fn expand(
     frontier: Frontier,
     node: u32,
 ) -> Frontier
-    requires fits { Fits turn.packed.net.now flow.old.flows }
-    requires turn { IsTurn turn }
-    requires cells { HavePlaces turn cells.old }
-    requires queue_size { length queue.old ≡ turn.packed.net.now.nodes }
-    requires queued { AreQueued turn cells.old queue.old frontier.tail }
+    requires search { IsSearch turn flow.old.flows cells.old queue.old frontier.tail }
     requires node { IsNode turn.packed.net.now node }
-    ensures cells { HavePlaces turn.entry cells.new }
-    ensures queued { AreQueued turn.entry cells.new queue.new result.tail }
+    ensures seen { HaveSeen turn.entry cells.new queue.new result.tail }
     ensures looks { PaysLooks flow.old frontier.left flow.new result.left }
 {
     let packed = turn.packed;
@@ -132,13 +122,10 @@ pub(crate) fn search_frontier(
     need: u64,
     left: u64,
 ) -> Frontier
-    requires fits { Fits turn.packed.net.now flow.old.flows }
-    requires turn { IsTurn turn }
-    requires cells { HavePlaces turn cells.old }
+    requires turn { IsTurnWith turn flow.old.flows cells.old }
     requires queue_size { length queue.old ≡ turn.packed.net.now.nodes }
     requires clean { IsClean turn.packed.net.now.nodes cells.old }
-    ensures cells { HavePlaces turn.entry cells.new }
-    ensures queued { AreQueued turn.entry cells.new queue.new result.tail }
+    ensures seen { HaveSeen turn.entry cells.new queue.new result.tail }
     ensures looks { PaysLooks flow.old left flow.new result.left }
 {
     let start = turn.order[turn.place as usize];
@@ -170,9 +157,7 @@ pub(crate) fn search_frontier(
 
 /// Whether no half-arc that goes out from a node has a residual capacity and leads to a node that isn't seen.
 fn is_done(turn: Turn<'_>, flow: &mut FlowTable, cells: &[u32], node: u32, left: u64) -> Option<u64>
-    requires fits { Fits turn.packed.net.now flow.old.flows }
-    requires turn { IsTurn turn }
-    requires size { length cells.now ≡ turn.packed.net.now.nodes }
+    requires turn { IsTurnWith turn flow.old.flows cells.now }
     requires node { IsNode turn.packed.net.now node }
     ensures done { IfSome result (λ _. Passes turn.entry flow.old.flows cells.now node) }
     ensures looks { MatchOption result (OnlyLooks flow.old flow.new left) (λ r. PaysLooks flow.old left flow.new r) }
@@ -207,11 +192,7 @@ pub(crate) fn is_closed(
     tail: u32,
     left: u64,
 ) -> Option<u64>
-    requires fits { Fits turn.packed.net.now flow.old.flows }
-    requires turn { IsTurn turn }
-    requires size { length cells.now ≡ turn.packed.net.now.nodes }
-    requires queue_size { length queue.now ≡ turn.packed.net.now.nodes }
-    requires queued { AreQueued turn cells.now queue.now tail }
+    requires search { IsSearch turn flow.old.flows cells.now queue.now tail }
     ensures cut { IfSome result (λ _. IsTurnCut turn.entry cells.now) }
     ensures closed { IfSome result (λ _. IsTurnClosed turn.entry flow.old.flows cells.now) }
     ensures looks { MatchOption result (OnlyLooks flow.old flow.new left) (λ r. PaysLooks flow.old left flow.new r) }

@@ -7,9 +7,8 @@
 //! has all nodes is tested when it is done.
 ghost use Rattle.std.specs.Prelude.{◌≡◌, ◌<◌, ◌≤◌, IfSome, IsTrue, length};
 ghost use Rattle.flow_net.specs.Nets.{IsNode};
-ghost use Rattle.flow_net.specs.Orders.{IsOrder};
 ghost use Rattle.flow_solve.specs.residual.Packs.{IsPacked};
-ghost use Rattle.flow_solve.specs.Growth.{ArePlaces, IsClean, IsInOrder};
+ghost use Rattle.flow_solve.specs.Growth.{IsArranged, IsInOrder};
 
 use crate::residual::cells::{END, get, put};
 use crate::residual::half_arcs::head;
@@ -153,20 +152,13 @@ fn swept(packed: Packed<'_>, joins: &[u32], sweep: Sweep, done: u32, node: u32) 
     let begin = packed.first[node as usize - 1];
     let degree = packed.first[node as usize].wrapping_sub(begin);
     let back = joins[node as usize - 1].wrapping_mul(2);
-    let crossing = sweep.crossing.wrapping_add(degree).wrapping_sub(back);
-    let Sweep { least, place, .. } = sweep;
-    if crossing < least && done < n {
-        return Sweep {
-            crossing,
-            least: crossing,
-            place: done,
-        };
+    let mut next = sweep;
+    next.crossing = sweep.crossing.wrapping_add(degree).wrapping_sub(back);
+    if next.crossing < next.least && done < n {
+        next.least = next.crossing;
+        next.place = done;
     }
-    Sweep {
-        crossing,
-        least,
-        place,
-    }
+    next
 }
 
 /// Whether each place has a node, and each node is at its place.
@@ -213,10 +205,8 @@ fn take_all(
     let mut free = 0;
     for place in 0..n {
         top = highest(firsts, top);
-        if top == 0 {
-            free = first_without_place(joins, n, free);
-        }
         let next = if top == 0 {
+            free = first_without_place(joins, n, free);
             free
         } else {
             take_first(links, firsts, top as usize - 1)
@@ -247,9 +237,7 @@ pub(crate) fn order_nodes(
     requires size { length cells.old ≡ packed.net.now.nodes }
     requires joins_size { length joins.old ≡ packed.net.now.nodes }
     requires lists { lists ≤ packed.net.now.nodes }
-    ensures order { IfSome result (λ _. IsOrder packed.entry.net.now order.new) }
-    ensures places { IfSome result (λ _. ArePlaces packed.entry.net.now.nodes order.new cells.new) }
-    ensures clean { IfSome result (λ _. IsClean packed.entry.net.now.nodes cells.new) }
+    ensures arranged { IfSome result (λ _. IsArranged packed.entry.net.now order.new cells.new) }
 {
     let (firsts, _) = cells.split_at_mut(lists);
     let sweep = take_all(packed, order, joins, links, firsts)?;

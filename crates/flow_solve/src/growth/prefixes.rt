@@ -1,13 +1,11 @@
 //! A first bound on the connectivity: how many arcs lead from the nodes before a place in the order to the others, or
 //! back.
-ghost use Rattle.std.specs.Prelude.{◌≡◌, ℕ, Bool, ◌<◌, length};
+ghost use Rattle.std.specs.Prelude.{◌≡◌, ◌<◌, length};
 ghost use Rattle.flow_net.specs.Nets.{arc_at};
 ghost use Rattle.flow_net.specs.Limits.{IsNet};
 ghost use Rattle.flow_net.specs.Cuts.{leaves};
 ghost use Rattle.flow_net.specs.Arcs.{enters};
-ghost use Rattle.flow_net.specs.Orders.{IsOrder};
-ghost use Rattle.flow_net.specs.Connectivity.{leaving, IsProper};
-ghost use Rattle.flow_solve.specs.Growth.{ArePlaces, IsClean, earlier_in, parted};
+ghost use Rattle.flow_solve.specs.Growth.{IsArranged, IsReached, earlier_in, parted};
 
 use crate::growth::ordering::Sweep;
 use crate::residual::half_arcs::Direction;
@@ -37,12 +35,8 @@ fn count_crossings(net: &Network, cells: &[u32], place: u32) -> (u64, u64)
     let mut back = 0u64;
     for i in 0..net.len() {
         let (leaves, enters) = crosses(net, cells, place, i);
-        if leaves {
-            out += 1;
-        }
-        if enters {
-            back += 1;
-        }
+        out += u64::from(leaves);
+        back += u64::from(enters);
     }
     (out, back)
 }
@@ -56,13 +50,11 @@ pub(crate) fn bound_by_prefix(
     sweep: Sweep,
     least: u64,
 ) -> u64
-    requires order { IsOrder net.now order.now }
+    requires arranged { IsArranged net.now order.now cells.now }
     requires order_size { length order.now ≡ net.now.nodes }
     requires size { length cells.now ≡ net.now.nodes }
-    requires places { ArePlaces net.now.nodes order.now cells.now }
-    requires clean { IsClean net.now.nodes cells.now }
-    requires reached { (X : ℕ → Bool) × IsProper net.now X × (leaving net.now X ≡ least) }
-    ensures { (X : ℕ → Bool) × IsProper net.now X × (leaving net.now X ≡ result) }
+    requires reached { IsReached net.now least }
+    ensures { IsReached net.now result }
 {
     let n = net.nodes();
     let place = sweep.place;
@@ -70,11 +62,5 @@ pub(crate) fn bound_by_prefix(
         return least;
     }
     let (out, back) = count_crossings(net, cells, place);
-    if out <= back && out < least {
-        return out;
-    }
-    if back < least {
-        return back;
-    }
-    least
+    least.min(out).min(back)
 }

@@ -4,8 +4,8 @@ ghost use Rattle.std.specs.List.{All};
 ghost use Rattle.flow_net.specs.Nets.{IsNode};
 ghost use Rattle.flow_net.specs.Flows.{Fits};
 ghost use Rattle.flow_net.specs.Orders.{before};
-ghost use Rattle.flow_solve.specs.Growth.{Carries, HavePlaces, IsClean, IsReady, IsTurn, IsWalk, KeepsQueues, Parts};
-ghost use Rattle.flow_solve.specs.Growth.{PaysIfAny};
+ghost use Rattle.flow_solve.specs.Growth.{Carries, CarriesUpTo, HavePlaces, IsClean, IsReady, IsTurn, IsTurnWith};
+ghost use Rattle.flow_solve.specs.Growth.{IsWalk, KeepsSeen, Parts, PaysIfAny};
 ghost use Rattle.flow_solve.specs.Steps.{PaysLooks};
 
 use crate::growth::branches::send_by_branches;
@@ -32,9 +32,7 @@ fn next_way(
     node: u32,
     left: u64,
 ) -> Way
-    requires fits { Fits turn.packed.net.now flow.old.flows }
-    requires turn { IsTurn turn }
-    requires size { length cells.now ≡ turn.packed.net.now.nodes }
+    requires turn { IsTurnWith turn flow.old.flows cells.now }
     requires current_size { length current.old ≡ turn.packed.net.now.nodes }
     requires node { IsNode turn.packed.net.now node }
     ensures half { IfSome result.half (λ h. h < 2 * length turn.entry.packed.net.now.arcs) }
@@ -54,10 +52,8 @@ fn next_way(
             let (_, room) = flow.look(packed.net, half);
             if room > 0 {
                 current[node as usize - 1] = spot;
-                return Way {
-                    half: Some(half),
-                    left,
-                };
+                let half = Some(half);
+                return Way { half, left };
             }
         }
         spot += 1;
@@ -82,8 +78,7 @@ fn walk_into(turn: Turn<'_>, cells: &mut [u32], current: &mut [u32], node: u32)
     requires cells { HavePlaces turn cells.old }
     requires current_size { length current.old ≡ turn.packed.net.now.nodes }
     requires node { IsNode turn.packed.net.now node }
-    ensures cells { HavePlaces turn.entry cells.new }
-    ensures queued { KeepsQueues turn.entry cells.old cells.new }
+    ensures seen { KeepsSeen turn.entry cells.old cells.new }
 {
     let n = turn.packed.net.nodes();
     let place = node as usize - 1;
@@ -92,35 +87,6 @@ fn walk_into(turn: Turn<'_>, cells: &mut [u32], current: &mut [u32], node: u32)
         cells[place] = cell + 1;
         current[place] = turn.packed.first[place];
     }
-}
-
-/// Lets a walk go on over a half-arc.
-fn go_on(
-    turn: Turn<'_>,
-    cells: &mut [u32],
-    current: &mut [u32],
-    path: &mut [u32],
-    walk: Walk,
-    half: u32,
-) -> Option<Walk>
-    requires turn { IsTurn turn }
-    requires cells { HavePlaces turn cells.old }
-    requires current_size { length current.old ≡ turn.packed.net.now.nodes }
-    requires path_size { length path.old ≡ turn.packed.net.now.nodes }
-    requires half { half < 2 * length turn.packed.net.now.arcs }
-    ensures walk { IfSome result (λ r. IsWalk turn.entry r) }
-    ensures cells { HavePlaces turn.entry cells.new }
-    ensures queued { KeepsQueues turn.entry cells.old cells.new }
-{
-    let net = turn.packed.net;
-    if walk.depth >= net.nodes() {
-        return None;
-    }
-    path[walk.depth as usize] = half;
-    let node = far(net, turn.direction, half);
-    walk_into(turn, cells, current, node);
-    let depth = walk.depth + 1;
-    Some(Walk { node, depth })
 }
 
 /// Takes the last half-arc of a walk's path back, and moves the place of the node that it comes from past it.
@@ -160,18 +126,25 @@ fn move_on(
     requires path_size { length path.old ≡ turn.packed.net.now.nodes }
     requires half { IfSome half (λ h. h < 2 * length turn.packed.net.now.arcs) }
     ensures walk { IfSome result (λ r. IsWalk turn.entry r) }
-    ensures cells { HavePlaces turn.entry cells.new }
-    ensures queued { KeepsQueues turn.entry cells.old cells.new }
+    ensures seen { KeepsSeen turn.entry cells.old cells.new }
 {
-    match half {
-        Some(half) => go_on(turn, cells, current, path, walk, half),
-        None => go_back(turn, current, path, walk),
+    let Some(half) = half else {
+        return go_back(turn, current, path, walk);
+    };
+    let net = turn.packed.net;
+    if walk.depth >= net.nodes() {
+        return None;
     }
+    path[walk.depth as usize] = half;
+    let node = far(net, turn.direction, half);
+    walk_into(turn, cells, current, node);
+    let depth = walk.depth + 1;
+    Some(Walk { node, depth })
 }
 
 /// Lets walks go out from the node of the turn, up one level at each half-arc, and at a terminal a unit along the path,
 /// until the flow's value has come up to what is wanted or no walk comes to a terminal. Answers nothing where its looks
-/// and pushes are used up.
+/// and pushes are used up or a test fails.
 fn send_by_walks(
     turn: Turn<'_>,
     flow: &mut FlowTable,
@@ -180,17 +153,12 @@ fn send_by_walks(
     raised: Budgeted,
     wanted: u64,
 ) -> Option<Budgeted>
-    requires fits { Fits turn.packed.net.now flow.old.flows }
-    requires turn { IsTurn turn }
-    requires cells { HavePlaces turn cells.old }
+    requires turn { IsTurnWith turn flow.old.flows cells.old }
     requires rest_size { length rest.old ≡ 2 * turn.packed.net.now.nodes }
-    requires raised { Carries turn flow.old.flows raised.value }
-    requires below { raised.value ≤ wanted }
-    ensures below { IfSome result (λ r. r.value ≤ wanted) }
+    requires raised { CarriesUpTo turn flow.old.flows raised.value wanted }
     ensures fits { Fits turn.entry.packed.net.now flow.new.flows }
-    ensures cells { HavePlaces turn.entry cells.new }
-    ensures queued { KeepsQueues turn.entry cells.old cells.new }
-    ensures raised { IfSome result (λ r. Carries turn.entry flow.new.flows r.value) }
+    ensures seen { KeepsSeen turn.entry cells.old cells.new }
+    ensures raised { IfSome result (λ r. CarriesUpTo turn.entry flow.new.flows r.value wanted) }
     ensures paid { PaysIfAny flow.old raised.left flow.new result }
 {
     let n = turn.packed.net.nodes();
@@ -219,7 +187,7 @@ fn send_by_walks(
 }
 
 /// Raises the flow of a turn, which has the value 0, until it is worth what is wanted or no more can be raised. Answers
-/// nothing where its looks and pushes are used up.
+/// nothing where its looks and pushes are used up or a test fails.
 pub(crate) fn raise(
     turn: Turn<'_>,
     flow: &mut FlowTable,
@@ -229,15 +197,13 @@ pub(crate) fn raise(
     left: u64,
 ) -> Option<Budgeted>
     requires unit { All (λ a. a.cap ≡ 1) turn.packed.net.now.arcs }
-    requires turn { IsTurn turn }
-    requires cells { HavePlaces turn cells.old }
+    requires turn { IsTurnWith turn flow.old.flows cells.old }
     requires rest_size { length rest.old ≡ 3 * turn.packed.net.now.nodes }
     requires clean { IsClean turn.packed.net.now.nodes cells.old }
     requires raised { Carries turn flow.old.flows 0 }
     ensures fits { Fits turn.entry.packed.net.now flow.new.flows }
     ensures ready { IfSome result (λ _. IsReady turn.entry cells.new) }
-    ensures raised { IfSome result (λ r. Carries turn.entry flow.new.flows r.value) }
-    ensures below { IfSome result (λ r. r.value ≤ wanted) }
+    ensures raised { IfSome result (λ r. CarriesUpTo turn.entry flow.new.flows r.value wanted) }
     ensures parted { IfSome result (λ r. r.value < wanted → Parts turn.entry r.value) }
     ensures paid { PaysIfAny flow.old left flow.new result }
 {
@@ -256,10 +222,9 @@ pub(crate) fn raise(
         let frontier = search_frontier(turn, flow, cells, queue, need, raised.left - 1);
         raised.left = frontier.left;
         if frontier.met == 0 {
-            let left = is_closed(turn, flow, cells, queue, frontier.tail, frontier.left)?;
+            raised.left = is_closed(turn, flow, cells, queue, frontier.tail, frontier.left)?;
             forget(turn.order, cells, queue, frontier.tail);
-            let value = raised.value;
-            return Some(Budgeted { value, left });
+            return Some(raised);
         }
         raised = send_by_walks(turn, flow, cells, rest, raised, wanted)?;
         forget(turn.order, cells, queue, frontier.tail);

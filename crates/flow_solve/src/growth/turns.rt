@@ -3,7 +3,7 @@ ghost use Rattle.std.specs.Prelude.{◌≡◌, ◌+◌, ◌*◌, ◌<◌, ◌≤
 ghost use Rattle.flow_net.specs.Nets.{IsNode};
 ghost use Rattle.flow_net.specs.Flows.{Fits};
 ghost use Rattle.flow_solve.specs.residual.HalfArcs.{near_end, far_end};
-ghost use Rattle.flow_solve.specs.Growth.{BringsUnit, Carries, HavePlaces, IsTurn, PaysIfAny};
+ghost use Rattle.flow_solve.specs.Growth.{BringsUnit, Carries, IsTurnWith, PaysIfAny};
 
 use crate::residual::half_arcs::{Direction, far, near};
 use crate::residual::packing::Packed;
@@ -32,9 +32,7 @@ pub(crate) struct Budgeted {
 /// Pushes one unit over the half-arcs of a path, one by one from the node of the turn on, and answers whether all had
 /// room and led on, to a node before the place.
 pub(crate) fn push_unit(turn: Turn<'_>, flow: &mut FlowTable, cells: &[u32], path: &[u32]) -> bool
-    requires fits { Fits turn.packed.net.now flow.old.flows }
-    requires turn { IsTurn turn }
-    requires cells { HavePlaces turn cells.now }
+    requires turn { IsTurnWith turn flow.old.flows cells.now }
     ensures fits { Fits turn.entry.packed.net.now flow.new.flows }
     ensures raised { IsTrue result → BringsUnit turn.entry flow.old.flows flow.new.flows }
     ensures never_lowered { flow.old.steps ≤ flow.new.steps }
@@ -64,9 +62,7 @@ pub(crate) fn send_along(
     path: &[u32],
     sent: Budgeted,
 ) -> Option<Budgeted>
-    requires fits { Fits turn.packed.net.now flow.old.flows }
-    requires turn { IsTurn turn }
-    requires cells { HavePlaces turn cells.now }
+    requires turn { IsTurnWith turn flow.old.flows cells.now }
     requires raised { Carries turn flow.old.flows sent.value }
     requires small { sent.value < GREATEST_CAPACITY }
     ensures fits { Fits turn.entry.packed.net.now flow.new.flows }

@@ -11,13 +11,16 @@ use Rattle.flow_solve.proofs.growth.run_pass.Goals as goal
 pub loop-place-init : goal.loop-place-init
 loop-place-init c =
     let zeros : c.clear.new.self.flows ≡ replicate (length c.args.first.packed.net.now.arcs) 0 =
-    c.clear.ensures.flows ∙ ap (λ z. replicate z 0) c.requires.fits.count in
+    c.clear.ensures.flows ∙ ap (λ z. replicate z 0) c.requires.turn.fits.count in
     record {
       end = c.nodes-n.ensures.nodes;
       begun = omega arith;
-      fits = c.clear.ensures.still_fits c.args.first.packed.net.now c.requires.fits;
+      turn = record {
+        fits = c.clear.ensures.still_fits c.args.first.packed.net.now c.requires.turn.fits;
+        placed = c.requires.turn.placed;
+        is_turn = c.requires.turn.is_turn;
+      };
       rest_size = c.requires.rest_size;
-      cells = c.requires.cells;
       clean = c.requires.clean;
       balanced =
           subst (λ (z : List ℕ). IsBalanced c.args.first.packed.net.now c.args.first.order.now 1 z) (sym zeros)
@@ -38,7 +41,7 @@ raise-requires-clause-raised c =
     let j = c.loop-place.invariant in
     raised_none c.args.first.direction c.args.first.packed.net.now c.args.first.order.now c.loop-place.place
     c.loop-place.flow.flows
-    c.requires.turn.ordered (omega (arith, j.end, c.loop-place-test.true, c.requires.turn.size)) j.balanced
+    c.requires.turn.is_turn.ordered (omega (arith, j.end, c.loop-place-test.true, c.requires.turn.is_turn.size)) j.balanced
 
 -- a turn has found a set with fewer arcs, or none
 pub loop-place-preserved : goal.loop-place-preserved
@@ -51,26 +54,29 @@ loop-place-preserved c =
     let k = c.loop-place.place in
     let new = c.in_ok-least.least.value in
     let old = c.loop-place.least.value in
-    let inside : k < length order = omega (arith, j.end, c.loop-place-test.true, c.requires.turn.size) in
+    let inside : k < length order = omega (arith, j.end, c.loop-place-test.true, c.requires.turn.is_turn.size) in
     let here : IsBelow dir net order k new =
-    raised_below dir net order k c.raise.new.flow.flows new c.nodes-n.ensures.is_net c.requires.unit now.raised in
+    raised_below dir net order k c.raise.new.flow.flows new c.nodes-n.ensures.is_net c.requires.unit now.raised.raised in
     record {
       end = j.end;
       begun = omega (arith, j.begun);
-      fits = c.raise.ensures.fits;
+      turn = record {
+        fits = c.raise.ensures.fits;
+        placed = record { size = now.ready.placed.size; places = now.ready.placed.places };
+        is_turn = c.requires.turn.is_turn;
+      };
       rest_size = omega (arith, c.raise.auto.rest, j.rest_size);
-      cells = record { size = now.ready.placed.size; places = now.ready.placed.places };
       clean = now.ready.clean;
-      balanced = balanced_next dir net order k c.raise.new.flow.flows new inside now.raised;
+      balanced = balanced_next dir net order k c.raise.new.flow.flows new inside now.raised.raised;
       reached = elim (cases_lt new old) [
-        | inl less ↦ parted_proper dir net order k new c.requires.turn.ordered j.begun inside (now.parted less)
-        | inr same ↦ (let r = j.reached in (r.0, r.1, r.2 ∙ omega (arith, now.below)))
+        | inl less ↦ parted_proper dir net order k new c.requires.turn.is_turn.ordered j.begun inside (now.parted less)
+        | inr same ↦ (let r = j.reached in (r.0, r.1, r.2 ∙ omega (arith, now.raised.below)))
       ];
       below = λ i h l. elim (cases_eq i k) [
         | inl e ↦ subst (λ z. IsBelow dir net order z new) (sym e) here
-        | inr other ↦ (λ X cut. omega (arith, now.below, j.below i h (omega arith) X cut))
+        | inr other ↦ (λ X cut. omega (arith, now.raised.below, j.below i h (omega arith) X cut))
       ];
-      fewer = omega (arith, now.below, j.fewer);
+      fewer = omega (arith, now.raised.below, j.fewer);
       paid = record {
         never_lowered = omega (arith, j.paid.never_lowered, now.paid.never_lowered);
         left = omega (arith, j.paid.left, now.paid.left);

@@ -1,8 +1,7 @@
 -- `run_pass`: the flow is balanced from this place on, the least number is reached by a set, and no place passed allows
 -- fewer.
 use Rattle.std.proofs.Common.{◌≡◌, ℕ, ◌*◌, ◌<◌, ◌≤◌, length}
-use Rattle.flow_net.specs.Flows.{Fits}
-use Rattle.flow_solve.specs.Growth.{HavePlaces, IsBalanced, IsBelow, IsClean, IsReached}
+use Rattle.flow_solve.specs.Growth.{IsBalanced, IsBelow, IsClean, IsReached, IsTurnWith}
 use Rattle.flow_solve.specs.Steps.{PaysSteps}
 use Rattle.flow_solve.proofs.growth.run_pass.Given as goal
 
@@ -10,9 +9,8 @@ abbrev pub invariant-loop-place : goal.invariant-loop-place
 invariant-loop-place l = record {
   end : l.n ≡ l.first.packed.net.now.nodes;
   begun : 1 ≤ l.place;
-  fits : Fits l.first.packed.net.now l.flow.flows;
+  turn : IsTurnWith l.first l.flow.flows l.cells;
   rest_size : length l.rest ≡ 3 * l.first.packed.net.now.nodes;
-  cells : HavePlaces l.first l.cells;
   clean : IsClean l.first.packed.net.now.nodes l.cells;
   balanced : IsBalanced l.first.packed.net.now l.first.order.now l.place l.flow.flows;
   reached : IsReached l.first.packed.net.now l.least.value;

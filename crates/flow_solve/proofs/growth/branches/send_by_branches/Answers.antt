@@ -9,14 +9,19 @@ loop-spread-preserved-then-spread c =
     let seen = c.spread_on-spread.ensures in
     let now = c.in_ok-sent.ensures in
     record {
-      fits = c.send_along.ensures.fits;
-      queue_size = omega (arith, c.spread_on-spread.auto.queue, j.queue_size);
+      search = record {
+        size = omega (arith, c.spread_on-spread.auto.queue, j.search.size);
+        queued = c.give_up.ensures.seen.queued c.spread_on-spread.new.queue c.spread_on-spread.result.tail
+            seen.seen.queued;
+        has_turn = record {
+          fits = c.send_along.ensures.fits;
+          placed = c.give_up.ensures.seen.placed;
+          is_turn = c.requires.turn.is_turn;
+        };
+      };
       via_size = omega (arith, c.spread_on-spread.auto.via, j.via_size);
       path_size = omega (arith, c.trace.auto.path, j.path_size);
-      cells = c.give_up.ensures.cells;
-      queued = c.give_up.ensures.queued c.spread_on-spread.new.queue c.spread_on-spread.result.tail seen.queued;
-      raised = now.raised;
-      below = omega (arith, now.value, c.if-sent-wanted.true);
+      raised = record { raised = now.raised; below = omega (arith, now.value, c.if-sent-wanted.true) };
       same = refl;
       paid = record {
         never_lowered = omega (arith, j.paid.never_lowered, seen.looks.never_lowered, now.paid.never_lowered);

@@ -1,21 +1,16 @@
 -- `send_by_branches`: the flow carries what was sent, its steps are paid, and the seen nodes wait in the queue, of
 -- which one more is looked at each turn.
-use Rattle.std.proofs.Common.{◌≡◌, ◌-◌, ◌≤◌, length}
-use Rattle.flow_net.specs.Flows.{Fits}
-use Rattle.flow_solve.specs.Growth.{AreQueued, Carries, HavePlaces}
+use Rattle.std.proofs.Common.{◌≡◌, ◌-◌, length}
+use Rattle.flow_solve.specs.Growth.{CarriesUpTo, IsSearch}
 use Rattle.flow_solve.specs.Steps.{PaysSteps}
 use Rattle.flow_solve.proofs.growth.branches.send_by_branches.Given as goal
 
 abbrev pub invariant-loop-spread : goal.invariant-loop-spread
 invariant-loop-spread l = record {
-  fits : Fits l.turn.packed.net.now l.flow.flows;
-  queue_size : length l.queue ≡ l.turn.packed.net.now.nodes;
+  search : IsSearch l.turn l.flow.flows l.cells l.queue l.spread.tail;
   via_size : length l.via ≡ l.turn.packed.net.now.nodes;
   path_size : length l.path ≡ l.turn.packed.net.now.nodes;
-  cells : HavePlaces l.turn l.cells;
-  queued : AreQueued l.turn l.cells l.queue l.spread.tail;
-  raised : Carries l.turn l.flow.flows l.sent.value;
-  below : l.sent.value ≤ l.wanted;
+  raised : CarriesUpTo l.turn l.flow.flows l.sent.value l.wanted;
   same : l.spread.left ≡ l.sent.left;
   paid : PaysSteps l.fn.flow l.fn.sent.left l.flow l.sent.left;
 }

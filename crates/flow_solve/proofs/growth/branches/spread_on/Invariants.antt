@@ -1,19 +1,15 @@
 -- `spread_on`: the half-arcs passed have led to no terminal, the nodes that they led to wait, and the looks are paid.
 use Rattle.std.proofs.Common.{◌≡◌, ◌+◌, ◌-◌, ◌≤◌, false, length}
 use Rattle.std.specs.Prelude.{slice_index}
-use Rattle.flow_net.specs.Flows.{Fits}
-use Rattle.flow_solve.specs.Growth.{AreQueued, HavePlaces}
+use Rattle.flow_solve.specs.Growth.{IsSearch}
 use Rattle.flow_solve.specs.Steps.{PaysLooks}
 use Rattle.flow_solve.proofs.growth.branches.spread_on.Given as goal
 
 abbrev pub invariant-loop-spot : goal.invariant-loop-spot
 invariant-loop-spot l = record {
-  fits : Fits l.turn.packed.net.now l.flow.flows;
+  search : IsSearch l.turn l.flow.flows l.cells l.queue l.reached.tail;
   begun : slice_index l.turn.packed.first.now (l.node - 1) ≤ l.spot;
-  queue_size : length l.queue ≡ l.turn.packed.net.now.nodes;
   via_size : length l.via ≡ l.turn.packed.net.now.nodes;
-  cells : HavePlaces l.turn l.cells;
-  queued : AreQueued l.turn l.cells l.queue l.reached.tail;
   unmet : l.reached.met ≡ false;
   next : l.reached.at ≡ l.fn.spread.at + 1;
   looks : PaysLooks l.fn.flow l.fn.spread.left l.flow l.reached.left;

@@ -8,11 +8,11 @@ use Rattle.flow_solve.proofs.growth.frontier.is_closed.Goals as goal
 pub returns-clause-cut : goal.returns-clause-cut
 returns-clause-cut c =
     let j = c.loop-at.invariant in
-    let turn = c.requires.turn in
+    let turn = c.requires.search.has_turn.is_turn in
     let here : c.args.turn.packed.net.now.nodes
     ≤ slice_index c.args.cells.now (slice_index c.args.turn.order.now c.args.turn.place - 1) =
     omega arith in
-    seen_cut c.args.turn.packed.net.now (omega (arith, turn.place)) c.requires.size c.requires.queued c.args.turn.place
+    seen_cut c.args.turn.packed.net.now (omega (arith, turn.place)) c.requires.search.has_turn.placed.size c.requires.search.queued c.args.turn.place
     turn.ordered turn.size (omega (arith, turn.place, turn.size)) here
     (λ i h. j.late i (omega (arith, c.loop-at-test.false)))
 
@@ -20,7 +20,7 @@ returns-clause-cut c =
 pub returns-clause-closed : goal.returns-clause-closed
 returns-clause-closed c =
     let j = c.loop-at.invariant in
-    let turn = c.requires.turn in
-    seen_closed c.args.turn.packed.net.now (omega (arith, turn.place)) c.requires.size c.requires.queued
+    let turn = c.requires.search.has_turn.is_turn in
+    seen_closed c.args.turn.packed.net.now (omega (arith, turn.place)) c.requires.search.has_turn.placed.size c.requires.search.queued
     c.args.turn.direction c.args.flow.now.flows c.nodes-n.ensures.is_net
     (λ i h. j.done i (omega (arith, c.loop-at-test.false)))

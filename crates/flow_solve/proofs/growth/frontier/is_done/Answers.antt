@@ -10,7 +10,7 @@ returns-clause-done c = λ h l g r.
     let net = c.args.turn.packed.net.now in
     let first = c.args.turn.packed.first.now in
     let low = c.requires.node.0 in let high = c.requires.node.1 in
-    let at = c.requires.turn.packed.stands (c.args.node - 1) h (omega arith) l g in
+    let at = c.requires.turn.is_turn.packed.stands (c.args.node - 1) h (omega arith) l g in
     let next : slice_index first (c.args.node - 1 + 1) ≡ slice_index first c.args.node =
     ap (λ z. slice_index first z) (omega arith) in
     let passed : at.0 < c.loop-spot.spot = omega (arith, at.2, next, c.loop-spot-test.false) in

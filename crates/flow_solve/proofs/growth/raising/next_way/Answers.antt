@@ -9,7 +9,7 @@ far-requires c =
     let first = c.args.turn.packed.first.now in
     let next : get_or first (c.args.node - 1 + 1) 0 ≡ get_or first c.args.node 0 =
     ap (λ z. get_or first z 0) (omega arith) in
-    let own = c.requires.turn.packed.holds (c.args.node - 1) c.loop-spot.spot (omega arith) c.loop-spot.invariant.begun
+    let own = c.requires.turn.is_turn.packed.holds (c.args.node - 1) c.loop-spot.spot (omega arith) c.loop-spot.invariant.begun
     (omega (arith, next, c.loop-spot-test.true)) in
     subst (λ z. z < 2 * length c.args.turn.packed.net.now.arcs) (sym c.cross-half.ensures)
     (crossed_within c.args.turn.direction (get_or c.args.turn.packed.halves.now c.loop-spot.spot 0)

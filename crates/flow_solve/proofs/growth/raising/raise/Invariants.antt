@@ -1,20 +1,17 @@
 -- `raise`: the flow carries what was raised, its steps are paid, no node is seen between the searches, and each turn
 -- takes something off what may still be done.
-use Rattle.std.proofs.Common.{◌≡◌, ◌*◌, ◌≤◌, length}
-use Rattle.flow_net.specs.Flows.{Fits}
-use Rattle.flow_solve.specs.Growth.{Carries, HavePlaces, IsClean}
+use Rattle.std.proofs.Common.{◌≡◌, ◌*◌, length}
+use Rattle.flow_solve.specs.Growth.{CarriesUpTo, IsClean, IsTurnWith}
 use Rattle.flow_solve.specs.Steps.{PaysSteps}
 use Rattle.flow_solve.proofs.growth.raising.raise.Given as goal
 
 abbrev pub invariant-loop-raised : goal.invariant-loop-raised
 invariant-loop-raised l = record {
-  fits : Fits l.turn.packed.net.now l.flow.flows;
+  turn : IsTurnWith l.turn l.flow.flows l.cells;
   queue_size : length l.queue ≡ l.turn.packed.net.now.nodes;
   rest_size : length l.rest ≡ 2 * l.turn.packed.net.now.nodes;
-  cells : HavePlaces l.turn l.cells;
   clean : IsClean l.turn.packed.net.now.nodes l.cells;
-  raised : Carries l.turn l.flow.flows l.raised.value;
-  below : l.raised.value ≤ l.wanted;
+  raised : CarriesUpTo l.turn l.flow.flows l.raised.value l.wanted;
   paid : PaysSteps l.fn.flow l.left l.flow l.raised.left;
 }
 

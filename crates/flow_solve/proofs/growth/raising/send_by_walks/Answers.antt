@@ -1,18 +1,17 @@
 -- `send_by_walks`: a walk goes on, goes back, or sends a unit; each takes something off what may still be done.
 use Rattle.std.proofs.Common.{ℕ, List, sym, subst, arith}
 use Rattle.flow_net.specs.Flows.{Fits}
-use Rattle.flow_solve.specs.Growth.{Carries}
+use Rattle.flow_solve.specs.Growth.{CarriesUpTo}
+use Rattle.flow_solve.proofs.GrowthLemmas.SeenCells.{kept_on}
 use Rattle.flow_solve.proofs.growth.raising.send_by_walks.Goals as goal
 
 -- the walk is over
-pub returns-in_err-walk-clause-queued : goal.returns-in_err-walk-clause-queued
-returns-in_err-walk-clause-queued c = λ queue tail q.
-    c.move_on.ensures.queued queue tail (c.loop-sent.invariant.queued queue tail q)
+pub returns-in_err-walk-clause-seen : goal.returns-in_err-walk-clause-seen
+returns-in_err-walk-clause-seen c = kept_on c.loop-sent.invariant.seen c.move_on.ensures.seen
 
 -- nothing more may be done
-pub returns-in_err-sent-clause-queued : goal.returns-in_err-sent-clause-queued
-returns-in_err-sent-clause-queued c = λ queue tail q.
-    c.move_on.ensures.queued queue tail (c.loop-sent.invariant.queued queue tail q)
+pub returns-in_err-sent-clause-seen : goal.returns-in_err-sent-clause-seen
+returns-in_err-sent-clause-seen c = kept_on c.loop-sent.invariant.seen c.move_on.ensures.seen
 
 -- a terminal is met, and a unit sent: the next walk begins at the turn's node
 pub loop-sent-preserved-then-cells-walk : goal.loop-sent-preserved-then-cells-walk
@@ -22,17 +21,15 @@ loop-sent-preserved-then-cells-walk c =
     let look = c.next_way-way.ensures.looks in
     record {
       fits = c.send_along.ensures.fits;
-      cells = c.move_on.ensures.cells;
+      seen = kept_on j.seen c.move_on.ensures.seen;
       current_size = omega (arith, c.move_on.auto.current, c.next_way-way.auto.current, j.current_size);
       path_size = omega (arith, c.move_on.auto.path, j.path_size);
       walk = record {
-        node = c.requires.turn.ordered.within c.args.turn.place
-            (omega (arith, c.requires.turn.place, c.requires.turn.size));
+        node = c.requires.turn.is_turn.ordered.within c.args.turn.place
+            (omega (arith, c.requires.turn.is_turn.place, c.requires.turn.is_turn.size));
         depth = omega arith;
       };
-      queued = λ queue tail q. c.move_on.ensures.queued queue tail (j.queued queue tail q);
-      raised = now.raised;
-      below = omega (arith, now.value, c.loop-sent-test.true);
+      raised = record { raised = now.raised; below = omega (arith, now.value, c.loop-sent-test.true) };
       paid = record {
         never_lowered = omega (arith, j.paid.never_lowered, look.never_lowered, now.paid.never_lowered);
         left = omega (arith, j.paid.left, look.left, now.paid.left);
@@ -47,13 +44,12 @@ loop-sent-preserved c =
     let look = c.next_way-way.ensures.looks in
     record {
       fits = subst (λ (z : List ℕ). Fits c.args.turn.packed.net.now z) (sym look.flows) j.fits;
-      cells = c.move_on.ensures.cells;
+      seen = kept_on j.seen c.move_on.ensures.seen;
       current_size = omega (arith, c.move_on.auto.current, c.next_way-way.auto.current, j.current_size);
       path_size = omega (arith, c.move_on.auto.path, j.path_size);
       walk = c.in_ok-walk.ensures.walk;
-      queued = λ queue tail q. c.move_on.ensures.queued queue tail (j.queued queue tail q);
-      raised = subst (λ (z : List ℕ). Carries c.args.turn z c.loop-sent.sent.value) (sym look.flows) j.raised;
-      below = j.below;
+      raised = subst (λ (z : List ℕ). CarriesUpTo c.args.turn z c.loop-sent.sent.value c.args.wanted) (sym look.flows)
+          j.raised;
       paid = record {
         never_lowered = omega (arith, j.paid.never_lowered, look.never_lowered);
         left = omega (arith, j.paid.left, look.left);

@@ -39,9 +39,9 @@ loop-half-preserved c =
 pub returns-clause-raised : goal.returns-clause-raised
 returns-clause-raised c = λ yes value r.
     let j = c.loop-half.invariant in
-    let turn = c.requires.turn in
+    let turn = c.requires.turn.is_turn in
     let end = terminal_at c.args.turn.packed.net.now c.args.turn.order.now c.args.cells.now c.args.turn.place
-    c.loop-half.node turn.size turn.place j.node c.requires.cells.places
+    c.loop-half.node turn.size turn.place j.node c.requires.turn.placed.places
     (ltb-true (slice_index c.args.cells.now (c.loop-half.node - 1)) c.args.turn.place yes) in
     way_ends c.args.turn.direction c.loop-half.node c.loop-half.flow.flows turn.ordered
     (omega (arith, turn.place, turn.size)) end r (j.way r.feasible)

@@ -79,7 +79,7 @@ module _ (n : ℕ) (order cells queue : List ℕ) (tail : ℕ) where
     ];
   }
 
--- both at once
+-- both in a turn's search: the cells still hold places, and the queue has the nodes that are seen
 pub seen_more : (turn : Turn) (cells queue : List ℕ) (tail p v : ℕ) → length queue ≡ turn.packed.net.now.nodes
     → p < turn.packed.net.now.nodes → tail < turn.packed.net.now.nodes → get_or cells p 0 < turn.packed.net.now.nodes
     → turn.packed.net.now.nodes ≤ v → HavePlaces turn cells → AreQueued turn cells queue tail
@@ -94,18 +94,10 @@ seen_more turn cells queue tail p v ql l t c m h q =
       queued = queued_more n order cells queue tail p v ql h.size l t c m h.places q;
     }
 
--- what is kept twice is kept
+-- what is kept by one step and by the next is kept by both
 pub kept_on : {turn : Turn} {before now after : List ℕ} → KeepsSeen turn before now → KeepsSeen turn now after
     → KeepsSeen turn before after
 kept_on a b = record { placed = b.placed; queued = λ queue tail q. b.queued queue tail (a.queued queue tail q) }
-
--- where no node is seen the queue is empty
-pub queued_none : (n : ℕ) (order cells queue : List ℕ) → IsClean n cells → IsQueued n order cells queue 0
-queued_none n order cells queue c = record {
-  few = omega arith;
-  places = λ i h. absurd (omega arith);
-  waits = λ p h k. absurd (omega (arith, c p h));
-}
 
 -- the cell of a node in an order where no node is seen
 pub cell_at : (net : Net) (order cells : List ℕ) (k : ℕ) → IsOrder net order → length order ≡ net.nodes
@@ -290,9 +282,7 @@ terminal_at net order cells k x s l at a h =
     a (x - 1) (omega arith) (omega arith) ∙ omega arith in
     subst (λ z. before order k z ≡ true) here (before_at order k (slice_index cells (x - 1)) h (omega arith))
 
--- the lemmas by which functions keep the cells: a node is entered, is marked, and all are forgotten
-pub ruleset node_entered = (seen_more, places_marked, queued_more)
-
+-- the lemmas by which functions keep the cells: a node is marked, and all are forgotten
 pub ruleset node_marked = (places_marked, queued_same)
 
 pub ruleset nodes_forgotten = (left_all, left_next, places_back, clean_after)

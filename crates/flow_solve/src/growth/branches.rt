@@ -51,7 +51,6 @@ fn branch_of(nodes: u32, number: u32, node: u32) -> u32
 
 /// Lets the node behind a half-arc be seen, in the branch of the node before it, or in its own if that is the node of
 /// the turn.
-#[tactic(auto, using(crate::proofs::GrowthLemmas::SeenCells::node_entered))]
 fn enter_branch(
     turn: Turn<'_>,
     cells: &mut [u32],

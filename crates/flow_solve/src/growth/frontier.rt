@@ -1,7 +1,6 @@
 //! The search of a phase: it goes out from the node of the turn, level by level, and stops at terminals.
 ghost use Rattle.std.specs.Prelude.{◌≡◌, ◌+◌, ◌*◌, ◌<◌, ◌≤◌, MatchOption, IfSome, length};
 ghost use Rattle.flow_net.specs.Nets.{IsNode};
-ghost use Rattle.flow_net.specs.Flows.{Fits};
 ghost use Rattle.flow_solve.specs.Growth.{AreNodes, ArePlaces, HaveSeen, IsClean, IsQueued, IsSearch, IsTurnClosed};
 ghost use Rattle.flow_solve.specs.Growth.{IsTurnCut, IsTurnWith, Passes};
 ghost use Rattle.flow_solve.specs.Steps.{OnlyLooks, PaysLooks};
@@ -46,7 +45,6 @@ pub(crate) fn above(nodes: u32, cell: u32) -> u32
 
 /// Looks at a half-arc that leaves a node which is seen, if it leads to one that isn't: a terminal is counted, and
 /// another node is entered with the number for its cell.
-#[tactic(auto, using(crate::proofs::GrowthLemmas::SeenCells::node_entered))]
 fn expand_over(
     turn: Turn<'_>,
     flow: &mut FlowTable,

@@ -1,3 +1,4 @@
 pub mod Phases
 pub mod Trees
 pub mod Settling
+pub mod Waves

@@ -16,9 +16,9 @@ ghost use Rattle.std.specs.Prelude.{◌≡◌, ◌*◌, ◌<◌, length};
 ghost use Rattle.std.specs.List.{All};
 ghost use Rattle.flow_net.specs.Nets.{IsNode};
 ghost use Rattle.flow_net.specs.Flows.{Fits};
-ghost use Rattle.flow_solve.specs.residual.Packs.{IsPacked};
+ghost use Rattle.flow_solve.specs.levels.Waves.{IsWaving, Sends};
 ghost use Rattle.flow_solve.specs.Task.{HasFlow, IsTask};
-ghost use Rattle.flow_solve.specs.Steps.{PaysSteps, TakesSteps};
+ghost use Rattle.flow_solve.specs.Steps.{TakesSteps};
 
 mod discharging;
 mod excess;
@@ -39,9 +39,8 @@ use settling::settle;
 /// Sends as much over a half-arc of a source as remains there and as can be booked: nothing to a source, and to a sink
 /// without booking.
 fn release(packed: Packed<'_>, flow: &mut FlowTable, cells: &mut [u32], half: u32)
-    requires fits { Fits packed.net.now flow.old.flows }
+    requires waving { IsWaving packed flow.old cells.old }
     requires half { half < 2 * length packed.net.now.arcs }
-    requires cells { length cells.old ≡ 5 * packed.net.now.nodes }
     ensures fits { Fits packed.entry.net.now flow.new.flows }
     ensures steps { TakesSteps flow.old flow.new 2 }
 {
@@ -59,20 +58,11 @@ fn release(packed: Packed<'_>, flow: &mut FlowTable, cells: &mut [u32], half: u3
     flow.push(packed.net, half, sent);
 }
 
-/// Sends what can leave a source over each of its half-arcs.
-fn release_all(
-    packed: Packed<'_>,
-    flow: &mut FlowTable,
-    cells: &mut [u32],
-    wave: &mut Wave,
-    node: u32,
-)
-    requires fits { Fits packed.net.now flow.old.flows }
-    requires packed { IsPacked packed.net.now packed.first.now packed.halves.now }
-    requires cells { length cells.old ≡ 5 * packed.net.now.nodes }
+/// Drains a source: sends what can leave it over each of its half-arcs.
+fn drain(packed: Packed<'_>, flow: &mut FlowTable, cells: &mut [u32], wave: &mut Wave, node: u32)
+    requires waving { IsWaving packed flow.old cells.old }
     requires node { IsNode packed.net.now node }
-    ensures fits { Fits packed.entry.net.now flow.new.flows }
-    ensures paid { PaysSteps flow.old wave.old.left flow.new wave.new.left }
+    ensures sent { Sends packed.entry flow.old wave.old flow.new wave.new }
 {
     let begin = packed.first[node as usize - 1];
     let end = packed.first[node as usize];
@@ -86,10 +76,8 @@ fn release_all(
 /// Sends all that can leave the sources to the nodes next to them.
 fn supply(task: Task<'_>, flow: &mut FlowTable, cells: &mut [u32], wave: &mut Wave)
     requires task { IsTask task }
-    requires fits { Fits task.packed.net.now flow.old.flows }
-    requires cells { length cells.old ≡ 5 * task.packed.net.now.nodes }
-    ensures fits { Fits task.entry.packed.net.now flow.new.flows }
-    ensures paid { PaysSteps flow.old wave.old.left flow.new wave.new.left }
+    requires waving { IsWaving task.packed flow.old cells.old }
+    ensures sent { Sends task.entry.packed flow.old wave.old flow.new wave.new }
 {
     let n = task.packed.net.nodes() as usize;
     cells[..n].fill(FAR);
@@ -97,17 +85,14 @@ fn supply(task: Task<'_>, flow: &mut FlowTable, cells: &mut [u32], wave: &mut Wa
     set_levels(cells, task.s, BARRED);
     set_levels(cells, task.t, 0);
     for node in task.s {
-        release_all(task.packed, flow, cells, wave, *node);
+        drain(task.packed, flow, cells, wave, *node);
     }
 }
 
 /// Empties the levels of a wave, the farthest first.
 fn sweep(packed: Packed<'_>, flow: &mut FlowTable, cells: &mut [u32], wave: &mut Wave)
-    requires fits { Fits packed.net.now flow.old.flows }
-    requires packed { IsPacked packed.net.now packed.first.now packed.halves.now }
-    requires cells { length cells.old ≡ 5 * packed.net.now.nodes }
-    ensures fits { Fits packed.entry.net.now flow.new.flows }
-    ensures paid { PaysSteps flow.old wave.old.left flow.new wave.new.left }
+    requires waving { IsWaving packed flow.old cells.old }
+    ensures sent { Sends packed.entry flow.old wave.old flow.new wave.new }
 {
     let nodes = packed.net.nodes();
     'turns: while wave.farthest > 0 && wave.fuel > 0 && spend(&mut wave.left, 1) {
@@ -120,25 +105,15 @@ fn sweep(packed: Packed<'_>, flow: &mut FlowTable, cells: &mut [u32], wave: &mut
     }
 }
 
-/// Waves towards some roots, until no search finds excess that leads there, or no more may be done.
-fn send(
-    packed: Packed<'_>,
-    roots: &[u32],
-    barred: &[u32],
-    flow: &mut FlowTable,
-    cells: &mut [u32],
-    wave: &mut Wave,
-)
-    requires fits { Fits packed.net.now flow.old.flows }
-    requires packed { IsPacked packed.net.now packed.first.now packed.halves.now }
-    requires roots { All (IsNode packed.net.now) roots.now }
-    requires barred { All (IsNode packed.net.now) barred.now }
-    requires cells { length cells.old ≡ 5 * packed.net.now.nodes }
-    ensures fits { Fits packed.entry.net.now flow.new.flows }
-    ensures paid { PaysSteps flow.old wave.old.left flow.new wave.new.left }
+/// Waves towards the sinks of a task, until no search finds excess that leads there, or no more may be done.
+fn send(task: Task<'_>, flow: &mut FlowTable, cells: &mut [u32], wave: &mut Wave)
+    requires waving { IsWaving task.packed flow.old cells.old }
+    requires roots { All (IsNode task.packed.net.now) task.t.now }
+    requires barred { All (IsNode task.packed.net.now) task.s.now }
+    ensures sent { Sends task.entry.packed flow.old wave.old flow.new wave.new }
 {
-    'waves: while search_levels(packed, roots, barred, flow, cells, wave) {
-        sweep(packed, flow, cells, wave);
+    'waves: while search_levels(task, flow, cells, wave) {
+        sweep(task.packed, flow, cells, wave);
     }
 }
 
@@ -165,9 +140,9 @@ pub(crate) fn send_waves(
     let share = (allowance - looks) / 2;
     let mut there = at_rest(share);
     supply(task, flow, cells, &mut there);
-    send(packed, t, s, flow, cells, &mut there);
+    send(task, flow, cells, &mut there);
     let mut home = at_rest(share);
-    send(packed, s, t, flow, cells, &mut home);
+    send(Task { packed, s: t, t: s }, flow, cells, &mut home);
     match settle(task, flow, cells) {
         Some(settled) => settled,
         None => {

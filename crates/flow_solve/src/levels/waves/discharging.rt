@@ -2,14 +2,12 @@
 //! and Tarjan 1988).
 ghost use Rattle.std.specs.Prelude.{◌≡◌, ◌+◌, ◌-◌, ◌*◌, ◌<◌, ◌≤◌, length};
 ghost use Rattle.flow_net.specs.Nets.{IsNode};
-ghost use Rattle.flow_net.specs.Flows.{Fits};
-ghost use Rattle.flow_solve.specs.residual.Packs.{IsPacked, halves_of};
-ghost use Rattle.flow_solve.specs.Steps.{OnlyLooks, PaysLooks, PaysSteps, TakesSteps};
+ghost use Rattle.flow_solve.specs.residual.Packs.{halves_of};
+ghost use Rattle.flow_solve.specs.levels.Waves.{IsWaving, Sends};
+ghost use Rattle.flow_solve.specs.Steps.{OnlyLooks, PaysLooks};
 
+use super::excess::{Wave, book, count_cell, excess_of, level_cell, list_excess, set_excess};
 use crate::levels::spending::spend;
-use crate::levels::waves::excess::{
-    Wave, book, count_cell, excess_of, level_cell, list_excess, set_excess,
-};
 use crate::residual::cells::{get, put};
 use crate::residual::half_arcs::head;
 use crate::residual::packing::Packed;
@@ -53,14 +51,7 @@ fn spot_of(begin: u32, end: u32, step: u32, backwards: bool) -> u32
 
 /// Books as much of an amount at a node as its excess has room for, and lists the node if it had none; a root, at level
 /// 0, takes all, and nothing is booked. Answers how much.
-fn receive(
-    cells: &mut [u32],
-    nodes: u32,
-    wave: &mut Wave,
-    node: u32,
-    level: u32,
-    amount: u64,
-) -> u64
+fn accept(cells: &mut [u32], nodes: u32, wave: &mut Wave, node: u32, level: u32, amount: u64) -> u64
     requires cells { length cells.old ≡ 5 * nodes }
     requires node { (1 ≤ node) × (node ≤ nodes) }
     ensures most { result ≤ amount }
@@ -75,39 +66,6 @@ fn receive(
     book(cells, nodes, node, amount)
 }
 
-/// Sends as much of an amount over a half-arc to a level as remains there and as can be booked. Answers how much.
-fn pass_on(
-    packed: Packed<'_>,
-    flow: &mut FlowTable,
-    cells: &mut [u32],
-    wave: &mut Wave,
-    half: u32,
-    level: u32,
-    amount: u64,
-) -> u64
-    requires fits { Fits packed.net.now flow.old.flows }
-    requires half { half < 2 * length packed.net.now.arcs }
-    requires cells { length cells.old ≡ 5 * packed.net.now.nodes }
-    ensures fits { Fits packed.entry.net.now flow.new.flows }
-    ensures most { result ≤ amount }
-    ensures left { wave.new.left ≡ wave.old.left }
-    ensures steps { TakesSteps flow.old flow.new 2 }
-{
-    let (node, room) = flow.look(packed.net, half);
-    let sent = receive(
-        cells,
-        packed.net.nodes(),
-        wave,
-        node,
-        level,
-        amount.min(room),
-    );
-    if sent > 0 {
-        flow.push(packed.net, half, sent);
-    }
-    sent
-}
-
 /// Passes a sender's half-arcs once, and sends its excess on over those that lead to the next nearer level. Answers how
 /// much it has left.
 fn pass(
@@ -118,13 +76,10 @@ fn pass(
     sender: Sender,
     amount: u64,
 ) -> u64
-    requires fits { Fits packed.net.now flow.old.flows }
-    requires packed { IsPacked packed.net.now packed.first.now packed.halves.now }
-    requires cells { length cells.old ≡ 5 * packed.net.now.nodes }
+    requires waving { IsWaving packed flow.old cells.old }
     requires node { IsNode packed.net.now sender.node }
     requires some { 0 < wave.old.left }
-    ensures fits { Fits packed.entry.net.now flow.new.flows }
-    ensures paid { PaysSteps flow.old wave.old.left flow.new wave.new.left }
+    ensures sent { Sends packed.entry flow.old wave.old flow.new wave.new }
     ensures spent { wave.new.left < wave.old.left }
 {
     let begin = packed.first[sender.node as usize - 1];
@@ -134,13 +89,19 @@ fn pass(
     if !spend(&mut wave.left, 1 + 2 * ahead) {
         return amount;
     }
+    let nodes = packed.net.nodes();
     let nearer = cells[level_cell(sender.node)].saturating_sub(1);
     let mut rest = amount;
     let mut step = from;
     while step < end - begin && rest > 0 {
         let half = packed.halves[spot_of(begin, end, step, sender.backwards) as usize];
         if cells[level_cell(head(packed.net, half))] == nearer {
-            rest -= pass_on(packed, flow, cells, wave, half, nearer, rest);
+            let (node, room) = flow.look(packed.net, half);
+            let sent = accept(cells, nodes, wave, node, nearer, rest.min(room));
+            if sent > 0 {
+                flow.push(packed.net, half, sent);
+                rest -= sent;
+            }
         }
         step += 1;
     }
@@ -159,9 +120,7 @@ fn nearest(
     own: u32,
     ceiling: u32,
 ) -> (u32, u32)
-    requires fits { Fits packed.net.now flow.old.flows }
-    requires packed { IsPacked packed.net.now packed.first.now packed.halves.now }
-    requires cells { length cells.now ≡ 5 * packed.net.now.nodes }
+    requires waving { IsWaving packed flow.old cells.now }
     requires node { IsNode packed.net.now sender.node }
     ensures looks { OnlyLooks flow.old flow.new (halves_of packed.entry (sender.node - 1)) }
 {
@@ -210,9 +169,7 @@ fn lift(
     wave: &mut Wave,
     sender: Sender,
 ) -> Option<u32>
-    requires fits { Fits packed.net.now flow.old.flows }
-    requires packed { IsPacked packed.net.now packed.first.now packed.halves.now }
-    requires cells { length cells.old ≡ 5 * packed.net.now.nodes }
+    requires waving { IsWaving packed flow.old cells.old }
     requires node { IsNode packed.net.now sender.node }
     ensures paid { PaysLooks flow.old wave.old.left flow.new wave.new.left }
 {
@@ -250,12 +207,9 @@ pub(super) fn discharge(
     wave: &mut Wave,
     node: u32,
 )
-    requires fits { Fits packed.net.now flow.old.flows }
-    requires packed { IsPacked packed.net.now packed.first.now packed.halves.now }
-    requires cells { length cells.old ≡ 5 * packed.net.now.nodes }
+    requires waving { IsWaving packed flow.old cells.old }
     requires node { IsNode packed.net.now node }
-    ensures fits { Fits packed.entry.net.now flow.new.flows }
-    ensures paid { PaysSteps flow.old wave.old.left flow.new wave.new.left }
+    ensures sent { Sends packed.entry flow.old wave.old flow.new wave.new }
 {
     let nodes = packed.net.nodes();
     let mut amount = excess_of(cells, nodes, node);

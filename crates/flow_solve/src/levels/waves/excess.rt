@@ -8,7 +8,7 @@ ghost use Rattle.std.specs.List.{All};
 use crate::residual::cells::{get, put};
 
 /// How far waves are.
-#[derive(Clone, Copy)]
+#[derive(Clone, Copy, Default)]
 pub(super) struct Wave {
     /// What may still be done: steps, and half-arcs that are passed by.
     pub left: u64,
@@ -37,14 +37,7 @@ pub(super) fn at_rest(allowance: u64) -> Wave
 {
     Wave {
         left: allowance,
-        fuel: 0,
-        turn: 0,
-        farthest: 0,
-        ceiling: 0,
-        queued: 0,
-        seen: 0,
-        wanted: 0,
-        lost: 0,
+        ..Wave::default()
     }
 }
 

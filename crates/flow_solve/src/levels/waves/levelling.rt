@@ -2,18 +2,16 @@
 ghost use Rattle.std.specs.Prelude.{◌≡◌, ◌+◌, ◌*◌, ◌<◌, ◌≤◌, true, length};
 ghost use Rattle.std.specs.List.{All};
 ghost use Rattle.flow_net.specs.Nets.{IsNode};
-ghost use Rattle.flow_net.specs.Flows.{Fits};
-ghost use Rattle.flow_solve.specs.residual.Packs.{IsPacked};
-ghost use Rattle.flow_solve.specs.Steps.{OnlyLooks, PaysLooks};
+ghost use Rattle.flow_solve.specs.levels.Waves.{IsWaving};
+ghost use Rattle.flow_solve.specs.Steps.{PaysLooks};
 
+use super::excess::{Wave, count_cell, excess_of, level_cell, list_excess, queue_cell, set_levels};
 use crate::levels::spending::spend;
-use crate::levels::waves::excess::{
-    Wave, count_cell, excess_of, level_cell, list_excess, queue_cell, set_levels,
-};
 use crate::residual::cells::{get, put};
-use crate::residual::half_arcs::{Direction, cross, head};
+use crate::residual::half_arcs::{head, twin};
 use crate::residual::packing::Packed;
 use crate::residual::searching::FAR;
+use crate::task::Task;
 use flow_net::FlowTable;
 
 /// Stands for the level of a node that takes no part.
@@ -54,49 +52,38 @@ fn enter_level(cells: &mut [u32], nodes: u32, wave: &mut Wave, node: u32, level:
     put(cells, count_cell(nodes, level), count);
 }
 
-/// Gives an unseen node its level, if something remains from there over the twin of a half-arc.
-fn level_unseen(
-    packed: Packed<'_>,
-    flow: &mut FlowTable,
-    cells: &mut [u32],
-    wave: &mut Wave,
-    half: u32,
-    level: u32,
-)
-    requires fits { Fits packed.net.now flow.old.flows }
-    requires half { half < 2 * length packed.net.now.arcs }
-    requires cells { length cells.old ≡ 5 * packed.net.now.nodes }
-    ensures looks { OnlyLooks flow.old flow.new 1 }
+/// Gives an unseen node its level, and counts it among those with excess if it has any.
+fn level_unseen(cells: &mut [u32], nodes: u32, wave: &mut Wave, node: u32, level: u32)
+    requires size { length cells.old ≡ 5 * nodes }
+    requires node { (1 ≤ node) × (node ≤ nodes) }
     ensures left { wave.new.left ≡ wave.old.left }
 {
-    let (_, room) = flow.look(packed.net, cross(Direction::Backwards, half));
-    if room > 0 {
-        let nodes = packed.net.nodes();
-        let next = head(packed.net, half);
-        enter_level(cells, nodes, wave, next, level);
-        if excess_of(cells, nodes, next) > 0 {
-            wave.seen = wave.seen.saturating_add(1);
-            wave.farthest = level;
-        }
+    enter_level(cells, nodes, wave, node, level);
+    if excess_of(cells, nodes, node) > 0 {
+        wave.seen = wave.seen.saturating_add(1);
+        wave.farthest = level;
     }
 }
 
 /// Goes on from a node: gives a level to the unseen nodes next to it from which something remains.
 fn scan(packed: Packed<'_>, flow: &mut FlowTable, cells: &mut [u32], wave: &mut Wave, node: u32)
-    requires fits { Fits packed.net.now flow.old.flows }
-    requires packed { IsPacked packed.net.now packed.first.now packed.halves.now }
-    requires cells { length cells.old ≡ 5 * packed.net.now.nodes }
+    requires waving { IsWaving packed flow.old cells.old }
     requires node { IsNode packed.net.now node }
     ensures paid { PaysLooks flow.old wave.old.left flow.new wave.new.left }
 {
     let begin = packed.first[node as usize - 1];
     let end = packed.first[node as usize];
+    let nodes = packed.net.nodes();
     let level = cells[level_cell(node)].saturating_add(1);
     if spend(&mut wave.left, u64::from(end - begin)) {
         for spot in begin..end {
             let half = packed.halves[spot as usize];
-            if cells[level_cell(head(packed.net, half))] == FAR {
-                level_unseen(packed, flow, cells, wave, half, level);
+            let next = head(packed.net, half);
+            if cells[level_cell(next)] == FAR {
+                let (_, room) = flow.look(packed.net, twin(half));
+                if room > 0 {
+                    level_unseen(cells, nodes, wave, next, level);
+                }
             }
         }
     }
@@ -111,9 +98,7 @@ fn goes_on(wave: Wave, nodes: u32, level: u32) -> bool {
 
 /// Goes on from the nodes in the queue, in the order in which they came into it.
 fn scan_all(packed: Packed<'_>, flow: &mut FlowTable, cells: &mut [u32], wave: &mut Wave)
-    requires fits { Fits packed.net.now flow.old.flows }
-    requires packed { IsPacked packed.net.now packed.first.now packed.halves.now }
-    requires cells { length cells.old ≡ 5 * packed.net.now.nodes }
+    requires waving { IsWaving packed flow.old cells.old }
     ensures paid { PaysLooks flow.old wave.old.left flow.new wave.new.left }
 {
     let nodes = packed.net.nodes();
@@ -148,25 +133,22 @@ fn list_all(cells: &mut [u32], nodes: u32, wave: &mut Wave)
     }
 }
 
-/// Searches backwards from the roots, at level 0, and lists the nodes with excess by their levels. Answers whether
-/// there are any.
+/// Searches backwards from the sinks of a task, the roots at level 0, its sources barred, and lists the nodes with
+/// excess by their levels. Answers whether there are any.
 #[inline(never)]
 pub(super) fn search_levels(
-    packed: Packed<'_>,
-    roots: &[u32],
-    barred: &[u32],
+    task: Task<'_>,
     flow: &mut FlowTable,
     cells: &mut [u32],
     wave: &mut Wave,
 ) -> bool
-    requires fits { Fits packed.net.now flow.old.flows }
-    requires packed { IsPacked packed.net.now packed.first.now packed.halves.now }
-    requires roots { All (IsNode packed.net.now) roots.now }
-    requires barred { All (IsNode packed.net.now) barred.now }
-    requires cells { length cells.old ≡ 5 * packed.net.now.nodes }
+    requires waving { IsWaving task.packed flow.old cells.old }
+    requires roots { All (IsNode task.packed.net.now) task.t.now }
+    requires barred { All (IsNode task.packed.net.now) task.s.now }
     ensures paid { PaysLooks flow.old wave.old.left flow.new wave.new.left }
     ensures spent { result ≡ true → wave.new.left < wave.old.left }
 {
+    let packed = task.packed;
     let nodes = packed.net.nodes();
     if !spend(&mut wave.left, u64::from(nodes)) {
         return false;
@@ -175,8 +157,8 @@ pub(super) fn search_levels(
     wave.seen = 0;
     wave.farthest = 0;
     wave.wanted = unlevel(cells, nodes).saturating_sub(wave.lost);
-    set_levels(cells, barred, BARRED);
-    for node in roots {
+    set_levels(cells, task.s, BARRED);
+    for node in task.t {
         enter_level(cells, nodes, wave, *node, 0);
     }
     scan_all(packed, flow, cells, wave);

@@ -1,13 +1,11 @@
 -- `send`: what the waves before have taken is paid, and each takes something off what may still be done.
-use Rattle.std.proofs.Common.{◌≡◌, ◌*◌, length}
-use Rattle.flow_net.specs.Flows.{Fits}
+use Rattle.flow_solve.specs.levels.Waves.{IsWaving}
 use Rattle.flow_solve.specs.Steps.{PaysSteps}
 use Rattle.flow_solve.proofs.levels.waves.send.Given as goal
 
 abbrev pub invariant-waves : goal.invariant-waves
 invariant-waves l = record {
-  fits : Fits l.packed.net.now l.flow.flows;
-  size : length l.cells ≡ 5 * l.packed.net.now.nodes;
+  waving : IsWaving l.task.packed l.flow l.cells;
   paid : PaysSteps l.fn.flow l.fn.wave.left l.flow l.wave.left;
 }
 

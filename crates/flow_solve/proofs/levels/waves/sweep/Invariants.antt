@@ -1,13 +1,11 @@
 -- `sweep`: what the nodes before have sent on is paid, and each turn takes something off what may still be done.
-use Rattle.std.proofs.Common.{◌≡◌, ◌*◌, length}
-use Rattle.flow_net.specs.Flows.{Fits}
+use Rattle.flow_solve.specs.levels.Waves.{IsWaving}
 use Rattle.flow_solve.specs.Steps.{PaysSteps}
 use Rattle.flow_solve.proofs.levels.waves.sweep.Given as goal
 
 abbrev pub invariant-turns : goal.invariant-turns
 invariant-turns l = record {
-  fits : Fits l.packed.net.now l.flow.flows;
-  size : length l.cells ≡ 5 * l.packed.net.now.nodes;
+  waving : IsWaving l.packed l.flow l.cells;
   paid : PaysSteps l.fn.flow l.fn.wave.left l.flow l.wave.left;
 }
 

@@ -1,14 +1,12 @@
 -- `discharge`: what was sent and looked at is paid, and each turn takes something off what may still be done.
-use Rattle.std.proofs.Common.{◌≡◌, ◌*◌, length}
 use Rattle.flow_net.specs.Nets.{IsNode}
-use Rattle.flow_net.specs.Flows.{Fits}
+use Rattle.flow_solve.specs.levels.Waves.{IsWaving}
 use Rattle.flow_solve.specs.Steps.{PaysSteps}
 use Rattle.flow_solve.proofs.levels.waves.discharging.discharge.Given as goal
 
 abbrev pub invariant-turns : goal.invariant-turns
 invariant-turns l = record {
-  fits : Fits l.packed.net.now l.flow.flows;
-  size : length l.cells ≡ 5 * l.packed.net.now.nodes;
+  waving : IsWaving l.packed l.flow l.cells;
   node : IsNode l.packed.net.now l.sender.node;
   paid : PaysSteps l.fn.flow l.fn.wave.left l.flow l.wave.left;
 }

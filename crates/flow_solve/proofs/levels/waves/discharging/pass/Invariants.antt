@@ -1,13 +1,12 @@
 -- `pass`: a look and a push at each half-arc that was passed, and all of them are paid.
-use Rattle.std.proofs.Common.{◌≡◌, ◌+◌, ◌*◌, ◌-◌, ◌≤◌, length}
-use Rattle.flow_net.specs.Flows.{Fits}
+use Rattle.std.proofs.Common.{◌≡◌, ◌+◌, ◌*◌, ◌-◌, ◌≤◌}
+use Rattle.flow_solve.specs.levels.Waves.{IsWaving}
 use Rattle.flow_solve.specs.Steps.{TakesSteps}
 use Rattle.flow_solve.proofs.levels.waves.discharging.pass.Given as goal
 
 abbrev pub invariant-loop-step : goal.invariant-loop-step
 invariant-loop-step l = record {
-  fits : Fits l.packed.net.now l.flow.flows;
-  size : length l.cells ≡ 5 * l.packed.net.now.nodes;
+  waving : IsWaving l.packed l.flow l.cells;
   begun : l.from ≤ l.step;
   within : l.step ≤ l.end - l.begin;
   left : l.wave.left + (1 + 2 * (l.end - l.begin - l.from)) ≡ l.fn.wave.left;

@@ -14,7 +14,7 @@ ghost use Rattle.flow_net.specs.Paths.{HasRoom, push_all};
 ghost use Rattle.flow_solve.specs.residual.Packs.{IsPacked};
 ghost use Rattle.flow_solve.specs.residual.Searches.{AreCells, HasMissed, HasSearched, IsMarked, seen};
 ghost use Rattle.flow_solve.specs.Bounds.{paths_bound};
-ghost use Rattle.flow_solve.specs.Steps.{OnlyLooks};
+ghost use Rattle.flow_solve.specs.Steps.{OnlyLooks, TakesSteps};
 ghost use Rattle.flow_solve.specs.residual.Trails.{AreTrails, IsFirstSeen, IsMost, IsSeenOf, trail_from};
 
 use crate::method::Method;
@@ -85,14 +85,7 @@ fn least_room(net: &Network, flow: &mut FlowTable, dist: &[u32], via: &[u32], so
 }
 
 /// Pushes an amount along the trail from a node.
-fn push_along(
-    net: &Network,
-    flow: &mut FlowTable,
-    dist: &[u32],
-    via: &[u32],
-    source: u32,
-    amount: u64,
-)
+fn push_on(net: &Network, flow: &mut FlowTable, dist: &[u32], via: &[u32], source: u32, amount: u64)
     requires fits { Fits net.now flow.old.flows }
     requires trails { AreTrails net.now flow.old.flows dist.now via.now }
     requires node { IsNode net.now source }
@@ -120,11 +113,10 @@ fn augment_along(net: &Network, flow: &mut FlowTable, dist: &[u32], via: &[u32],
     ensures room { HasRoom net.now flow.old.flows result (trail_from net.now dist.now via.now source) }
     ensures most { IsMost net.now flow.old.flows (trail_from net.now dist.now via.now source) result }
     ensures flows { flow.new.flows ≡ push_all flow.old.flows (trail_from net.now dist.now via.now source) result }
-    ensures never_lowered { flow.old.steps ≤ flow.new.steps }
-    ensures steps { flow.new.steps ≤ flow.old.steps + 2 * net.now.nodes }
+    ensures steps { TakesSteps flow.old flow.new (2 * net.now.nodes) }
 {
     let amount = least_room(net, flow, dist, via, source);
-    push_along(net, flow, dist, via, source, amount);
+    push_on(net, flow, dist, via, source, amount);
     amount
 }
 

@@ -13,7 +13,7 @@ ghost use Rattle.flow_solve.specs.Bounds.{work_cells};
 ghost use Rattle.flow_solve.specs.residual.Packs.{ArePackedBehind};
 ghost use Rattle.flow_solve.specs.Solving.{IsFlow};
 ghost use Rattle.flow_solve.specs.Task.{IsTask};
-ghost use Rattle.flow_solve.specs.Steps.{OnlyLooks};
+ghost use Rattle.flow_solve.specs.Steps.{OnlyLooks, TakesSteps};
 ghost use Rattle.flow_solve.specs.residual.Searches.{seen};
 ghost use Rattle.flow_solve.specs.Sides.{starts_of, until_of, IsLeastSide, IsLeastSinkSide, IsLeastSourceSide};
 ghost use Rattle.flow_solve.specs.Sides.{HasGreatestFlow, SeesSide};
@@ -197,8 +197,7 @@ fn solve_and_search<M: Method>(
     ensures greatest { IsGreatest net.now (one_of s.now) (one_of t.now) result }
     ensures least { IsLeastCapacity net.now (one_of s.now) (one_of t.now) result }
     ensures side { IsLeastSide direction net.now s.now t.now flow.new.flows (seen (take net.now.nodes work.new)) }
-    ensures never_lowered { flow.old.steps ≤ flow.new.steps }
-    ensures steps { flow.new.steps ≤ flow.old.steps + M.steps_bound net.now + 2 * length net.now.arcs }
+    ensures steps { TakesSteps flow.old flow.new (M.steps_bound net.now + 2 * length net.now.arcs) }
     ensures rest { drop (work_cells net.now) work.new ≡ drop (work_cells net.now) work.old }
 {
     let value = M::greatest(net, s, t, flow, work);

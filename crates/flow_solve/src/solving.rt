@@ -3,7 +3,7 @@ ghost use Rattle.std.specs.Prelude.{◌≡◌, ℕ, ◌+◌, ◌*◌, ◌≤◌,
 ghost use Rattle.flow_net.specs.Nets.{Net};
 ghost use Rattle.flow_net.specs.Limits.{AreTerminals};
 ghost use Rattle.flow_net.specs.NodeSets.{one_of};
-ghost use Rattle.flow_net.specs.Flows.{Fits, IsFeasible, HasValue, IsGreatest, HasNoLoops};
+ghost use Rattle.flow_net.specs.Flows.{Fits, IsGreatest};
 ghost use Rattle.flow_net.specs.LeastCuts.{IsLeastCapacity};
 ghost use Rattle.flow_solve.specs.Bounds.{work_cells};
 ghost use Rattle.flow_solve.specs.residual.Packs.{ArePackedBehind};
@@ -49,8 +49,7 @@ fn raise_from_zero<'a, R: Raise>(
     ensures flow { IsFlow net.now s.now t.now flow.new.flows result }
     ensures greatest { IsGreatest net.now (one_of s.now) (one_of t.now) result }
     ensures least { IsLeastCapacity net.now (one_of s.now) (one_of t.now) result }
-    ensures never_lowered { flow.old.steps ≤ flow.new.steps }
-    ensures steps { flow.new.steps ≤ flow.old.steps + R.steps_bound net.now }
+    ensures steps { TakesSteps flow.old flow.new (R.steps_bound net.now) }
     ensures behind { drop (5 * net.now.nodes) work.new ≡ drop (5 * net.now.nodes) work.old }
 {
     let n = net.nodes() as usize;
@@ -71,13 +70,10 @@ pub(crate) fn solve<R: Raise>(
     requires fits { Fits net.now flow.old.flows }
     requires terminals { AreTerminals net.now s.now t.now }
     requires cells { work_cells net.now ≤ length work.old }
-    ensures feasible { IsFeasible net.now (one_of s.now) (one_of t.now) flow.new.flows }
-    ensures value { HasValue net.now (one_of s.now) flow.new.flows result }
+    ensures flow { IsFlow net.now s.now t.now flow.new.flows result }
     ensures greatest { IsGreatest net.now (one_of s.now) (one_of t.now) result }
     ensures least { IsLeastCapacity net.now (one_of s.now) (one_of t.now) result }
-    ensures loops { HasNoLoops net.now flow.new.flows }
-    ensures never_lowered { flow.old.steps ≤ flow.new.steps }
-    ensures steps { flow.new.steps ≤ flow.old.steps + R.steps_bound net.now }
+    ensures steps { TakesSteps flow.old flow.new (R.steps_bound net.now) }
     ensures packed { ArePackedBehind net.now work.new }
     ensures rest { drop (work_cells net.now) work.new ≡ drop (work_cells net.now) work.old }
 {

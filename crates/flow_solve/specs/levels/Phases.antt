@@ -7,7 +7,6 @@ use Rattle.flow_net.specs.Limits.{AreTerminals}
 use Rattle.flow_net.specs.NodeSets.{one_of}
 use Rattle.flow_net.specs.Flows.{IsFeasible, HasValue, HasNoLoops}
 use Rattle.flow_net.specs.Residual.{Table, tail_of, head_of, residual}
-use Rattle.flow_solve.specs.declared.residual.packing.Packed.{Packed}
 use Rattle.flow_solve.specs.declared.residual.half_arcs.Direction.TheVariants.{Backwards}
 use Rattle.flow_solve.specs.declared.residual.searching.Plan.{Plan}
 use Rattle.flow_solve.specs.declared.residual.searching.TheConstants.{FAR}
@@ -179,7 +178,7 @@ IsFar net s t xs j = (dist via : List ℕ) → IsSearched net xs Backwards t dis
 abbrev pub Descends : Net → (ℕ → ℕ) → List ℕ → Type 0
 Descends net rank hs = AllByRecursion (λ h. rank (head_of net h) < rank (tail_of net h)) hs
 
--- the same words, of a phase and of packed half-arcs as the code has them
+-- the same words, of a phase as the code has it
 abbrev pub IsAt : Phase → List ℕ → List ℕ → ℕ → Type 0
 IsAt phase current xs k =
     IsInPhase phase.packed.net.now phase.s.now phase.t.now phase.packed.first.now phase.packed.halves.now
@@ -203,18 +202,22 @@ HasLevels phase xs = AreLevels phase.packed.net.now phase.s.now phase.t.now xs p
 abbrev pub IsFarIn : Phase → List ℕ → ℕ → Type 0
 IsFarIn phase xs j = IsFar phase.packed.net.now phase.s.now phase.t.now xs j
 
-abbrev pub HasLooked : Packed → List ℕ → List ℕ → List ℕ → List ℕ → ℕ → Type 0
-HasLooked packed rank now next xs v = IsLooked packed.net.now packed.first.now packed.halves.now rank now next xs v
+abbrev pub HasLooked : Phase → List ℕ → List ℕ → List ℕ → ℕ → Type 0
+HasLooked phase now next xs v =
+    IsLooked phase.packed.net.now phase.packed.first.now phase.packed.halves.now phase.rank.now now next xs v
 
-abbrev pub IsNext : Packed → List ℕ → List ℕ → List ℕ → ℕ → ℕ → Type 0
-IsNext packed rank current xs v h =
-    IsAdmissible packed.net.now (cell_of rank) (place_of packed.halves.now) (cell_of current) xs v h
+abbrev pub IsNext : Phase → List ℕ → List ℕ → ℕ → ℕ → Type 0
+IsNext phase current xs v h =
+    IsAdmissible phase.packed.net.now (cell_of phase.rank.now) (place_of phase.packed.halves.now) (cell_of current) xs
+    v h
 
 -- the looks for a node's next half-arc, but some, are paid by the half-arcs that they pass
-abbrev pub Looks : Packed → List ℕ → List ℕ → Table → List ℕ → Table → ℕ → Type 0
-Looks packed rank now before next after some =
-    after.steps + left packed.net.now (cell_of rank) (place_of packed.halves.now) (cell_of next) any
-    ≤ before.steps + left packed.net.now (cell_of rank) (place_of packed.halves.now) (cell_of now) any + some
+abbrev pub Looks : Phase → List ℕ → Table → List ℕ → Table → ℕ → Type 0
+Looks phase now before next after some =
+    after.steps
+    + left phase.packed.net.now (cell_of phase.rank.now) (place_of phase.packed.halves.now) (cell_of next) any
+    ≤ before.steps
+    + left phase.packed.net.now (cell_of phase.rank.now) (place_of phase.packed.halves.now) (cell_of now) any + some
 
 abbrev pub FindsLevels : Plan → List ℕ → List ℕ → List ℕ → Type 0
 FindsLevels plan xs dist rank = AreLevels plan.packed.net.now plan.until.now plan.starts.now xs dist rank

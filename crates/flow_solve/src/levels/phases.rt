@@ -13,7 +13,7 @@ ghost use Rattle.flow_solve.specs.residual.Packs.{IsPacked};
 ghost use Rattle.flow_solve.specs.Solving.{IsFlow};
 ghost use Rattle.flow_solve.specs.residual.Searches.{AreCells, HasMissed};
 ghost use Rattle.flow_solve.specs.Task.{HasFlow, IsTask};
-ghost use Rattle.flow_solve.specs.Steps.{OnlyLooks};
+ghost use Rattle.flow_solve.specs.Steps.{OnlyLooks, TakesSteps};
 ghost use Rattle.flow_solve.specs.levels.Phases.{AreDead, FindsLevels, HasLevels, AreRankedIn, HasRank, IsAt, IsFarIn};
 ghost use Rattle.flow_solve.specs.levels.Phases.{IsPhase, KeepsGentle, PaysOwed};
 
@@ -116,8 +116,7 @@ fn run_phase(
     ensures flow { IsFlow phase.entry.packed.net.now phase.entry.s.now phase.entry.t.now flow.new.flows result }
     ensures few { (j : ℕ) → IsFarIn phase.entry flow.old.flows j → j + 1 < phase.entry.packed.net.now.nodes }
     ensures far { (j : ℕ) → IsFarIn phase.entry flow.old.flows j → IsFarIn phase.entry flow.new.flows (j + 1) }
-    ensures never_lowered { flow.old.steps ≤ flow.new.steps }
-    ensures steps { flow.new.steps ≤ flow.old.steps + phase_bound phase.entry.packed.net.now }
+    ensures steps { TakesSteps flow.old flow.new (phase_bound phase.entry.packed.net.now) }
 {
     let n = phase.packed.net.nodes() as usize;
     current.copy_from_slice(&phase.packed.first[..n]);
@@ -140,8 +139,7 @@ pub(crate) fn run_phases(
     ensures greatest { IsGreatest task.entry.packed.net.now (one_of task.entry.s.now) (one_of task.entry.t.now) result }
     ensures least { IsLeastCapacity task.entry.packed.net.now (one_of task.entry.s.now) (one_of task.entry.t.now)
         result }
-    ensures never_lowered { flow.old.steps ≤ flow.new.steps }
-    ensures steps { flow.new.steps ≤ flow.old.steps + phases_bound task.entry.packed.net.now }
+    ensures steps { TakesSteps flow.old flow.new (phases_bound task.entry.packed.net.now) }
 {
     let Task { packed, s, t } = task;
     let n = packed.net.nodes() as usize;

@@ -10,8 +10,7 @@ ghost use Rattle.flow_net.specs.Residual.{tail_of, head_of, residual};
 ghost use Rattle.flow_net.specs.Paths.{IsApart, push_all};
 ghost use Rattle.flow_solve.specs.residual.Packs.{IsPacked};
 ghost use Rattle.flow_solve.specs.levels.Phases.{cell_of, HasLooked, IsAt, IsCurrent, IsDeadIn, IsFilling, IsNext};
-ghost use Rattle.flow_solve.specs.levels.Phases.{IsPhase};
-ghost use Rattle.flow_solve.specs.levels.Phases.{KeepsGentle, Looks, PaysOwed};
+ghost use Rattle.flow_solve.specs.levels.Phases.{IsPhase, KeepsGentle, Looks, PaysOwed};
 
 use crate::residual::half_arcs::{head, tail};
 use crate::residual::packing::Packed;
@@ -58,7 +57,7 @@ fn push_over(net: &Network, flow: &mut FlowTable, path: &[u32], amount: u64)
 #[derive(Clone, Copy)]
 struct Augmentation {
     /// How much was pushed along the path.
-    amount: u64,
+    sent: u64,
     /// How many half-arcs of the path the walk keeps: those before the first that was filled.
     depth: u32,
     /// The node that the first filled half-arc leaves.
@@ -74,44 +73,34 @@ fn augment(net: &Network, flow: &mut FlowTable, path: &[u32]) -> Augmentation
     requires few { length path.now ≤ net.now.nodes }
     requires halves { All (λ h. h < 2 * length net.now.arcs) path.now }
     requires apart { IsApart path.now }
-    ensures filling { IsFilling net.now flow.old.flows path.now result.depth result.amount }
+    ensures filling { IsFilling net.now flow.old.flows path.now result.depth result.sent }
     ensures filled { residual net.now flow.new.flows (slice_index path.now result.depth) ≡ 0 }
     ensures open_before { (i : ℕ) → i < result.depth → 0 < residual net.now flow.new.flows (slice_index path.now i) }
     ensures tail { result.node ≡ tail_of net.now (slice_index path.now result.depth) }
-    ensures flows { flow.new.flows ≡ push_all flow.old.flows path.now result.amount }
+    ensures flows { flow.new.flows ≡ push_all flow.old.flows path.now result.sent }
     ensures steps { flow.new.steps ≡ flow.old.steps + 2 * length path.now }
 {
-    let (depth, amount) = least_on(net, flow, path);
-    push_over(net, flow, path, amount);
+    let (depth, sent) = least_on(net, flow, path);
+    push_over(net, flow, path, sent);
     let node = tail(net, path[depth as usize]);
-    Augmentation {
-        amount,
-        depth,
-        node,
-    }
+    Augmentation { sent, depth, node }
 }
 
 /// Moves a node's place on to its first half-arc that leads to a lower rank and has a residual capacity, or behind all.
-fn admissible(
-    packed: Packed<'_>,
-    flow: &mut FlowTable,
-    rank: &[u32],
-    current: &mut [u32],
-    node: u32,
-) -> Option<u32>
-    requires fits { Fits packed.net.now flow.old.flows }
-    requires packed { IsPacked packed.net.now packed.first.now packed.halves.now }
-    requires rank_size { length rank.now ≡ packed.net.now.nodes }
-    requires current { IsCurrent packed.net.now packed.first.now current.old }
-    requires node { IsNode packed.net.now node }
-    ensures looked { HasLooked packed.entry rank.now current.old current.new flow.old.flows node }
-    ensures some { IfSome result (λ h. IsNext packed.entry rank.now current.new flow.old.flows node h) }
-    ensures none { IfNone result (cell_of current.new node ≡ slice_index packed.entry.first.now node) }
+fn admissible(phase: Phase<'_>, flow: &mut FlowTable, current: &mut [u32], node: u32) -> Option<u32>
+    requires run { IsPhase phase }
+    requires fits { Fits phase.packed.net.now flow.old.flows }
+    requires current { IsCurrent phase.packed.net.now phase.packed.first.now current.old }
+    requires node { IsNode phase.packed.net.now node }
+    ensures looked { HasLooked phase.entry current.old current.new flow.old.flows node }
+    ensures some { IfSome result (λ h. IsNext phase.entry current.new flow.old.flows node h) }
+    ensures none { IfNone result (cell_of current.new node ≡ slice_index phase.entry.packed.first.now node) }
     ensures flows { flow.new.flows ≡ flow.old.flows }
     ensures never_lowered { flow.old.steps ≤ flow.new.steps }
-    ensures steps_some { IfSome result (λ h. Looks packed.entry rank.now current.old flow.old current.new flow.new 1) }
-    ensures steps_none { IfNone result (Looks packed.entry rank.now current.old flow.old current.new flow.new 0) }
+    ensures steps_some { IfSome result (λ h. Looks phase.entry current.old flow.old current.new flow.new 1) }
+    ensures steps_none { IfNone result (Looks phase.entry current.old flow.old current.new flow.new 0) }
 {
+    let Phase { packed, rank, .. } = phase;
     let end = packed.first[node as usize];
     let own = rank[node as usize - 1];
     let mut place = current[node as usize - 1];
@@ -178,10 +167,10 @@ pub(crate) fn walk(
     'turns: loop {
         if phase.dist[node as usize - 1] == 0 {
             let done = augment(packed.net, flow, &path[..depth as usize]);
-            raised += u128::from(done.amount);
+            raised += u128::from(done.sent);
             depth = done.depth;
             node = done.node;
-        } else if let Some(half) = admissible(packed, flow, phase.rank, current, node) {
+        } else if let Some(half) = admissible(phase, flow, current, node) {
             path[depth as usize] = half;
             depth += 1;
             node = head(packed.net, half);

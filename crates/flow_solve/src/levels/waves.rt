@@ -143,11 +143,9 @@ pub(crate) fn send_waves(
     send(task, flow, cells, &mut there);
     let mut home = at_rest(share);
     send(Task { packed, s: t, t: s }, flow, cells, &mut home);
-    match settle(task, flow, cells) {
-        Some(settled) => settled,
-        None => {
-            flow.clear();
-            0
-        }
-    }
+    let Some(settled) = settle(task, flow, cells) else {
+        flow.clear();
+        return 0;
+    };
+    settled
 }

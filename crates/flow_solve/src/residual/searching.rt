@@ -20,8 +20,7 @@ ghost use Rattle.flow_solve.specs.residual.HalfArcs.{twin_of, crossed};
 ghost use Rattle.flow_solve.specs.residual.Searches.{AreCells, Brings, EndsSoon, HasArrived, HasDone};
 ghost use Rattle.flow_solve.specs.residual.Searches.{HasFollowed, HasGrown, HasMissed, HasSearched, IsArrival, IsCount};
 ghost use Rattle.flow_solve.specs.residual.Searches.{IsMarked, IsNear, IsNoArrival, IsQueue, IsSearch, next_in};
-ghost use Rattle.flow_solve.specs.residual.Searches.{place_over};
-ghost use Rattle.flow_solve.specs.residual.Searches.{unseen_cell};
+ghost use Rattle.flow_solve.specs.residual.Searches.{place_over, unseen_cell};
 
 use crate::residual::half_arcs::{Direction, cross, head};
 use crate::residual::packing::Packed;
@@ -123,14 +122,10 @@ fn arrive(
     if dist[place as usize] < WANTED {
         return None;
     }
-    let crossing = cross(plan.direction, half);
-    let (_, room) = flow.look(net, crossing);
+    let half = cross(plan.direction, half);
+    let (_, room) = flow.look(net, half);
     if room > 0 {
-        Some(Arrival {
-            place,
-            level,
-            half: crossing,
-        })
+        Some(Arrival { place, level, half })
     } else {
         None
     }
@@ -166,10 +161,8 @@ fn follow_all(
             progress = enter(dist, via, queue, progress, arrival);
         }
     }
-    Progress {
-        followed: progress.followed + 1,
-        ..progress
-    }
+    progress.followed += 1;
+    progress
 }
 
 /// Makes all nodes unseen, and tells apart those that the search looks out for.
@@ -184,33 +177,25 @@ fn look_out(dist: &mut [u32], until: &[u32])
 }
 
 /// Enters a node with distance 0, unless it was seen.
-fn start(
-    dist: &mut [u32],
-    via: &mut [u32],
-    queue: &mut [u32],
-    progress: Progress,
-    node: u32,
-) -> Progress
-    requires search { IsSearch dist.old via.old queue.old progress }
+fn start(dist: &mut [u32], via: &mut [u32], queue: &mut [u32], progress: &mut Progress, node: u32)
+    requires search { IsSearch dist.old via.old queue.old progress.old }
     requires node { (1 ≤ node) × (node ≤ length dist.old) }
     requires near { IsNear dist.old 0 }
-    ensures search { IsSearch dist.new via.new queue.new result }
+    ensures search { IsSearch dist.new via.new queue.new progress.new }
     ensures near { IsNear dist.new 0 }
-    ensures grown { HasGrown dist.old via.old queue.old progress dist.new via.new queue.new result }
+    ensures grown { HasGrown dist.old via.old queue.old progress.old dist.new via.new queue.new progress.new }
     ensures here { IsMarked dist.new (node - 1) }
     ensures come { (p : ℕ) → IsMarked dist.new p → IsMarked dist.old p ⊎ (p + 1 ≡ node) }
-    ensures followed { result.followed ≡ progress.followed }
+    ensures followed { progress.new.followed ≡ progress.old.followed }
 {
     let place = node - 1;
-    if dist[place as usize] < WANTED {
-        progress
-    } else {
+    if dist[place as usize] >= WANTED {
         let arrival = Arrival {
             place,
             level: 0,
             half: 0,
         };
-        enter(dist, via, queue, progress, arrival)
+        *progress = enter(dist, via, queue, *progress, arrival);
     }
 }
 
@@ -234,7 +219,7 @@ fn start_all(starts: &[u32], dist: &mut [u32], via: &mut [u32], queue: &mut [u32
         wanted: 0,
     };
     for node in starts {
-        progress = start(dist, via, queue, progress, *node);
+        start(dist, via, queue, &mut progress, *node);
     }
     progress
 }

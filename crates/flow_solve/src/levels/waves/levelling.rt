@@ -110,10 +110,7 @@ fn scan_all(packed: Packed<'_>, flow: &mut FlowTable, cells: &mut [u32], wave: &
             return;
         }
         let node = get(cells, queue_cell(nodes, place));
-        if node < 1 || nodes < node {
-            return;
-        }
-        if !goes_on(*wave, nodes, cells[level_cell(node)]) {
+        if node < 1 || nodes < node || !goes_on(*wave, nodes, cells[level_cell(node)]) {
             return;
         }
         scan(packed, flow, cells, wave, node);

@@ -143,10 +143,7 @@ fn tally(
         if arc.src == arc.dst && amount > 0 {
             return None;
         }
-        if !lose(roles, balances, arc.src, amount) {
-            return None;
-        }
-        if !gain(roles, balances, arc.dst, amount) {
+        if !lose(roles, balances, arc.src, amount) || !gain(roles, balances, arc.dst, amount) {
             return None;
         }
         out += at_source(roles, arc.src, amount);
@@ -185,9 +182,7 @@ pub(crate) fn settle(task: Task<'_>, flow: &mut FlowTable, cells: &mut [u32]) ->
     roles.fill(INNER);
     cast(roles, task.s, SOURCE);
     cast(roles, task.t, SINK);
-    let Some((out, inward)) = tally(task, flow, roles, balances) else {
-        return None;
-    };
+    let (out, inward) = tally(task, flow, roles, balances)?;
     if are_even(roles, balances) {
         out.checked_sub(inward)
     } else {

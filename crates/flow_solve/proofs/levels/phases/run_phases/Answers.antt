@@ -34,8 +34,8 @@ phases-preserved c =
       flow = now.flow;
       far = now.far c.phases.phases far;
       few = now.few c.phases.phases far;
-      never_lowered = omega (arith, old.never_lowered, found.looks.never_lowered, now.never_lowered);
-      steps = omega (arith, old.steps, found.looks.steps, now.steps);
+      never_lowered = omega (arith, old.never_lowered, found.looks.never_lowered, now.steps.never_lowered);
+      steps = omega (arith, old.steps, found.looks.steps, now.steps.steps);
     }
 
 -- the search that finds no source leaves a closed cut
@@ -59,9 +59,10 @@ returns-clause-least c =
 pub returns-clause-steps : goal.returns-clause-steps
 returns-clause-steps c =
     let old = c.phases.invariant in let found = c.find_levels.ensures in let net = c.args.task.packed.net.now in
-    run_paid net.nodes (length net.arcs) (net.nodes - 1) c.phases.phases c.args.flow.now.steps
+    let paid = run_paid net.nodes (length net.arcs) (net.nodes - 1) c.phases.phases c.args.flow.now.steps
     c.find_levels.new.flow.steps (omega (arith, old.few)) (omega (arith, c.nodes-n.ensures.is_net.nodes_least))
-    (omega (arith, old.few)) (omega (arith, old.steps, found.looks.steps))
+    (omega (arith, old.few)) (omega (arith, old.steps, found.looks.steps)) in
+    omega (arith, paid, old.never_lowered, found.looks.never_lowered)
 
 -- what the phase's walks go by
 pub run_phase-value-requires-clause-run : goal.run_phase-value-requires-clause-run

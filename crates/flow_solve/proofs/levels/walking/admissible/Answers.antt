@@ -22,7 +22,7 @@ loop-place-init c = record {
 -- what stands packed is a half-arc of the node
 pub head-requires : goal.head-requires
 head-requires c =
-    (mine_at c.requires.packed.limits c.requires.packed c.requires.node c.requires.current
+    (mine_at c.requires.run.packed.limits c.requires.run.packed c.requires.node c.requires.current
     c.loop-place.invariant.looking c.loop-place-test.true).half
 
 -- one is found: the place moves up to it
@@ -39,9 +39,9 @@ returns-then-room-gt0-clause-looked c = record {
       let old = c.loop-place.invariant in let l = old.looking in
       let m = set_moved c.args.current.now c.args.node c.loop-place.place c.requires.node.0
       (omega (arith, c.requires.node, c.requires.current.size)) l.least in
-      subst (λ (z : List ℕ). AreWithin c.args.packed.net.now c.args.packed.first.now
+      subst (λ (z : List ℕ). AreWithin c.args.phase.packed.net.now c.args.phase.packed.first.now
       (cell_of (set z (c.args.node - 1) c.loop-place.place))) (sym old.current)
-      (moved_within c.args.packed.net.now c.args.packed.first.now (cell_of c.args.current.now)
+      (moved_within c.args.phase.packed.net.now c.args.phase.packed.first.now (cell_of c.args.current.now)
       (cell_of (set c.args.current.now (c.args.node - 1) c.loop-place.place)) c.args.node (m.up, m.there)
       (omega (
         arith,
@@ -58,7 +58,7 @@ returns-then-room-gt0-clause-looked c = record {
   blocked = λ t b.
       let old = c.loop-place.invariant in
       subst
-      (λ (z : List ℕ). IsBlocked c.args.packed.net.now t (cell_of c.args.rank.now) (place_of c.args.packed.halves.now)
+      (λ (z : List ℕ). IsBlocked c.args.phase.packed.net.now t (cell_of c.args.phase.rank.now) (place_of c.args.phase.packed.halves.now)
       (cell_of (set z (c.args.node - 1) c.loop-place.place)) c.args.flow.now.flows) (sym old.current)
       (old.looking.blocked t b);
 }
@@ -66,27 +66,27 @@ returns-then-room-gt0-clause-looked c = record {
 pub returns-then-room-gt0-clause-some : goal.returns-then-room-gt0-clause-some
 returns-then-room-gt0-clause-some c =
     let old = c.loop-place.invariant in let l = old.looking in
-    let net = c.args.packed.net.now in
-    let half = get_or c.args.packed.halves.now c.loop-place.place 0 in
-    let g : IsMine net c.args.packed.halves.now c.args.node c.loop-place.place half =
-    mine_at c.requires.packed.limits c.requires.packed c.requires.node c.requires.current l c.loop-place-test.true in
-    let falls = rank_falls net c.args.rank.now c.args.node c.head.result half c.head.ensures.head g.tail
+    let net = c.args.phase.packed.net.now in
+    let half = get_or c.args.phase.packed.halves.now c.loop-place.place 0 in
+    let g : IsMine net c.args.phase.packed.halves.now c.args.node c.loop-place.place half =
+    mine_at c.requires.run.packed.limits c.requires.run.packed c.requires.node c.requires.current l c.loop-place-test.true in
+    let falls = rank_falls net c.args.phase.rank.now c.args.node c.head.result half c.head.ensures.head g.tail
     c.requires.node.0 c.head.ensures.node.0 c.if-rank-head.true in
     let same : residual net c.loop-place.flow.flows half ≡ residual net c.args.flow.now.flows half =
     ap (λ (ys : List ℕ). residual net ys half) old.flows in
-    subst (λ (z : List ℕ). IsAdmissible net (cell_of c.args.rank.now) (place_of c.args.packed.halves.now)
+    subst (λ (z : List ℕ). IsAdmissible net (cell_of c.args.phase.rank.now) (place_of c.args.phase.packed.halves.now)
     (cell_of (set z (c.args.node - 1) c.loop-place.place)) c.args.flow.now.flows c.args.node half) (sym old.current)
-    (looking_found c.requires.packed.limits c.requires.packed c.requires.node c.requires.current l
+    (looking_found c.requires.run.packed.limits c.requires.run.packed c.requires.node c.requires.current l
     c.loop-place-test.true falls (omega (arith, same, c.look-room.ensures.residual, c.if-room-gt0.true)))
 
 pub returns-then-room-gt0-clause-steps_some : goal.returns-then-room-gt0-clause-steps_some
 returns-then-room-gt0-clause-steps_some c =
-    let old = c.loop-place.invariant in let net = c.args.packed.net.now in
-    let same : left net (cell_of c.args.rank.now) (place_of c.args.packed.halves.now)
+    let old = c.loop-place.invariant in let net = c.args.phase.packed.net.now in
+    let same : left net (cell_of c.args.phase.rank.now) (place_of c.args.phase.packed.halves.now)
     (cell_of (set c.loop-place.current (c.args.node - 1) c.loop-place.place)) any
-    ≡ left net (cell_of c.args.rank.now) (place_of c.args.packed.halves.now)
+    ≡ left net (cell_of c.args.phase.rank.now) (place_of c.args.phase.packed.halves.now)
     (cell_of (set c.args.current.now (c.args.node - 1) c.loop-place.place)) any =
-    ap (λ (z : List ℕ). left net (cell_of c.args.rank.now) (place_of c.args.packed.halves.now)
+    ap (λ (z : List ℕ). left net (cell_of c.args.phase.rank.now) (place_of c.args.phase.packed.halves.now)
     (cell_of (set z (c.args.node - 1) c.loop-place.place)) any) old.current in
     omega (arith, old.looking.paid, c.look-room.ensures.steps, same)
 
@@ -94,37 +94,37 @@ returns-then-room-gt0-clause-steps_some c =
 pub loop-place-preserved : goal.loop-place-preserved
 loop-place-preserved c =
     let old = c.loop-place.invariant in let l = old.looking in
-    let net = c.args.packed.net.now in
-    let half = get_or c.args.packed.halves.now c.loop-place.place 0 in
-    let g : IsMine net c.args.packed.halves.now c.args.node c.loop-place.place half =
-    mine_at c.requires.packed.limits c.requires.packed c.requires.node c.requires.current l c.loop-place-test.true in
+    let net = c.args.phase.packed.net.now in
+    let half = get_or c.args.phase.packed.halves.now c.loop-place.place 0 in
+    let g : IsMine net c.args.phase.packed.halves.now c.args.node c.loop-place.place half =
+    mine_at c.requires.run.packed.limits c.requires.run.packed c.requires.node c.requires.current l c.loop-place-test.true in
     elim c.if-rank-head.branch [
       | then-rank-head+else-room-gt0 w ↦
-          let falls = rank_falls net c.args.rank.now c.args.node c.head.result half c.head.ensures.head g.tail
+          let falls = rank_falls net c.args.phase.rank.now c.args.node c.head.result half c.head.ensures.head g.tail
           c.requires.node.0 c.head.ensures.node.0 w.if-rank-head.true in
           let same : residual net c.loop-place.flow.flows half ≡ residual net c.args.flow.now.flows half =
           ap (λ (ys : List ℕ). residual net ys half) old.flows in
-          let more = looking_fail c.requires.packed.limits c.requires.packed c.requires.node c.requires.current l
+          let more = looking_fail c.requires.run.packed.limits c.requires.run.packed c.requires.node c.requires.current l
           c.loop-place-test.true falls (omega (arith, same, w.look-room.ensures.residual, w.if-room-gt0.false)) in
           rw w.flow-is (record {
             fits = w.look-room.ensures.still_fits;
             flows = w.look-room.ensures.flows ∙ old.flows;
             current = old.current;
             looking =
-                subst (λ (k : ℕ). IsLooking net c.args.packed.first.now c.args.packed.halves.now c.args.rank.now
+                subst (λ (k : ℕ). IsLooking net c.args.phase.packed.first.now c.args.phase.packed.halves.now c.args.phase.rank.now
                 c.args.current.now c.args.flow.now.flows c.args.node (c.loop-place.place + 1) c.args.flow.now.steps k)
                 (sym w.look-room.ensures.steps) more;
             never_lowered = omega (arith, old.never_lowered, w.look-room.ensures.steps);
           })
       | else-rank-head w ↦
-          let rises = rank_rises net c.args.rank.now c.args.node c.head.result half c.head.ensures.head g.tail
+          let rises = rank_rises net c.args.phase.rank.now c.args.node c.head.result half c.head.ensures.head g.tail
           c.requires.node.0 c.head.ensures.node.0 w.if-rank-head.false in
           rw w.flow-is (record {
             fits = old.fits;
             flows = old.flows;
             current = old.current;
             looking =
-                looking_skip c.requires.packed.limits c.requires.packed c.requires.node c.requires.current l
+                looking_skip c.requires.run.packed.limits c.requires.run.packed c.requires.node c.requires.current l
                 c.loop-place-test.true rises;
             never_lowered = old.never_lowered;
           })
@@ -137,49 +137,49 @@ returns-clause-looked c = record {
       omega (
         arith,
         c.requires.current.size,
-        length-set c.loop-place.current (c.args.node - 1) (get_or c.args.packed.first.now c.args.node 0),
+        length-set c.loop-place.current (c.args.node - 1) (get_or c.args.phase.packed.first.now c.args.node 0),
         ap (λ (z : List ℕ). length z) c.loop-place.invariant.current,
       );
   places =
       let old = c.loop-place.invariant in let l = old.looking in
-      let end : c.loop-place.place ≡ get_or c.args.packed.first.now c.args.node 0 =
+      let end : c.loop-place.place ≡ get_or c.args.phase.packed.first.now c.args.node 0 =
       omega (arith, l.most, c.loop-place-test.false) in
-      let m = set_moved c.args.current.now c.args.node (get_or c.args.packed.first.now c.args.node 0) c.requires.node.0
+      let m = set_moved c.args.current.now c.args.node (get_or c.args.phase.packed.first.now c.args.node 0) c.requires.node.0
       (omega (arith, c.requires.node, c.requires.current.size)) (omega (arith, l.least, end)) in
-      subst (λ (z : List ℕ). AreWithin c.args.packed.net.now c.args.packed.first.now
-      (cell_of (set z (c.args.node - 1) (get_or c.args.packed.first.now c.args.node 0)))) (sym old.current)
-      (moved_within c.args.packed.net.now c.args.packed.first.now (cell_of c.args.current.now)
-      (cell_of (set c.args.current.now (c.args.node - 1) (get_or c.args.packed.first.now c.args.node 0)))
+      subst (λ (z : List ℕ). AreWithin c.args.phase.packed.net.now c.args.phase.packed.first.now
+      (cell_of (set z (c.args.node - 1) (get_or c.args.phase.packed.first.now c.args.node 0)))) (sym old.current)
+      (moved_within c.args.phase.packed.net.now c.args.phase.packed.first.now (cell_of c.args.current.now)
+      (cell_of (set c.args.current.now (c.args.node - 1) (get_or c.args.phase.packed.first.now c.args.node 0)))
       c.args.node (m.up, m.there)
       (omega (
         arith,
-        cell_set c.args.current.now c.args.node (get_or c.args.packed.first.now c.args.node 0)
+        cell_set c.args.current.now c.args.node (get_or c.args.phase.packed.first.now c.args.node 0)
             c.requires.node.0 (omega (arith, c.requires.node, c.requires.current.size)),
       ))
       c.requires.current.places);
   moved =
       let old = c.loop-place.invariant in let l = old.looking in
       subst (λ (z : List ℕ). HasMoved (cell_of c.args.current.now)
-      (cell_of (set z (c.args.node - 1) (get_or c.args.packed.first.now c.args.node 0))) c.args.node)
-      (sym old.current) (set_moved c.args.current.now c.args.node (get_or c.args.packed.first.now c.args.node 0)
+      (cell_of (set z (c.args.node - 1) (get_or c.args.phase.packed.first.now c.args.node 0))) c.args.node)
+      (sym old.current) (set_moved c.args.current.now c.args.node (get_or c.args.phase.packed.first.now c.args.node 0)
       c.requires.node.0 (omega (arith, c.requires.node, c.requires.current.size))
       (omega (arith, l.least, l.most, c.loop-place-test.false)));
   blocked = λ t b.
       let old = c.loop-place.invariant in let l = old.looking in
-      let end : c.loop-place.place ≡ get_or c.args.packed.first.now c.args.node 0 =
+      let end : c.loop-place.place ≡ get_or c.args.phase.packed.first.now c.args.node 0 =
       omega (arith, l.most, c.loop-place-test.false) in
       subst
-      (λ (z : List ℕ). IsBlocked c.args.packed.net.now t (cell_of c.args.rank.now) (place_of c.args.packed.halves.now)
-      (cell_of (set z (c.args.node - 1) (get_or c.args.packed.first.now c.args.node 0))) c.args.flow.now.flows)
-      (sym old.current) (subst (λ (p : ℕ). IsBlocked c.args.packed.net.now t (cell_of c.args.rank.now)
-      (place_of c.args.packed.halves.now) (cell_of (set c.args.current.now (c.args.node - 1) p))
+      (λ (z : List ℕ). IsBlocked c.args.phase.packed.net.now t (cell_of c.args.phase.rank.now) (place_of c.args.phase.packed.halves.now)
+      (cell_of (set z (c.args.node - 1) (get_or c.args.phase.packed.first.now c.args.node 0))) c.args.flow.now.flows)
+      (sym old.current) (subst (λ (p : ℕ). IsBlocked c.args.phase.packed.net.now t (cell_of c.args.phase.rank.now)
+      (place_of c.args.phase.packed.halves.now) (cell_of (set c.args.current.now (c.args.node - 1) p))
       c.args.flow.now.flows) end (l.blocked t b));
 }
 
 -- so the place is where the next node's half-arcs begin
 pub returns-clause-none : goal.returns-clause-none
 returns-clause-none c =
-    cell_set c.loop-place.current c.args.node (get_or c.args.packed.first.now c.args.node 0) c.requires.node.0
+    cell_set c.loop-place.current c.args.node (get_or c.args.phase.packed.first.now c.args.node 0) c.requires.node.0
     (omega (
       arith,
       c.requires.node,
@@ -190,19 +190,19 @@ returns-clause-none c =
 -- a look for each half-arc passed at most
 pub returns-clause-steps_none : goal.returns-clause-steps_none
 returns-clause-steps_none c =
-    let old = c.loop-place.invariant in let l = old.looking in let net = c.args.packed.net.now in
-    let end : c.loop-place.place ≡ get_or c.args.packed.first.now c.args.node 0 =
+    let old = c.loop-place.invariant in let l = old.looking in let net = c.args.phase.packed.net.now in
+    let end : c.loop-place.place ≡ get_or c.args.phase.packed.first.now c.args.node 0 =
     omega (arith, l.most, c.loop-place-test.false) in
-    let same : left net (cell_of c.args.rank.now) (place_of c.args.packed.halves.now)
-    (cell_of (set c.loop-place.current (c.args.node - 1) (get_or c.args.packed.first.now c.args.node 0))) any
-    ≡ left net (cell_of c.args.rank.now) (place_of c.args.packed.halves.now)
-    (cell_of (set c.args.current.now (c.args.node - 1) (get_or c.args.packed.first.now c.args.node 0))) any =
-    ap (λ (z : List ℕ). left net (cell_of c.args.rank.now) (place_of c.args.packed.halves.now)
-    (cell_of (set z (c.args.node - 1) (get_or c.args.packed.first.now c.args.node 0))) any) old.current in
-    let at : left net (cell_of c.args.rank.now) (place_of c.args.packed.halves.now)
+    let same : left net (cell_of c.args.phase.rank.now) (place_of c.args.phase.packed.halves.now)
+    (cell_of (set c.loop-place.current (c.args.node - 1) (get_or c.args.phase.packed.first.now c.args.node 0))) any
+    ≡ left net (cell_of c.args.phase.rank.now) (place_of c.args.phase.packed.halves.now)
+    (cell_of (set c.args.current.now (c.args.node - 1) (get_or c.args.phase.packed.first.now c.args.node 0))) any =
+    ap (λ (z : List ℕ). left net (cell_of c.args.phase.rank.now) (place_of c.args.phase.packed.halves.now)
+    (cell_of (set z (c.args.node - 1) (get_or c.args.phase.packed.first.now c.args.node 0))) any) old.current in
+    let at : left net (cell_of c.args.phase.rank.now) (place_of c.args.phase.packed.halves.now)
     (cell_of (set c.args.current.now (c.args.node - 1) c.loop-place.place)) any
-    ≡ left net (cell_of c.args.rank.now) (place_of c.args.packed.halves.now)
-    (cell_of (set c.args.current.now (c.args.node - 1) (get_or c.args.packed.first.now c.args.node 0))) any =
-    ap (λ (p : ℕ). left net (cell_of c.args.rank.now) (place_of c.args.packed.halves.now)
+    ≡ left net (cell_of c.args.phase.rank.now) (place_of c.args.phase.packed.halves.now)
+    (cell_of (set c.args.current.now (c.args.node - 1) (get_or c.args.phase.packed.first.now c.args.node 0))) any =
+    ap (λ (p : ℕ). left net (cell_of c.args.phase.rank.now) (place_of c.args.phase.packed.halves.now)
     (cell_of (set c.args.current.now (c.args.node - 1) p)) any) end in
     omega (arith, l.paid, same, at)

@@ -37,13 +37,13 @@ augment-done-requires-clause-apart c = turning_apart c.turns.invariant.turning
 pub overflow_add-raised : goal.overflow_add-raised
 overflow_add-raised c =
     let net = c.args.phase.packed.net.now in let s = one_of c.args.phase.s.now in let t = one_of c.args.phase.t.now in
-    let p = (turning_augment c.turns.invariant.turning c.augment-done.result.amount c.augment-done.result.depth
+    let p = (turning_augment c.turns.invariant.turning c.augment-done.result.sent c.augment-done.result.depth
     c.requires.run.packed.limits c.requires.run.terminals c.requires.source
     (sink_here c.args.phase.packed.net.now c.args.phase.t.now c.args.phase.dist.now c.turns.node
     c.requires.run.sinks c.turns.invariant.turning.node c.if-phase-node-eq0.true) c.augment-done.ensures.filling).phase
     in
     let most = value_most net (one_of c.args.phase.s.now) (one_of c.args.phase.t.now) _
-    (c.turns.raised + c.augment-done.result.amount) c.requires.run.packed.limits
+    (c.turns.raised + c.augment-done.result.sent) c.requires.run.packed.limits
     (terminals_apart net c.args.phase.s.now c.args.phase.t.now c.requires.run.terminals) p.feasible p.value in
     let fit = capacities_fit net c.requires.run.packed.limits in
     omega (arith, most, fit, c.from-raised.ensures)
@@ -53,7 +53,7 @@ turns-smaller-then-phase-node-eq0 c =
     let net = c.args.phase.packed.net.now in
     let halves = c.args.phase.packed.halves.now in
     let rank = c.args.phase.rank.now in
-    let less = to_go_fill c.turns.invariant.turning c.augment-done.result.amount c.augment-done.result.depth
+    let less = to_go_fill c.turns.invariant.turning c.augment-done.result.sent c.augment-done.result.depth
     c.augment-done.ensures.filling in
     subst (λ (ys : List ℕ). to_go net halves rank c.turns.current ys c.augment-done.result.depth
     < to_go net halves rank c.turns.current c.turns.flow.flows c.turns.depth) (sym c.augment-done.ensures.flows) less
@@ -67,7 +67,7 @@ turns-preserved-then-phase-node-eq0 c =
     let tail = c.augment-done.ensures.tail ∙ ap (tail_of net) lead in
     record {
       turning =
-          turning_as (turning_augment c.turns.invariant.turning c.augment-done.result.amount c.augment-done.result.depth
+          turning_as (turning_augment c.turns.invariant.turning c.augment-done.result.sent c.augment-done.result.depth
           c.requires.run.packed.limits c.requires.run.terminals c.requires.source
           (sink_here c.args.phase.packed.net.now c.args.phase.t.now c.args.phase.dist.now c.turns.node
           c.requires.run.sinks c.turns.invariant.turning.node c.if-phase-node-eq0.true) c.augment-done.ensures.filling)
@@ -75,7 +75,7 @@ turns-preserved-then-phase-node-eq0 c =
           (omega (arith, c.augment-done.ensures.steps, long));
       gentle = λ level o g.
           subst (λ (ys : List ℕ). IsGentle net ys level) (sym c.augment-done.ensures.flows)
-          (turning_gentle old.turning c.augment-done.result.amount level c.requires.run.packed.limits o
+          (turning_gentle old.turning c.augment-done.result.sent level c.requires.run.packed.limits o
           (old.gentle level o g));
       risen = old.risen;
       never_lowered = omega (arith, old.never_lowered, c.augment-done.ensures.steps);

@@ -4,8 +4,8 @@ use Rattle.flow_solve.specs.Task.{HasFlow}
 use Rattle.flow_solve.proofs.Raises.{zero_flow}
 use Rattle.flow_solve.proofs.levels.waves.send_waves.Goals as goal
 
-pub returns-in-None-clause-flow : goal.returns-in-None-clause-flow
-returns-in-None-clause-flow c =
+pub returns-in_default-clause-flow : goal.returns-in_default-clause-flow
+returns-in_default-clause-flow c =
     let task = c.args.task in let net = task.packed.net.now in
     let count : length c.settle.new.flow.flows ≡ length net.arcs =
     ap length c.settle.ensures.looks.flows ∙ c.send-2.ensures.sent.fits.count in

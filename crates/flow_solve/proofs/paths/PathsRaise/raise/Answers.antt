@@ -61,11 +61,11 @@ loop-source-preserved c =
     record {
       flow = rw c.from-raised.ensures now;
       never_lowered =
-          omega (arith, old.never_lowered, found.looks.never_lowered, c.augment_along.ensures.never_lowered);
+          omega (arith, old.never_lowered, found.looks.never_lowered, c.augment_along.ensures.steps.never_lowered);
       steps =
           rw c.from-raised.ensures
           (paid_more c.args.flow.now.steps c.augment_along.new.flow.steps c.loop-source.raised c.augment_along.result
-          net.nodes (length net.arcs) (omega (arith, old.steps, found.looks.steps, c.augment_along.ensures.steps))
+          net.nodes (length net.arcs) (omega (arith, old.steps, found.looks.steps, c.augment_along.ensures.steps.steps))
           c.augment_along.ensures.positive);
     }
 

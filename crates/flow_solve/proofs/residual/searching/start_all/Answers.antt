@@ -27,13 +27,13 @@ loop-node-init c = record {
 -- one more start
 pub loop-node-preserved : goal.loop-node-preserved
 loop-node-preserved c =
-    let old = c.loop-node.invariant in let now = c.start-progress.ensures in let starts = c.args.starts.now in
+    let old = c.loop-node.invariant in let now = c.start.ensures in let starts = c.args.starts.now in
     let l : c.loop-node.node-index < length starts = omega arith in
     record {
       cells = omega (arith, old.cells);
       search = now.search;
       near = now.near;
-      begun = below_more (λ i. IsMarked c.start-progress.new.dist (get_or starts i 0 - 1)) c.loop-node.node-index
+      begun = below_more (λ i. IsMarked c.start.new.dist (get_or starts i 0 - 1)) c.loop-node.node-index
           (λ i m. grown_marked now.grown (get_or starts i 0 - 1) (old.begun i m))
           now.here;
       come = λ p inside m. elim (now.come p m) [

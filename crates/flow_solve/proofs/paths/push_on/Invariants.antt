@@ -1,4 +1,4 @@
--- `push_along`: with the pushes that are still to be made the flow is the one after all; a push for each half-arc
+-- `push_on`: with the pushes that are still to be made the flow is the one after all; a push for each half-arc
 -- passed.
 use Rattle.std.proofs.Common.{◌≡◌, ◌+◌, ◌-◌}
 use Rattle.std.specs.Prelude.{slice_index}
@@ -7,7 +7,7 @@ use Rattle.flow_net.specs.Flows.{Fits}
 use Rattle.flow_net.specs.Paths.{HasRoom, push_all}
 use Rattle.flow_solve.specs.residual.Searches.{IsMarked}
 use Rattle.flow_solve.specs.residual.Trails.{trail_from}
-use Rattle.flow_solve.proofs.paths.push_along.Given as goal
+use Rattle.flow_solve.proofs.paths.push_on.Given as goal
 
 abbrev pub invariant-loop-node : goal.invariant-loop-node
 invariant-loop-node l = record {

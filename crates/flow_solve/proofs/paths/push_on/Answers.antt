@@ -1,4 +1,4 @@
--- `push_along`: along the trail, from its end to where the search began.
+-- `push_on`: along the trail, from its end to where the search began.
 use Rattle.std.proofs.Common.{◌≡◌, ℕ, ◌-◌, List, get_or, subst, sym, ap, ◌∙◌, arith}
 use Rattle.flow_net.specs.Paths.{HasRoom, push_all}
 use Rattle.flow_net.specs.Residual.{head_of, pushed}
@@ -6,7 +6,7 @@ use Rattle.flow_net.proofs.AugmentingPaths.{room_after}
 use Rattle.flow_solve.specs.residual.Searches.{IsMarked}
 use Rattle.flow_solve.specs.residual.Trails.{trail_from}
 use Rattle.flow_solve.proofs.ResidualLemmas.Routes.{next_on, trail_apart}
-use Rattle.flow_solve.proofs.paths.push_along.Goals as goal
+use Rattle.flow_solve.proofs.paths.push_on.Goals as goal
 
 -- there is room for the push
 pub push-requires-clause-room : goal.push-requires-clause-room

@@ -142,6 +142,7 @@ pub(crate) fn send_waves(
     supply(task, flow, cells, &mut there);
     send(task, flow, cells, &mut there);
     let mut home = at_rest(share);
+    // Home is the same way with sources and sinks exchanged.
     send(Task { packed, s: t, t: s }, flow, cells, &mut home);
     let Some(settled) = settle(task, flow, cells) else {
         flow.clear();

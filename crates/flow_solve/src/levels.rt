@@ -11,10 +11,10 @@
 //!    is pushed through. A node whose half-arc to its parent was filled is an *orphan*: it is *adopted* by the nearest
 //!    node of its tree whose parents lead to a root, unless that moves it much farther from its own. Or else it comes
 //!    free, with its children as orphans in turn, and the tree may come back to it by a shorter way. So no search
-//!    begins anew. The trees end by themselves where they bring little for what they take: they may take 4 steps for
-//!    each arc at first, and 24 more for each half-arc of a path that flow is pushed along, since repairs cost the more
-//!    the longer paths are. That serves where the first paths are short and most of a tree outlives a push: images,
-//!    assignments, closures.
+//!    begins anew. The trees end by themselves where they bring little for what they take: they may take little at
+//!    first, and more for each half-arc of a path that flow is pushed along, since repairs cost the more the longer
+//!    paths are. That serves where the first paths are short and most of a tree outlives a push: images, assignments,
+//!    closures.
 //! 3. **Waves that lift** (`waves`, `settling`), where the trees had to end before their active nodes ran out. All
 //!    that can leave the sources does, and each node sends what it has received, its *excess*, on to nodes that a
 //!    search has found a level nearer to the sinks, the farthest level first (after Karzanov 1974). A node that is
@@ -39,10 +39,9 @@
 //! or a node that is walked over, counts as a step too. The phases take at most `3·n²·m` from any feasible flow, so
 //! that all stay within `4·n²·m` for each network.
 //!
-//! Where there are more than 32 arcs for each node the phases follow the short paths: a repair of a tree passes all
-//! half-arcs of a node, and so does a node that is lifted. The trees grow no farther than until the nearest source and
-//! sink are found to be more than some 48 half-arcs apart, since then much flow goes far, and paths one by one bring
-//! little. There the waves begin.
+//! In a dense network the phases follow the short paths: a repair of a tree passes all half-arcs of a node, and so does
+//! a node that is lifted. The trees grow no farther than until the nearest source and sink are found to be far apart,
+//! since then much flow goes far, and paths one by one bring little. There the waves begin.
 ghost use Rattle.std.specs.Prelude.{◌+◌, ◌*◌, ◌≤◌, length};
 ghost use Rattle.flow_solve.specs.Bounds.{levels_bound};
 
@@ -60,23 +59,23 @@ use phases::run_phases;
 use trees::{grow_trees, is_dense};
 use waves::send_waves;
 
-/// How many times the number of arcs short paths and trees may take, in steps and in half-arcs that they pass by.
-const TREES_SHARE: u64 = 64;
+/// How many times the number of arcs the first stages may take, in steps and in half-arcs that they pass by.
+const OPENING_SHARE: u64 = 64;
 
-/// How much short paths and trees may take before the waves.
-fn allowance(net: &Network) -> u64
+/// How much the first stages may take.
+pub(crate) fn allowance(net: &Network) -> u64
     ensures { result ≤ net.now.nodes * net.now.nodes * length net.now.arcs }
 {
     let n = u64::from(net.nodes());
-    (n * n).min(TREES_SHARE) * u64::from(net.len())
+    (n * n).min(OPENING_SHARE) * u64::from(net.len())
 }
 
-/// How many times the number of arcs the waves may take at most: 1024 in each direction, and the looks that settle
-/// their table.
-const WAVES_SHARE: u64 = 2 * 1024 + 1;
+/// How many times the number of arcs the next stage may take at most: 1024 in each direction, and the looks that settle
+/// its table.
+const REST_SHARE: u64 = 2 * 1024 + 1;
 
-/// How much the waves may take of what the trees leave of `n²·m`, in 64 bits; nothing in a dense network.
-fn share_of_waves(net: &Network, given: u64) -> u64
+/// How much the next stage may take of what is left of `n²·m`, in 64 bits; nothing in a dense network.
+fn share_of_rest(net: &Network, given: u64) -> u64
     requires { given ≤ net.now.nodes * net.now.nodes * length net.now.arcs }
     ensures { result + given ≤ net.now.nodes * net.now.nodes * length net.now.arcs }
 {
@@ -88,7 +87,7 @@ fn share_of_waves(net: &Network, given: u64) -> u64
     (n * n)
         .saturating_mul(m)
         .saturating_sub(given)
-        .min(WAVES_SHARE * m)
+        .min(REST_SHARE * m)
 }
 
 /// Augments along shortest paths, level by level, in phases: a search backwards from the sinks ranks the nodes, the
@@ -106,7 +105,7 @@ impl Raise for Levels {
         let value = if reached.is_finished {
             reached.value
         } else {
-            let share = share_of_waves(net, given);
+            let share = share_of_rest(net, given);
             send_waves(task, flow, cells, reached.value, share)
         };
         run_phases(task, flow, cells, value)

@@ -1,10 +1,12 @@
 ghost use Rattle.flow_net.specs.Flows.{Fits, IsFeasible};
-ghost use Rattle.std.specs.Prelude.{◌≡◌, ◌≢◌, ℕ, Bool, List, ◌≤◌, ◌<◌, IsTrue, IfSome, length, slice_index, take, drop};
+ghost use Rattle.std.specs.Prelude.{◌≡◌, ◌≢◌, ℕ, Bool, List, ◌*◌, ◌≤◌, ◌<◌, IsTrue, IfSome, length, slice_index};
+ghost use Rattle.std.specs.Prelude.{take, drop};
 ghost use Rattle.flow_net.specs.Nets.{IsNode};
 ghost use Rattle.flow_net.specs.Limits.{AreTerminals, AreDistinct};
 ghost use Rattle.std.specs.List.{All};
 ghost use Rattle.flow_solve.specs.Bounds.{work_cells};
 ghost use Rattle.flow_solve.specs.Solving.{IsFlow};
+ghost use Rattle.flow_solve.specs.Task.{HasFlow, IsTask};
 
 mod growth;
 mod known;
@@ -14,10 +16,6 @@ mod waves;
 
 use super::*;
 use crate::levels::phases::run_phases;
-use crate::levels::trees::chains::Grown;
-use crate::levels::trees::short_paths::augment_short_paths;
-use crate::levels::trees::{begin, grow_trees};
-use crate::levels::waves::send_waves;
 use crate::residual::packing::{Packed, pack};
 use crate::task::Task;
 use flow_net::{Arc, FEWEST_NODES, FlowTable, MOST_ARCS_BOTH_WAYS, MOST_NODES, Network};
@@ -325,27 +323,24 @@ fn all_sets_agree(rt: HostRuntime) {
     assert!(&rt; tried > 100);
 }
 
-/// What comes before the phases, and how much it may take.
-#[derive(Clone, Copy)]
-enum First {
-    /// Short paths alone.
-    Short(u64),
-    /// The search trees.
-    Trees(u64),
-    /// The waves.
-    Waves(u64),
-    /// The trees, and then the waves.
-    Both(u64, u64),
+/// A stage of [`Levels`] before the phases, or several of them, and how much they may take.
+trait Stage {
+    /// Raises the flow that carries nothing, and answers its value.
+    fn run(&self, task: Task<'_>, flow: &mut FlowTable, cells: &mut [u32]) -> u128
+        requires task { IsTask task }
+        requires cells { length cells.old ≡ 5 * task.packed.net.now.nodes }
+        requires flow { HasFlow task flow.old.flows 0 }
+        ensures flow { HasFlow task.entry flow.new.flows result };
 }
 
 /// The values that a first stage reaches, and the phases after it, and that of the other method, if the terminals are
 /// good and there is memory.
-fn stages<'a>(
+fn stages<'a, S: Stage>(
     alloc: Global,
     net: &'a Network,
     terminals: &'a [u32],
     k: usize,
-    first_stage: First,
+    stage: &S,
 ) -> Option<(u128, u128, u128)> {
     if !may_be_terminals(net, terminals, k) {
         return None;
@@ -363,98 +358,11 @@ fn stages<'a>(
     pack(net, first, halves);
     let packed = Packed { net, first, halves };
     let task = Task { packed, s, t };
-    let reached = match first_stage {
-        First::Short(allowance) => {
-            let trees = begin(task, cells, allowance);
-            let mut grown = Grown { trees, value: 0 };
-            augment_short_paths(task, &mut flow, &mut grown, cells);
-            grown.value
-        }
-        First::Trees(allowance) => grow_trees(task, &mut flow, cells, 0, allowance).value,
-        First::Waves(allowance) => send_waves(task, &mut flow, cells, 0, allowance),
-        First::Both(trees, waves) => {
-            let grown = grow_trees(task, &mut flow, cells, 0, trees);
-            send_waves(task, &mut flow, cells, grown.value, waves)
-        }
-    };
+    let reached = stage.run(task, &mut flow, cells);
     let raised = run_phases(task, &mut flow, cells, reached);
     let mut other = empty_flow(alloc, net)?;
     let greatest = Paths::greatest(net, s, t, &mut other, &mut work);
     Some((reached, raised, greatest))
-}
-
-/// Arcs on which the trees come to an end of themselves, and the greatest value. Node 1 is the source and node 6 the
-/// sink.
-const GROWN: &[(&[(u32, u32, u64)], u128)] = &[
-    (&[(1, 2, 3), (2, 6, 2), (1, 3, 4), (3, 6, 5), (1, 6, 7)], 13),
-    // The half-arc from node 1 to node 2 is filled first: node 2 is an orphan that has to be raised.
-    (&[(1, 2, 1), (2, 6, 5), (1, 3, 4), (3, 2, 4)], 5),
-    // Nothing leads to the sink.
-    (&[(2, 1, 3), (3, 6, 2), (1, 1, 9), (1, 4, 8)], 0),
-];
-
-#[test]
-fn trees_that_end_of_themselves(rt: HostRuntime) {
-    for (arcs, value) in GROWN {
-        let net = network(rt.alloc(), 6, arcs).expect(&rt, "memory");
-        assert_eq!(&rt;
-            stages(rt.alloc(), &net, &[1, 6], 1, First::Trees(1000)),
-            Some((*value, *value, *value))
-        );
-    }
-}
-
-#[test]
-fn trees_that_are_left(rt: HostRuntime) {
-    let (arcs, value) = GROWN[0];
-    let net = network(rt.alloc(), 6, arcs).expect(&rt, "memory");
-    let mut before = 0u128;
-    let mut between = 0u32;
-    for allowance in 0u64..200 {
-        let answer = stages(rt.alloc(), &net, &[1, 6], 1, First::Trees(allowance));
-        let (reached, greatest, other) = answer.expect(&rt, "good terminals");
-        assert!(&rt; before <= reached && reached <= value);
-        assert_eq!(&rt; (greatest, other), (value, value));
-        if 0 < reached && reached < value {
-            between = between.wrapping_add(1);
-        }
-        before = reached;
-    }
-    assert!(&rt; between > 0);
-    assert_eq!(&rt; before, value);
-}
-
-/// The most that flows through an arc.
-const MOST: u128 = 18_446_744_073_709_551_615;
-
-#[test]
-fn methods_agree_on_random_networks(rt: HostRuntime) {
-    let mut random = Random { state: 1970 };
-    let mut tried = 0u32;
-    let mut between = 0u32;
-    for _ in 0..6000 {
-        let nodes = 2 + random.below(5) as u32;
-        let mut net = Network::new(rt.alloc(), nodes);
-        assert!(&rt; add_arcs(&mut net, &mut random));
-        let terminals = four_nodes(&mut random, nodes);
-        let k = 1 + random.below(2) as usize;
-        let end = k + 1 + random.below(2) as usize;
-        let trees = First::Trees(random.below(60));
-        let terminals = &terminals[..end];
-        if !may_be_terminals(&net, terminals, k) {
-            continue;
-        }
-        let answer = stages(rt.alloc(), &net, terminals, k, trees);
-        let (reached, greatest, other) = answer.expect(&rt, "a small network, and memory");
-        assert!(&rt; reached <= greatest);
-        assert_eq!(&rt; greatest, other);
-        tried = tried.wrapping_add(1);
-        if 0 < reached && reached < greatest {
-            between = between.wrapping_add(1);
-        }
-    }
-    assert!(&rt; tried > 2000);
-    assert!(&rt; between > 20);
 }
 
 #[test]

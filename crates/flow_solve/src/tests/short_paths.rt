@@ -1,5 +1,22 @@
 //! Short paths: what they alone reach on an assignment, by hand, on random networks, and where they are left.
 use super::*;
+use crate::levels::allowance;
+use crate::levels::trees::begin;
+use crate::levels::trees::chains::Grown;
+use crate::levels::trees::short_paths::augment_short_paths;
+
+/// Short paths alone, and how much they may take.
+#[derive(Drop)]
+pub(super) struct Short(pub(super) u64);
+
+impl Stage for Short {
+    fn run(&self, task: Task<'_>, flow: &mut FlowTable, cells: &mut [u32]) -> u128 {
+        let trees = begin(task, cells, self.0);
+        let mut grown = Grown { trees, value: 0 };
+        augment_short_paths(task, flow, &mut grown, cells);
+        grown.value
+    }
+}
 
 /// How many workers there are, and how many jobs.
 const WORKERS: u32 = 100;
@@ -29,8 +46,8 @@ fn short_paths_fill_most_of_an_assignment(rt: HostRuntime) {
     let mut random = Random { state: 1955 };
     let mut net = Network::new(rt.alloc(), 2 + 2 * WORKERS);
     assert!(&rt; add_workers(&mut net, &mut random));
-    let short = First::Short(100_000);
-    let answer = stages(rt.alloc(), &net, &[1, 2], 1, short);
+    let short = Short(allowance(&net));
+    let answer = stages(rt.alloc(), &net, &[1, 2], 1, &short);
     let (reached, greatest, other) = answer.expect(&rt, "good terminals");
     assert_eq!(&rt; greatest, other);
     assert!(&rt; 90 < greatest && reached <= greatest);
@@ -97,33 +114,10 @@ fn short_paths_by_hand(rt: HostRuntime) {
     for (arcs, reached, greatest) in SHORT {
         let net = network(rt.alloc(), 6, arcs).expect(&rt, "memory");
         assert_eq!(&rt;
-            stages(rt.alloc(), &net, &[1, 6], 1, First::Short(1000)),
+            stages(rt.alloc(), &net, &[1, 6], 1, &Short(1000)),
             Some((*reached, *greatest, *greatest))
         );
     }
-}
-
-/// How many nodes the dense network has, with an arc from each to every later one.
-const MANY: u32 = 80;
-
-/// No tree is grown in a dense network, whatever there would be to gain.
-#[test]
-fn short_paths_alone_in_a_dense_network(rt: HostRuntime) {
-    let mut random = Random { state: 1990 };
-    let mut net = Network::new(rt.alloc(), MANY);
-    for i in 1..MANY {
-        for j in i + 1..=MANY {
-            assert!(&rt; add(&mut net, i, j, 1 + random.below(1000)));
-        }
-    }
-    let allowance = 64 * u64::from(net.len());
-    let short = stages(rt.alloc(), &net, &[1, MANY], 1, First::Short(allowance));
-    let (reached, greatest, other) = short.expect(&rt, "good terminals");
-    let trees = stages(rt.alloc(), &net, &[1, MANY], 1, First::Trees(allowance));
-    let (grown, raised, _) = trees.expect(&rt, "good terminals");
-    assert_eq!(&rt; (greatest, raised), (other, other));
-    assert_eq!(&rt; reached, grown);
-    assert!(&rt; reached < greatest && greatest < reached.saturating_mul(2));
 }
 
 #[test]
@@ -133,7 +127,7 @@ fn short_paths_that_are_left(rt: HostRuntime) {
     let mut before = 0u128;
     let mut between = 0u32;
     for allowance in 0u64..100 {
-        let answer = stages(rt.alloc(), &net, &[1, 6], 1, First::Short(allowance));
+        let answer = stages(rt.alloc(), &net, &[1, 6], 1, &Short(allowance));
         let (reached, greatest, other) = answer.expect(&rt, "good terminals");
         assert!(&rt; before <= reached && reached <= value);
         assert_eq!(&rt; (greatest, other), (value, value));
@@ -162,8 +156,8 @@ fn short_paths_on_random_networks(rt: HostRuntime) {
         if !may_be_terminals(&net, terminals, k) {
             continue;
         }
-        let short = First::Short(random.below(200));
-        let answer = stages(rt.alloc(), &net, terminals, k, short);
+        let short = Short(random.below(200));
+        let answer = stages(rt.alloc(), &net, terminals, k, &short);
         let (reached, greatest, other) = answer.expect(&rt, "a small network, and memory");
         assert!(&rt; reached <= greatest);
         assert_eq!(&rt; greatest, other);

@@ -1,8 +1,92 @@
-//! Search trees: what they alone reach on an image, beside a hub, and on random networks of some nodes.
+//! Search trees: what they alone reach by hand, on an image, beside a hub, and on random networks, where they are left,
+//! and that none is grown in a dense network.
 ghost use Rattle.std.specs.Prelude.{◌≤◌};
 
+use super::short_paths::Short;
 use super::*;
-use crate::levels::trees::Reached;
+use crate::levels::allowance;
+use crate::levels::trees::{Reached, grow_trees};
+
+/// The search trees, and how much they may take.
+#[derive(Drop)]
+struct Trees(u64);
+
+impl Stage for Trees {
+    fn run(&self, task: Task<'_>, flow: &mut FlowTable, cells: &mut [u32]) -> u128 {
+        grow_trees(task, flow, cells, 0, self.0).value
+    }
+}
+
+/// Arcs on which the trees come to an end of themselves, and the greatest value. Node 1 is the source and node 6 the
+/// sink.
+const GROWN: &[(&[(u32, u32, u64)], u128)] = &[
+    (&[(1, 2, 3), (2, 6, 2), (1, 3, 4), (3, 6, 5), (1, 6, 7)], 13),
+    // The half-arc from node 1 to node 2 is filled first: node 2 is an orphan that has to be raised.
+    (&[(1, 2, 1), (2, 6, 5), (1, 3, 4), (3, 2, 4)], 5),
+    // Nothing leads to the sink.
+    (&[(2, 1, 3), (3, 6, 2), (1, 1, 9), (1, 4, 8)], 0),
+];
+
+#[test]
+fn trees_that_end_of_themselves(rt: HostRuntime) {
+    for (arcs, value) in GROWN {
+        let net = network(rt.alloc(), 6, arcs).expect(&rt, "memory");
+        assert_eq!(&rt;
+            stages(rt.alloc(), &net, &[1, 6], 1, &Trees(1000)),
+            Some((*value, *value, *value))
+        );
+    }
+}
+
+#[test]
+fn trees_that_are_left(rt: HostRuntime) {
+    let (arcs, value) = GROWN[0];
+    let net = network(rt.alloc(), 6, arcs).expect(&rt, "memory");
+    let mut before = 0u128;
+    let mut between = 0u32;
+    for allowance in 0u64..200 {
+        let answer = stages(rt.alloc(), &net, &[1, 6], 1, &Trees(allowance));
+        let (reached, greatest, other) = answer.expect(&rt, "good terminals");
+        assert!(&rt; before <= reached && reached <= value);
+        assert_eq!(&rt; (greatest, other), (value, value));
+        if 0 < reached && reached < value {
+            between = between.wrapping_add(1);
+        }
+        before = reached;
+    }
+    assert!(&rt; between > 0);
+    assert_eq!(&rt; before, value);
+}
+
+#[test]
+fn methods_agree_on_random_networks(rt: HostRuntime) {
+    let mut random = Random { state: 1970 };
+    let mut tried = 0u32;
+    let mut between = 0u32;
+    for _ in 0..6000 {
+        let nodes = 2 + random.below(5) as u32;
+        let mut net = Network::new(rt.alloc(), nodes);
+        assert!(&rt; add_arcs(&mut net, &mut random));
+        let terminals = four_nodes(&mut random, nodes);
+        let k = 1 + random.below(2) as usize;
+        let end = k + 1 + random.below(2) as usize;
+        let trees = Trees(random.below(60));
+        let terminals = &terminals[..end];
+        if !may_be_terminals(&net, terminals, k) {
+            continue;
+        }
+        let answer = stages(rt.alloc(), &net, terminals, k, &trees);
+        let (reached, greatest, other) = answer.expect(&rt, "a small network, and memory");
+        assert!(&rt; reached <= greatest);
+        assert_eq!(&rt; greatest, other);
+        tried = tried.wrapping_add(1);
+        if 0 < reached && reached < greatest {
+            between = between.wrapping_add(1);
+        }
+    }
+    assert!(&rt; tried > 2000);
+    assert!(&rt; between > 20);
+}
 
 /// What the trees alone reach with an allowance, if the terminals are good and there is memory. The first `k` terminals
 /// are the sources.
@@ -77,8 +161,8 @@ fn trees_alone_cut_an_image(rt: HostRuntime) {
             assert!(&rt; add_pixel(&mut net, &mut random, column, row));
         }
     }
-    let allowance = 64 * u64::from(net.len());
-    let reached = grow(rt.alloc(), &net, &[1, 2], 1, allowance).expect(&rt, "good terminals");
+    let answer = grow(rt.alloc(), &net, &[1, 2], 1, allowance(&net));
+    let reached = answer.expect(&rt, "good terminals");
     let most = greatest(rt.alloc(), &net, &[1, 2], 1).expect(&rt, "good terminals");
     assert!(&rt; 1000 < most);
     assert_eq!(&rt; (reached.value, reached.is_finished), (most, true));
@@ -174,4 +258,27 @@ fn trees_with_no_allowance(rt: HostRuntime) {
     let net = network(rt.alloc(), 6, &[(1, 2, 3), (2, 6, 2)]).expect(&rt, "memory");
     let reached = grow(rt.alloc(), &net, &[1, 6], 1, 0).expect(&rt, "good terminals");
     assert_eq!(&rt; (reached.value, reached.is_finished), (0, false));
+}
+
+/// How many nodes the dense network has, with an arc from each to every later one.
+const MANY: u32 = 80;
+
+/// No tree is grown in a dense network, whatever there would be to gain.
+#[test]
+fn short_paths_alone_in_a_dense_network(rt: HostRuntime) {
+    let mut random = Random { state: 1990 };
+    let mut net = Network::new(rt.alloc(), MANY);
+    for i in 1..MANY {
+        for j in i + 1..=MANY {
+            assert!(&rt; add(&mut net, i, j, 1 + random.below(1000)));
+        }
+    }
+    let most = allowance(&net);
+    let short = stages(rt.alloc(), &net, &[1, MANY], 1, &Short(most));
+    let (reached, greatest, other) = short.expect(&rt, "good terminals");
+    let trees = stages(rt.alloc(), &net, &[1, MANY], 1, &Trees(most));
+    let (grown, raised, _) = trees.expect(&rt, "good terminals");
+    assert_eq!(&rt; (greatest, raised), (other, other));
+    assert_eq!(&rt; reached, grown);
+    assert!(&rt; reached < greatest && greatest < reached.saturating_mul(2));
 }

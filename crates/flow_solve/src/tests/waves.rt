@@ -1,6 +1,35 @@
 //! Waves: small networks of which the greatest value is known, random ones, and larger ones of the kinds that waves are
 //! for, in which they have to bring something.
 use super::*;
+use crate::levels::trees::grow_trees;
+use crate::levels::waves::send_waves;
+
+/// The waves, and how much they may take.
+#[derive(Drop)]
+struct Waves(u64);
+
+impl Stage for Waves {
+    fn run(&self, task: Task<'_>, flow: &mut FlowTable, cells: &mut [u32]) -> u128 {
+        send_waves(task, flow, cells, 0, self.0)
+    }
+}
+
+/// The search trees and then the waves, and how much either may take.
+#[derive(Drop)]
+struct Both {
+    trees: u64,
+    waves: u64,
+}
+
+impl Stage for Both {
+    fn run(&self, task: Task<'_>, flow: &mut FlowTable, cells: &mut [u32]) -> u128 {
+        let grown = grow_trees(task, flow, cells, 0, self.trees);
+        send_waves(task, flow, cells, grown.value, self.waves)
+    }
+}
+
+/// The most that flows through an arc.
+const MOST: u128 = 18_446_744_073_709_551_615;
 
 /// A network of 12 nodes: its arcs, its terminals, the first `k` of them sources, what waves reach, and the greatest
 /// value.
@@ -154,11 +183,11 @@ const WAYS: &[Ways] = &[
 fn waves_that_end_of_themselves(rt: HostRuntime) {
     for ways in WAYS {
         let net = network(rt.alloc(), 12, ways.arcs).expect(&rt, "memory");
-        let waves = First::Waves(100_000);
+        let waves = Waves(100_000);
         assert_eq!(&rt;
             (
                 ways.name,
-                stages(rt.alloc(), &net, ways.terminals, ways.k, waves)
+                stages(rt.alloc(), &net, ways.terminals, ways.k, &waves)
             ),
             (ways.name, Some((ways.reached, ways.value, ways.value)))
         );
@@ -172,8 +201,8 @@ fn waves_that_are_left(rt: HostRuntime) {
     let mut cleared = 0u32;
     let mut last = 0u128;
     for allowance in 0u64..400 {
-        let waves = First::Waves(allowance);
-        let answer = stages(rt.alloc(), &net, ways.terminals, ways.k, waves);
+        let waves = Waves(allowance);
+        let answer = stages(rt.alloc(), &net, ways.terminals, ways.k, &waves);
         let (reached, raised, greatest) = answer.expect(&rt, "good terminals");
         assert!(&rt; reached <= ways.value);
         assert_eq!(&rt; (raised, greatest), (ways.value, ways.value));
@@ -219,8 +248,11 @@ fn waves_agree_on_random_networks(rt: HostRuntime) {
         if !may_be_terminals(&net, terminals, k) {
             continue;
         }
-        let both = First::Both(random.below(60), random.below(3000));
-        let answer = stages(rt.alloc(), &net, terminals, k, both);
+        let both = Both {
+            trees: random.below(60),
+            waves: random.below(3000),
+        };
+        let answer = stages(rt.alloc(), &net, terminals, k, &both);
         let (reached, raised, greatest) = answer.expect(&rt, "memory");
         assert!(&rt; reached <= greatest);
         assert_eq!(&rt; raised, greatest);
@@ -243,8 +275,8 @@ const SHARE: u64 = 256;
 
 /// Whether waves alone reach the greatest value of a network, and so leave nothing to the phases.
 fn waves_reach_all(alloc: Global, net: &Network, terminals: &[u32], k: usize) -> bool {
-    let waves = First::Waves(SHARE * u64::from(net.len()));
-    match stages(alloc, net, terminals, k, waves) {
+    let waves = Waves(SHARE * u64::from(net.len()));
+    match stages(alloc, net, terminals, k, &waves) {
         Some((reached, raised, greatest)) => {
             0 < greatest && reached == greatest && raised == greatest
         }

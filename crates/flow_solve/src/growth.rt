@@ -13,6 +13,16 @@
 //! unit is pushed over it, and each half-arc that leaves the set of the nodes that were seen when no more can be
 //! raised. All looks and pushes are counted against a number that the caller sets; where it is used up, or a test
 //! fails, the answer is none.
+//!
+//! With `n` nodes the `5·n` cells in front of the packed half-arcs are, in this order:
+//!
+//! | Cells | What they hold |
+//! |---|---|
+//! | `n` | the nodes in their order |
+//! | `n` | each node's place in that order; while a search has seen it, `n` and twice its level |
+//! | `n` | while the order is made, how many half-arcs join each node with those before; then its current place |
+//! | `n` | while the order is made, for each number of these the first node's place; then the search's queue |
+//! | `n` | the half-arcs of the walk's path |
 ghost use Rattle.std.specs.Prelude.{◌≡◌, ℕ, Bool, ◌+◌, ◌*◌, ◌≤◌, IfSome, length};
 ghost use Rattle.std.specs.List.{All};
 ghost use Rattle.flow_net.specs.Flows.{Fits};

@@ -2,6 +2,9 @@
 //!
 //! What the sources reach there is the least source side, and what reaches a sink is the least sink side: whichever
 //! greatest flow it is, and though there may be many minimum cuts.
+//!
+//! With `n` nodes the first `n` cells have the distances of the search, the next `n` the half-arcs over which it came,
+//! and the next `n` its queue.
 ghost use Rattle.std.specs.Prelude.{◌≡◌, ℕ, ◌+◌, ◌*◌, ◌≤◌, ◌↔◌, true, false, IsTrue, IsFalse, length, take, drop};
 ghost use Rattle.flow_net.specs.Limits.{AreTerminals};
 ghost use Rattle.flow_net.specs.NodeSets.{one_of};

@@ -1,5 +1,15 @@
 //! Phases of the method by levels, as in Dinic's algorithm: the ranks that a search backwards gives, a refinement of
 //! the levels of the layered network, and the walks from all sources, which push a blocking flow.
+//!
+//! With `n` nodes the `5·n` cells of a stage are, in this order:
+//!
+//! | Cells | What they hold |
+//! |---|---|
+//! | `n` | each node's distance in the last search |
+//! | `n` | the half-arc over which the search came to it; then its rank |
+//! | `n` | each node's current place: the half-arc that walks try next |
+//! | `n` | the half-arcs of the walk's path |
+//! | `n` | the search's queue |
 ghost use Rattle.std.specs.Prelude.{◌≡◌, ◌⊎◌, ℕ, List, true, false, ◌+◌, ◌-◌, ◌*◌, ◌<◌, ◌≤◌, min, IsTrue, IsFalse};
 ghost use Rattle.std.specs.Prelude.{length, slice_index};
 ghost use Rattle.std.specs.List.{All};

@@ -1,8 +1,10 @@
 //! Two search trees (Boykov and Kolmogorov 2004): the cells of their nodes, and the queues of active nodes and orphans.
 //!
 //! What these cells hold is a hint: nothing is claimed of it, and what a path needs is tested as flow is pushed along
-//! it. A cell that doesn't exist reads as 0, and a write to it is dropped. Nodes count from 1. The four cells of a node
-//! stand side by side.
+//! it. A cell that doesn't exist reads as 0, and a write to it is dropped. Nodes count from 1.
+//!
+//! In the first `4·n` cells of a stage, with `n` nodes, each node's four stand side by side: its *label*, the half-arc
+//! to its parent, its *stamp*, which is counted in augmentations, and the next active node.
 ghost use Rattle.std.specs.Prelude.{◌≡◌, ◌+◌, ◌-◌, ◌*◌, ◌≤◌, IsTrue, IsFalse, slice_index};
 
 use crate::residual::cells::{END, get, put};

@@ -1,7 +1,14 @@
 //! The cells of waves: levels, the nodes with excess on each level, and their excess.
 //!
 //! What these cells hold is a hint: nothing is claimed of it, and a push is held to what a look has shown. Nodes count
-//! from 1, and 0 stands for none; levels count from 0.
+//! from 1, and 0 stands for none; levels count from 0. With `n` nodes the `5·n` cells of a stage are, in this order:
+//!
+//! | Cells | What they hold |
+//! |---|---|
+//! | `n` | each node's level |
+//! | `n` | the search's queue; then for each node the next one with excess on its level |
+//! | `2·n` | each node's excess, in two cells |
+//! | `n` | for each level below half of `n`, in two cells, its first node with excess and how many nodes it has |
 ghost use Rattle.std.specs.Prelude.{◌≡◌, ◌+◌, ◌-◌, ◌*◌, ◌≤◌, true, false, length};
 ghost use Rattle.std.specs.List.{All};
 

@@ -39,8 +39,7 @@
 //! or a node that is walked over, counts as a step too. The phases take at most `3·n²·m` from any feasible flow, so
 //! that all stay within `4·n²·m` for each network.
 //!
-//! In a dense network the phases follow the short paths: a repair of a tree passes all half-arcs of a node, and so does
-//! a node that is lifted. The trees grow no farther than until the nearest source and sink are found to be far apart,
+//! In a dense network the phases follow the short paths. The trees grow no farther than until the nearest source and sink are found to be far apart,
 //! since then much flow goes far, and paths one by one bring little. There the waves begin.
 ghost use Rattle.std.specs.Prelude.{◌+◌, ◌*◌, ◌≤◌, length};
 ghost use Rattle.flow_solve.specs.Bounds.{levels_bound};
@@ -56,8 +55,16 @@ use crate::solving::{Raise, solve};
 use crate::task::Task;
 use flow_net::{FlowTable, Network};
 use phases::run_phases;
-use trees::{grow_trees, is_dense};
+use trees::grow_trees;
 use waves::send_waves;
+
+/// The most arcs for each node with which stages repair: a repair of a tree, and a lift, pass all half-arcs of a node.
+const MOST_DEGREE: u32 = 32;
+
+/// Whether a network has too many arcs for each node for stages that repair.
+fn is_dense(net: &Network) -> bool {
+    net.len() / MOST_DEGREE > net.nodes()
+}
 
 /// How many times the number of arcs the first stages may take, in steps and in half-arcs that they pass by.
 const OPENING_SHARE: u64 = 64;

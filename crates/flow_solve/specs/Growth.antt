@@ -168,7 +168,7 @@ pub record HaveSeen (turn : Turn) (cells queue : List ℕ) (tail : ℕ) : Type 0
   pub queued : AreQueued turn cells queue tail
 
 -- a turn's search, with a queue as long as the nodes, which has those that are seen
-pub record IsSearch (turn : Turn) (xs cells queue : List ℕ) (tail : ℕ) : Type 0 where
+pub record IsTurnSearch (turn : Turn) (xs cells queue : List ℕ) (tail : ℕ) : Type 0 where
   pub size : length queue ≡ turn.packed.net.now.nodes
   pub queued : AreQueued turn cells queue tail
   pub has_turn : IsTurnWith turn xs cells

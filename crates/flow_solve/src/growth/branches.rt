@@ -8,7 +8,7 @@
 ghost use Rattle.std.specs.Prelude.{◌≡◌, ◌+◌, ◌*◌, ◌<◌, ◌≤◌, IfSome, IsTrue, length};
 ghost use Rattle.flow_net.specs.Nets.{IsNode};
 ghost use Rattle.flow_net.specs.Flows.{Fits};
-ghost use Rattle.flow_solve.specs.Growth.{CarriesUpTo, HavePlaces, HaveSeen, IsClean, IsReady, IsSearch, IsTurn};
+ghost use Rattle.flow_solve.specs.Growth.{CarriesUpTo, HavePlaces, HaveSeen, IsClean, IsReady, IsTurnSearch, IsTurn};
 ghost use Rattle.flow_solve.specs.Growth.{IsTurnWith, KeepsSeen, PaysIfAny};
 ghost use Rattle.flow_solve.specs.Steps.{PaysLooks};
 
@@ -122,7 +122,7 @@ fn spread_over(
     via: &mut [u32],
     spread: Spread,
 ) -> Spread
-    requires search { IsSearch turn flow.old.flows cells.old queue.old spread.tail }
+    requires search { IsTurnSearch turn flow.old.flows cells.old queue.old spread.tail }
     requires via_size { length via.old ≡ turn.packed.net.now.nodes }
     requires half { spread.half < 2 * length turn.packed.net.now.arcs }
     ensures seen { HaveSeen turn.entry cells.new queue.new result.tail }
@@ -161,7 +161,7 @@ fn spread_on(
     via: &mut [u32],
     spread: Spread,
 ) -> Spread
-    requires search { IsSearch turn flow.old.flows cells.old queue.old spread.tail }
+    requires search { IsTurnSearch turn flow.old.flows cells.old queue.old spread.tail }
     requires via_size { length via.old ≡ turn.packed.net.now.nodes }
     requires next { spread.at < spread.tail }
     ensures seen { HaveSeen turn.entry cells.new queue.new result.tail }

@@ -1,7 +1,7 @@
 //! The search of a phase: it goes out from the node of the turn, level by level, and stops at terminals.
 ghost use Rattle.std.specs.Prelude.{◌≡◌, ◌+◌, ◌*◌, ◌<◌, ◌≤◌, MatchOption, IfSome, length};
 ghost use Rattle.flow_net.specs.Nets.{IsNode};
-ghost use Rattle.flow_solve.specs.Growth.{AreNodes, ArePlaces, HaveSeen, IsClean, IsQueued, IsSearch, IsTurnClosed};
+ghost use Rattle.flow_solve.specs.Growth.{AreNodes, ArePlaces, HaveSeen, IsClean, IsQueued, IsTurnSearch, IsTurnClosed};
 ghost use Rattle.flow_solve.specs.Growth.{IsTurnCut, IsTurnWith, Passes};
 ghost use Rattle.flow_solve.specs.Steps.{OnlyLooks, PaysLooks};
 
@@ -53,7 +53,7 @@ fn expand_over(
     frontier: Frontier,
     exit: Exit,
 ) -> Frontier
-    requires search { IsSearch turn flow.old.flows cells.old queue.old frontier.tail }
+    requires search { IsTurnSearch turn flow.old.flows cells.old queue.old frontier.tail }
     requires half { exit.half < 2 * length turn.packed.net.now.arcs }
     requires level { turn.packed.net.now.nodes ≤ exit.level }
     ensures seen { HaveSeen turn.entry cells.new queue.new result.tail }
@@ -92,7 +92,7 @@ fn expand(
     frontier: Frontier,
     node: u32,
 ) -> Frontier
-    requires search { IsSearch turn flow.old.flows cells.old queue.old frontier.tail }
+    requires search { IsTurnSearch turn flow.old.flows cells.old queue.old frontier.tail }
     requires node { IsNode turn.packed.net.now node }
     ensures seen { HaveSeen turn.entry cells.new queue.new result.tail }
     ensures looks { PaysLooks flow.old frontier.left flow.new result.left }
@@ -190,7 +190,7 @@ pub(crate) fn is_closed(
     tail: u32,
     left: u64,
 ) -> Option<u64>
-    requires search { IsSearch turn flow.old.flows cells.now queue.now tail }
+    requires search { IsTurnSearch turn flow.old.flows cells.now queue.now tail }
     ensures cut { IfSome result (λ _. IsTurnCut turn.entry cells.now) }
     ensures closed { IfSome result (λ _. IsTurnClosed turn.entry flow.old.flows cells.now) }
     ensures looks { MatchOption result (OnlyLooks flow.old flow.new left) (λ r. PaysLooks flow.old left flow.new r) }

@@ -8,7 +8,7 @@
 ghost use Rattle.std.specs.Prelude.{◌≡◌, ◌+◌, ◌*◌, ◌<◌, ◌≤◌, IfSome, IsTrue, length};
 ghost use Rattle.flow_net.specs.Nets.{IsNode};
 ghost use Rattle.flow_net.specs.Flows.{Fits};
-ghost use Rattle.flow_solve.specs.Growth.{CarriesUpTo, HavePlaces, HaveSeen, IsClean, IsReady, IsTurnSearch, IsTurn};
+ghost use Rattle.flow_solve.specs.Growth.{CarriesUpTo, HavePlaces, HaveSeen, IsClean, IsReady, IsTurn, IsTurnSearch};
 ghost use Rattle.flow_solve.specs.Growth.{IsTurnWith, KeepsSeen, PaysIfAny};
 ghost use Rattle.flow_solve.specs.Steps.{PaysLooks};
 

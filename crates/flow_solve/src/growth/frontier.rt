@@ -1,7 +1,7 @@
 //! The search of a phase: it goes out from the node of the turn, level by level, and stops at terminals.
 ghost use Rattle.std.specs.Prelude.{◌≡◌, ◌+◌, ◌*◌, ◌<◌, ◌≤◌, MatchOption, IfSome, length};
 ghost use Rattle.flow_net.specs.Nets.{IsNode};
-ghost use Rattle.flow_solve.specs.Growth.{AreNodes, ArePlaces, HaveSeen, IsClean, IsQueued, IsTurnSearch, IsTurnClosed};
+ghost use Rattle.flow_solve.specs.Growth.{AreNodes, ArePlaces, HaveSeen, IsClean, IsQueued, IsTurnClosed, IsTurnSearch};
 ghost use Rattle.flow_solve.specs.Growth.{IsTurnCut, IsTurnWith, Passes};
 ghost use Rattle.flow_solve.specs.Steps.{OnlyLooks, PaysLooks};
 

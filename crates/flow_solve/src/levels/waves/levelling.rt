@@ -75,15 +75,16 @@ fn scan(packed: Packed<'_>, flow: &mut FlowTable, cells: &mut [u32], wave: &mut 
     let end = packed.first[node as usize];
     let nodes = packed.net.nodes();
     let level = cells[level_cell(node)].saturating_add(1);
-    if spend(&mut wave.left, u64::from(end - begin)) {
-        for spot in begin..end {
-            let half = packed.halves[spot as usize];
-            let next = head(packed.net, half);
-            if cells[level_cell(next)] == FAR {
-                let (_, room) = flow.look(packed.net, twin(half));
-                if room > 0 {
-                    level_unseen(cells, nodes, wave, next, level);
-                }
+    if !spend(&mut wave.left, u64::from(end - begin)) {
+        return;
+    }
+    for spot in begin..end {
+        let half = packed.halves[spot as usize];
+        let next = head(packed.net, half);
+        if cells[level_cell(next)] == FAR {
+            let (_, room) = flow.look(packed.net, twin(half));
+            if room > 0 {
+                level_unseen(cells, nodes, wave, next, level);
             }
         }
     }

@@ -229,8 +229,9 @@ def manual_page(main, helps):
     for name, known in helps.items():
         options = [f'.TP\n.B {typeset(long)[:-2]}\n{typeset(known.meanings[long])}'
                    for short, long in known.options if not short]
-        page = re.sub(rf'(^\.SS {name}\n(?:(?!\.S).*\n)*?)(?:\.TP\n\.B \\-\\-.*\n(?:(?!\.TP|\.S).*\n)+)+',
-                      lambda found: found[1] + ''.join(options), page, flags=re.M)
+        lead = 'It takes the option:\n' if len(options) == 1 else 'The options are:\n'
+        page = re.sub(rf'(^\.SS {name}\n(?:(?!\.S).*\n)*?).*\n(?:\.TP\n\.B \\-\\-.*\n(?:(?!\.TP|\.S).*\n)+)+',
+                      lambda found: found[1] + lead + ''.join(options), page, flags=re.M)
     return page
 
 

@@ -34,6 +34,18 @@ def small_limits(checks, flow, scratch):
         "one more would be filled if one of these worked one shift more: Ida Quite-Longname, of the Night Shift, Jon"])
 
 
+def days_in_a_column(checks, flow, scratch):
+    """Two Mondays are two days where a column says so: Ida works on both, and once on each. The shifts are listed by
+    what they are called, so each day stands in the table twice."""
+    write(scratch, "people.csv", "person,most,can\nIda,4,Mo 02 a;Mo 09 a;Mo 02 b;Mo 09 b\n")
+    write(scratch, "shifts.csv", "shift,places,day\nMo 02 a,1,Mo 02\nMo 09 a,1,Mo 09\nMo 02 b,1,Mo 02\nMo 09 b,1,Mo 09\n")
+    own_data(checks, flow, scratch, "scheduling", [
+        "1 person, 4 shifts with 4 places; 2 can be filled", "  Ida: Mo 02 a, Mo 09 a",
+        "these shifts have 4 places: Mo 02 a, Mo 09 a, Mo 02 b, Mo 09 b", "at most 2 of them can be filled: Ida 2",
+        "one more would be filled if one of these could work then: nobody",
+        "one more would be filled if one of these worked one shift more: nobody"])
+
+
 def small_roads(checks, flow, scratch):
     """Three places in a row: the narrower road is the one bottleneck, till it takes as much as the other."""
     write(scratch, "places.csv", "place,x,y,name,role\nA,-0.5,1e3,,source\nB,0.25,1e3,,\nC,1,1000,Sea,sink\n")
@@ -168,6 +180,15 @@ SCHEDULES_REFUSED = (
      {"people": "person,most,can\nIda,2,Mon a\nJon,1,\n Ida,1,Mon a\n"}),
     ("a shift twice", "shifts.csv: row 3, column shift: 'Mon a' stands in row 2 already",
      {"people": "person,most,can\nIda,2,Mon a\n", "shifts": "shift,places\nMon a,2\nMon  a,1\n"}),
+    *((f"the day of {shift}", f"shifts.csv: row 2, column shift: the first word is taken for the day, and '{shift}' "
+       "seems to begin with a date of several words; a column 'day' says which day each shift is on",
+       {"people": "person,most,can\nIda,2,\n", "shifts": f"shift,places\n{shift},1\n"})
+      for shift in ("Mo 02 a", "2. Nov a", "Mon 02.11. a", "Mon 11/2/2026 a", "Mon 2026-11-02")),
+    ("a day in two weeks", "shifts.csv: row 4, column shift: the day 'Mon', the first word, comes again after 'Tue'; "
+     "a column 'day' says which day each shift is on",
+     {"people": "person,most,can\nIda,2,\n", "shifts": "shift,places\nMon a,1\nTue a,1\nMon b,1\n"}),
+    ("no day", "shifts.csv: row 2, column day: nothing stands here",
+     {"people": "person,most,can\nIda,2,\n", "shifts": "shift,places,day\nMon a,1,\n"}),
 )
 NETWORKS_REFUSED = (
     ("no such site", "links.csv: row 3, column other: 'C' isn't in sites.csv", {"links": "one,other\nA,B\nA,C\n"}),

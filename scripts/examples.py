@@ -259,7 +259,7 @@ def main():
             elif networkx:
                 segmentation_by_networkx(checks, flow, scratch)
             small[name](checks, flow, os.path.join(folder, f"small {name}"))
-        for check in (tables.small_limits, tables.small_chain, tables.new_links, tables.large_network,
+        for check in (tables.small_limits, tables.days_in_a_column, tables.small_chain, tables.new_links, tables.large_network,
                       tables.complaints, tables.guide_scripts):
             check(checks, flow, os.path.join(folder, check.__name__))
         tables.endings(checks, os.path.join(folder, "endings"))

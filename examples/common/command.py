@@ -39,9 +39,9 @@ class Example:
         return os.path.join(self.out, name)
 
 
-def count(number, thing):
-    """So many of a thing, in words: '1 link', '2 links'."""
-    return f"{number} {thing}" + ("" if number == 1 else "s")
+def count(number, thing, things=None):
+    """So many of a thing, in words: '1 link', '2 links', '3 people'."""
+    return f"{number} {thing}" if number == 1 else f"{number} {things or thing + 's'}"
 
 
 def run(main):

@@ -28,7 +28,8 @@ class Row:
         self.texts = texts
 
     def __getitem__(self, column):
-        return self.texts[column]
+        """The text in a column; none where the table has no such column."""
+        return self.texts.get(column, "")
 
     def refuse(self, column, words):
         """Raises what is wrong with this row's text in a column."""
@@ -75,6 +76,11 @@ def read_table(path, *columns):
             fault = "isn't" if column not in names else "is twice"
             raise Refused(f"{path}: row {first}: the column {column} {fault} among {', '.join(filter(None, names))}")
     return [_row(path, number, fields, names, columns) for number, fields in rows]
+
+
+def has_column(rows, column):
+    """Whether the table of these rows has a column that it may do without."""
+    return any(column in row.texts for row in rows)
 
 
 def once(rows, column):

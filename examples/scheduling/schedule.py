@@ -12,8 +12,10 @@ the same with every version.
 """
 
 import os
+import re
 import sys
 from collections import namedtuple
+from itertools import groupby
 
 HERE = os.path.dirname(os.path.abspath(__file__))
 sys.path.insert(0, os.path.join(HERE, "..", "common"))
@@ -26,6 +28,10 @@ from dimacs import Problem
 
 ROW, TOP = 50, 118
 SHORT = "#FBE5D6"
+PART_OF_DATE = re.compile(r"\d{1,2}\.? |\S+ (\d{1,2}\.?|\d{1,2}\.\d{1,2}\.?(\d{2,4})?|\d{1,2}/\d{1,2}(/\d{2,4})?|"
+                          r"\d{4}-\d{2}-\d{2})( |$)")
+"""A shift whose first word is a part of a date: '2. Nov late', 'Mon 02 late', 'Mon 02.11. late', 'Mon 2026-11-02'."""
+DAY_COLUMN = "a column 'day' says which day each shift is on"
 
 
 class Week:
@@ -33,10 +39,11 @@ class Week:
 
     def __init__(self, people, shifts):
         self.places = {name: row.whole("places") for name, row in tables.once(shifts, "shift").items()}
+        self.day = days_of(shifts)
         people = tables.once(people, "person")
         self.most = {name: row.whole("most") for name, row in people.items()}
         self.can = {name: shifts_of(row, self.places) for name, row in people.items()}
-        self.days = list(dict.fromkeys(day_of(shift) for shift in self.places))
+        self.days = list(dict.fromkeys(self.day.values()))
 
     def pairs(self):
         """Each shift with each person who can work in it, in the order of the files."""
@@ -48,7 +55,11 @@ class Week:
         own = [other for other, who in taken if who == person]
         there = sum(other == shift for other, _ in taken)
         return (len(own) < self.most[person] and there < self.places[shift]
-                and day_of(shift) not in [day_of(other) for other in own])
+                and self.day[shift] not in [self.day[other] for other in own])
+
+    def half(self, shift):
+        """What a shift is called beside its day."""
+        return shift.removeprefix(self.day[shift]).strip() or shift
 
 
 def shifts_of(row, places):
@@ -60,8 +71,21 @@ def shifts_of(row, places):
     return shifts
 
 
-def day_of(shift):
-    return shift.split()[0]
+def days_of(rows):
+    """The day of each shift: what the column `day` says, else the first word of the shift. That isn't the day where
+    it comes again after another day, as 'Mon' in the second week, or where it is a part of a date."""
+    if tables.has_column(rows, "day"):
+        return {row["shift"]: row.name("day") for row in rows}
+    days, last = {}, None
+    for row in rows:
+        day = row["shift"].split()[0]
+        if day != last and day in days.values():
+            row.refuse("shift", f"the day '{day}', the first word, comes again after '{last}'; {DAY_COLUMN}")
+        if PART_OF_DATE.match(row["shift"]):
+            row.refuse("shift", f"the first word is taken for the day, and '{row['shift']}' seems to begin with a "
+                                f"date of several words; {DAY_COLUMN}")
+        days[row["shift"]] = last = day
+    return days
 
 
 def problem_of(week, taken=()):
@@ -76,10 +100,10 @@ def problem_of(week, taken=()):
         own = [shift for shift, who in taken if who == person]
         problem.arc(("person", person), ("week", person), most - len(own))
         for day in week.days:
-            busy = day in [day_of(shift) for shift in own]
+            busy = day in [week.day[shift] for shift in own]
             problem.arc(("week", person), ("day", person, day), 0 if busy else 1)
     for shift, person in week.pairs():
-        problem.arc(("day", person, day_of(shift)), ("shift", shift), 1)
+        problem.arc(("day", person, week.day[shift]), ("shift", shift), 1)
     for shift, places in week.places.items():
         problem.arc(("shift", shift), ("staffed", shift), places - sum(other == shift for other, _ in taken))
         problem.sink(("staffed", shift))
@@ -138,7 +162,7 @@ def explain(week, near_sources, near_sinks):
             gives[src[1]] = gives.get(src[1], 0) + capacity
     spare = {name[1:] for name in near_sources.source_side if name[0] == "day"}
     helpers = [person for person, can in week.can.items()
-               if any(shift not in can and (person, day_of(shift)) in spare for shift in short)]
+               if any(shift not in can and (person, week.day[shift]) in spare for shift in short)]
     limits = [person for person in week.most if ("week", person) not in near_sinks.source_side]
     return Reasons(short, gives, helpers, limits)
 
@@ -147,21 +171,25 @@ class Layout:
     """Where the columns of the picture stand: names have the room that they need, up to a point."""
 
     def __init__(self, week):
-        halves = [half_of(shift) for shift in week.places]
+        halves = [week.half(shift) for shift in week.places]
         self.names = min(max(svg.text_width(name, 15) for name in [*week.most, "filled / places"]), 260)
         self.cell = int(min(max([50, *(svg.text_width(half) + 12 for half in halves)]), 150))
-        for day in week.days:
-            alone = sum(day_of(shift) == day for shift in week.places) * self.cell
-            self.cell += max(0, int(min(svg.text_width(day, 15, True) + 12, 150)) - alone)
+        for day, _, columns in day_columns(week):
+            self.cell += max(0, int(min(svg.text_width(day, 15, True) + 12, 150)) - columns * self.cell)
         self.left = int(self.names) + 50
         self.right = self.left + self.cell * len(halves)
         self.width = max(self.right + 130, 800)
         self.bottom = TOP + ROW * len(week.most)
 
 
-def half_of(shift):
-    """What a shift is called beside its day."""
-    return " ".join(shift.split()[1:])
+def day_columns(week):
+    """The days above the columns: of each run of shifts on a day the day, the first column and how many there are."""
+    first, runs = 0, []
+    for day, shifts in groupby(week.places, week.day.get):
+        columns = len(list(shifts))
+        runs.append((day, first, columns))
+        first += columns
+    return runs
 
 
 def draw(path, week, taken, short, value):
@@ -175,13 +203,12 @@ def draw(path, week, taken, short, value):
         x, middle = layout.left + layout.cell * column, layout.left + layout.cell * column + layout.cell // 2
         if shift in short:
             drawing.rect(x, TOP - 28, layout.cell, bottom - TOP + 70, fill=SHORT)
-        drawing.text(middle, TOP - 10, svg.shortened(half_of(shift), layout.cell - 4), 13, text_anchor="middle")
+        drawing.text(middle, TOP - 10, svg.shortened(week.half(shift), layout.cell - 4), 13, text_anchor="middle")
         draw_filled(drawing, middle, bottom, sum(other == shift for other, _ in taken), week.places[shift])
-    for day in week.days:
-        columns = [column for column, shift in enumerate(shifts) if day_of(shift) == day]
-        middle = layout.left + layout.cell * (columns[0] + columns[-1] + 1) // 2
-        drawing.text(middle, TOP - 36, svg.shortened(day, layout.cell * len(columns), 15, True), 15,
-                     text_anchor="middle", font_weight="bold")
+    for day, first, columns in day_columns(week):
+        middle = layout.left + layout.cell * (2 * first + columns) // 2
+        drawing.text(middle, TOP - 36, svg.shortened(day, layout.cell * columns, 15, True), 15, text_anchor="middle",
+                     font_weight="bold")
     drawing.text(layout.right + 22, TOP - 10, "shifts / most", 13)
     drawing.text(28, bottom + 28, "filled / places", 13)
     for row, person in enumerate(week.most):
@@ -225,7 +252,7 @@ def draw_legend(drawing, y, short):
 def tell(week, taken, reasons, value):
     """The roster in words, and why places stay empty."""
     needed = sum(week.places.values())
-    print(f"{len(week.most)} people, {command.count(len(week.places), 'shift')} with "
+    print(f"{command.count(len(week.most), 'person', 'people')}, {command.count(len(week.places), 'shift')} with "
           f"{command.count(needed, 'place')}; {value} can be filled")
     for person in week.most:
         print(f"  {person}: " + ", ".join(shift for shift, who in taken if who == person))

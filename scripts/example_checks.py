@@ -38,9 +38,9 @@ def short(value):
     return text if len(text) <= 300 else text[:300] + ".."
 
 
-def python(*words, env=None):
+def python(*words, env=None, cwd=ROOT):
     """Runs a Python script: its status, what it wrote, and its complaint."""
-    done = subprocess.run([sys.executable, "-B", *words], capture_output=True, text=True, check=False, cwd=ROOT,
+    done = subprocess.run([sys.executable, "-B", *words], capture_output=True, text=True, check=False, cwd=cwd,
                           env={**os.environ, **(env or {})})
     return done.returncode, done.stdout, done.stderr
 

@@ -20,6 +20,7 @@ import tempfile
 from itertools import combinations
 
 import example_pictures as pictures
+import example_places
 import example_tables as tables
 from example_checks import COMMANDS, EXAMPLES, PICTURES, Checks, content, png, python, rows, write
 
@@ -66,7 +67,7 @@ def shipped(checks, flow, scratch, name):
     script = os.path.join("examples", name, COMMANDS[name])
     status, words, complaint = python(script, "--flow", flow, "--out", scratch)
     checks.equal(f"{name}: status and complaint", (status, complaint), (0, ""))
-    shown = f"$ python3 {script}\n" + words.replace(scratch, f"examples/{name}/out")
+    shown = f"$ python3 {script}\n" + words.replace(scratch, f"out/{name}")
     checks.equal(f"{name}: words in the README", shown, blocks(name, "console")[0])
     for number in BY_HAND[name]:
         checks.equal(f"{name}: says '{number}'", number in words, True)
@@ -260,7 +261,8 @@ def main():
                 segmentation_by_networkx(checks, flow, scratch)
             small[name](checks, flow, os.path.join(folder, f"small {name}"))
         for check in (tables.small_limits, tables.days_in_a_column, tables.small_chain, tables.new_links, tables.large_network,
-                      tables.complaints, tables.guide_scripts):
+                      tables.complaints, tables.guide_scripts, example_places.places_of_results,
+                      example_places.packaged_pages):
             check(checks, flow, os.path.join(folder, check.__name__))
         tables.endings(checks, os.path.join(folder, "endings"))
         pictures.png_files(checks, folder)

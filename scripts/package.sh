@@ -40,7 +40,7 @@ put 644 completions/flow.bash usr/share/bash-completion/completions/flow
 put 644 completions/_flow usr/share/zsh/vendor-completions/_flow
 put 644 completions/flow.fish usr/share/fish/vendor_completions.d/flow.fish
 put 644 CHANGELOG.md usr/share/doc/flow/NEWS.md
-# The pages and examples lie as in the repository, so that their links hold.
+# The pages and examples lie as in the repository, and say and name what the package has.
 find README.md docs examples -type f -not -path '*/out/*' -not -name '*.pyc' | while IFS= read -r page; do
   put 644 "$page" "usr/share/doc/flow/$page"
 done
@@ -65,6 +65,7 @@ TEXT
   sed -e '1,/^Copyright/d' -e 's/^$/./' -e 's/^/ /' LICENSE | sed '1{/^ \.$/d}'
 } > "$scratch/copyright"
 put 644 "$scratch/copyright" usr/share/doc/flow/copyright
+python3 scripts/package_pages.py "$root/usr/share/doc/flow"
 
 {
   echo "flow ($version) unstable; urgency=medium"

@@ -17,11 +17,11 @@ class Example:
         parser.add_argument("--flow", metavar="PROGRAM", help="the program flow; else bin/flow, or the one on the PATH")
         parser.add_argument("--data", metavar="FOLDER", default=here,
                             help="where the data lies, in files of the same names; else beside the script")
-        parser.add_argument("--out", metavar="FOLDER", default=os.path.normpath(os.path.join(here, "out")),
-                            help="where to write problems and pictures; else the folder out beside the script")
+        parser.add_argument("--out", metavar="FOLDER",
+                            help="where to write problems and pictures; else a folder in out, here or at home")
         words = parser.parse_args()
         self.data = words.data
-        self.out = words.out
+        self.out = words.out or folder_for(os.path.basename(os.path.dirname(os.path.abspath(path))))
         self.flow = Flow(words.flow)
         self.progress = script.Progress()
 
@@ -37,6 +37,17 @@ class Example:
         """The path of a file to be written."""
         os.makedirs(self.out, exist_ok=True)
         return os.path.join(self.out, name)
+
+
+def folder_for(name):
+    """Where the results of an example go: in the current folder, or in the user's own where nothing can be written
+    there, as in the pages of a package."""
+    here = os.path.join("out", name)
+    try:
+        os.makedirs(here, exist_ok=True)
+    except OSError:
+        pass
+    return here if os.access(here, os.W_OK) else os.path.join(os.path.expanduser("~"), "flow", here)
 
 
 def count(number, thing, things=None):

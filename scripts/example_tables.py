@@ -78,6 +78,22 @@ def small_chain(checks, flow, scratch):
         "the loss of A to B cuts off A", "of 1 new link 1 helps, so that 2 must fail; the shortest is A to C"])
 
 
+def crowded_hub(checks, flow, scratch):
+    """Eight sites around the hub, where its label would stand, one of them with one link and so on, and one far away:
+    the hub keeps its label, and the sites with the fewest links the colour."""
+    around = [(dx, dy) for dx in (-24, 0, 24) for dy in (-24, 0, 24) if (dx, dy) != (0, 0)]
+    spots = [(0, 0), *around, (850, 0)]
+    write(scratch, "sites.csv", "site,x,y\n" + "".join(f"Site {place},{x},{y}\n" for place, (x, y) in enumerate(spots)))
+    write(scratch, "links.csv", "one,other\n" + "".join(f"Site 0,Site {place}\n" * place for place in range(1, 10)))
+    status, _, complaint = python("examples/redundancy/redundancy.py", "--flow", flow, "--data", scratch, "--out", scratch)
+    checks.equal("redundancy: a crowded hub, status and complaint", (status, complaint), (0, ""))
+    with open(os.path.join(scratch, "redundancy.svg"), encoding="utf-8") as file:
+        drawing = file.read()
+    checks.equal("redundancy: the label of a crowded hub", ">Site 0</text>" in drawing, True)
+    legend = [words for words in ("1", "2", "3", "4", "5–9", "1–2") if f'"bold">{words}</text>' in drawing]
+    checks.equal("redundancy: nine numbers in five colours", legend, ["1", "2", "3", "4", "5–9"])
+
+
 def split_by(sites, links):
     """The fewest links whose loss splits a network, by trying each set of sites."""
     sets = (set(one) for size in range(1, len(sites)) for one in combinations(sites, size))

@@ -151,7 +151,8 @@ def crossing(network, sites):
 
 
 class Palette:
-    """The colours of the numbers that there are, in at most as many steps as there are colours."""
+    """The colours of the numbers that there are, in at most as many steps as there are colours. Where there are more
+    numbers, the greatest ones share the last colour, so the least one keeps its own."""
 
     def __init__(self, numbers):
         self.numbers = sorted(set(numbers))
@@ -159,7 +160,7 @@ class Palette:
 
     def step(self, number):
         """Which step a number belongs to."""
-        return self.numbers.index(number) * self.steps // len(self.numbers)
+        return min(self.numbers.index(number), self.steps - 1)
 
     def colours(self, step):
         return COLOURS[step * (len(COLOURS) - 1) // max(self.steps - 1, 1)]
@@ -189,8 +190,9 @@ def draw(path, network, weak, least, new):
     for link in sorted(network.links, key=lambda link: frozenset(link) in broken):
         draw_link(drawing, spots, link, radius, frozenset(link) in broken)
     palette = Palette(found.number for found in weak.values())
-    for site in network.sites:
-        draw_site(drawing, *spots[site], radius, palette, weak[site].number if site in weak else None)
+    for site in network.sites[1:]:
+        draw_site(drawing, *spots[site], radius, *palette.colours(palette.step(weak[site].number)), weak[site].number)
+    draw_hub(drawing, *spots[network.hub], max(radius, 6))
     put_labels(drawing, network, spots, weak, least, radius, bottom)
     draw_legend(drawing, network.hub, palette, bottom, new)
     drawing.save(path)
@@ -205,24 +207,24 @@ def draw_link(drawing, spots, link, radius, is_weak):
         drawing.line(*ends, svg.GREY, max(3 * width, 1.0))
 
 
-def draw_site(drawing, x, y, radius, palette, number):
-    if number is None:
-        drawing.rect(x - radius, y - radius, 2 * radius, 2 * radius, fill=svg.BLACK)
-        return
-    fill, ink = palette.colours(palette.step(number))
+def draw_hub(drawing, x, y, half):
+    drawing.rect(x - half, y - half, 2 * half, 2 * half, fill=svg.BLACK)
+
+
+def draw_site(drawing, x, y, radius, fill, ink, number):
     drawing.circle(x, y, radius, fill=fill, stroke=svg.BLACK, stroke_width=1 if radius > 6 else 0.5)
     if radius >= 9:
         drawing.text(x, y + radius * 0.36, str(number), round(radius), ink, text_anchor="middle", font_weight="bold")
 
 
 def put_labels(drawing, network, spots, weak, least, radius, bottom):
-    """The names, the hub's first, then those of the sites that are lost first."""
-    labels = maps.Labels(drawing, 5, TOP - 20, WIDTH - 5, bottom)
+    """The names, the hub's first, over other sites if need be, then those of the sites that are lost first."""
+    labels, size = maps.Labels(drawing, 5, TOP - 20, WIDTH - 5, bottom), 13 if radius > 9 else 10
+    labels.put(*spots[network.hub], radius + 4, network.hub, size, bold=True)
     for x, y in spots.values():
         labels.keep_free(x - radius, y - radius, x + radius, y + radius)
-    for site in sorted(network.sites, key=lambda site: weak[site].number if site in weak else 0):
-        x, y = spots[site]
-        labels.put(x, y, radius + 4, site, 13 if radius > 9 else 10, bold=site == network.hub)
+    for site in sorted(weak, key=lambda site: weak[site].number):
+        labels.put(*spots[site], radius + 4, site, size)
 
 
 def draw_legend(drawing, hub, palette, bottom, new):

@@ -64,7 +64,7 @@ def small_redundancy(checks, flow, scratch):
         "4 sites, 4 links; the loss of 2 links can split the network, of fewer never",
         "2 links must fail before these lose A: B, C, D", "the loss of A to B and B to C cuts off B",
         "the loss of B to C and C to D cuts off C", "the loss of C to D and D to A cuts off D",
-        "of 2 new links 0 help, so that 3 must fail"])
+        "of 2 new links 0 help, so that 3 must fail; 1 cures 2 of the 3 weakest sets, none more; the shortest is B to D"])
 
 
 def small_chain(checks, flow, scratch):
@@ -100,8 +100,17 @@ def split_by(sites, links):
     return min(sum((one in side) != (other in side) for one, other in links) for side in sets)
 
 
+def weakest_by(sites, links, least):
+    """The sets of sites without the hub, the first, that `least` links cut off, of each site the smallest, by trying
+    each set."""
+    sets = [set(one) for size in range(1, len(sites)) for one in combinations(sites[1:], size)
+            if sum((a in one) != (b in one) for a, b in links) == least]
+    return {frozenset(min((one for one in sets if site in one), key=len)) for site in set().union(*sets)}
+
+
 def new_links(checks, flow, scratch):
-    """The number of new links that help, on random networks, against a trial of each new link by `split_by`."""
+    """The number of new links that help, on random networks, against a trial of each new link by `split_by`; where
+    none does, how many of the weakest sets one cures at the most, and how many cure so many."""
     chance = random.Random(1736)
     for trial in range(16):
         sites = "ABCDEFG"[:4 + trial % 4]
@@ -110,13 +119,17 @@ def new_links(checks, flow, scratch):
         least = split_by(sites, links)
         absent = [pair for pair in combinations(sites, 2) if pair not in links and pair[::-1] not in links]
         better = sum(split_by(sites, links + [pair]) > least for pair in absent)
+        cured = [sum((one in side) != (other in side) for side in weakest_by(sites, links, least))
+                 for one, other in absent]
+        most = (str(cured.count(max(cured))), str(max(cured))) if absent and not better else (None, None)
         write(scratch, "sites.csv", "site,x,y\n" + "".join(f"{site},{place},0\n" for place, site in enumerate(sites)))
         write(scratch, "links.csv", "one,other\n" + "".join(f"{one},{other}\n" for one, other in links))
         _, words, _ = python("examples/redundancy/redundancy.py", "--flow", flow, "--data", scratch, "--out", scratch)
-        told = re.search(r"of (\d+) new links? (\d+) help", words) or re.match("()()", "")
+        told = re.search(r"of (\d+) new links? (\d+) helps?, .* fail(?:; (\d+) cures? (\d+))?", words) or re.match(
+            "()()()()", "")
         told_least = re.search(r"the loss of (\d+) link", words) or re.match("()", "")
         checks.equal(f"redundancy: new links of {links}", (told_least.group(1), *told.groups()),
-                     (str(least), str(len(absent)), str(better)))
+                     (str(least), str(len(absent)), str(better), *most))
 
 
 def large_network(checks, flow, scratch):
@@ -134,7 +147,10 @@ def large_network(checks, flow, scratch):
         f"2 links must fail before these lose 0: {first}", f"the loss of 0 to 1 and 0 to 30 cuts off {first}",
         "the loss of 28 to 29 and 29 to 59 cuts off 29", "the loss of 870 to 871 and 840 to 870 cuts off 870",
         "the loss of 898 to 899 and 869 to 899 cuts off 899",
-        "of 402810 new links 0 help, so that 3 must fail"])
+        # The three other corners lie in sets of their own, and all sites but the hub in one. So a new link between two
+        # of the corners cures two, as one from the hub to a corner does.
+        "of 402810 new links 0 help, so that 3 must fail; 6 cure 2 of the 4 weakest sets, none more; the shortest is 0 "
+        "to 29"])
     checks.equal("redundancy: a large network takes less than a minute", time.perf_counter() - started < 60, True)
 
 

@@ -10,6 +10,7 @@ network. README.md tells the model. All that is drawn is determined by the links
 import os
 import sys
 from collections import Counter, namedtuple
+from itertools import combinations, product
 
 HERE = os.path.dirname(os.path.abspath(__file__))
 sys.path.insert(0, os.path.join(HERE, "..", "common"))
@@ -32,6 +33,10 @@ MOST_NAMES = 30
 Weak = namedtuple("Weak", "number sites")
 """How many links must fail before a site loses the hub, and the fewest sites that are lost with it then."""
 
+NewLinks = namedtuple("NewLinks", "absent helpful cured most shortest")
+"""How many pairs of sites have no link, and between how many of them a new link lets more links fail. Where none does,
+how many of the weakest sets a new link cures at the most, and how many do so. The shortest of the best ones."""
+
 
 class Network:
     """The sites, the hub first, and the links between them, of which several may join the same two."""
@@ -41,6 +46,7 @@ class Network:
         self.sites = list(spots)
         self.hub = self.sites[0]
         self.links = links
+        self.joined = {frozenset(link) for link in links}
         self.degree = Counter(site for link in links for site in link)
 
     def once(self):
@@ -119,6 +125,11 @@ def weaknesses(example, network, least):
     return {site: weak[site] for site in network.sites[1:]}
 
 
+def weakest_sets(weak, least):
+    """The sets of sites that the fewest links cut off from the hub, those nearest each site."""
+    return list(dict.fromkeys(found.sites for found in weak.values() if found.number == least))
+
+
 def helpful(flow, network, weak, least):
     """The pairs of sites between which a new link lets more links fail: two sets, one for either end.
 
@@ -127,7 +138,7 @@ def helpful(flow, network, weak, least):
     contain that one, the other end is a site that none has, or the hub. Else there are two least ones, and each set
     has just one of them; then the ends lie in these, and no least cut may cut both off at once.
     """
-    sets = {found.sites for found in weak.values() if found.number == least}
+    sets = weakest_sets(weak, least)
     least_sets = [one for one in sets if not any(other < one for other in sets)]
     if len(least_sets) == 1:
         return least_sets[0], set(network.sites) - frozenset().union(*sets)
@@ -138,11 +149,44 @@ def helpful(flow, network, weak, least):
     return set(), set()
 
 
-def shortest(pairs, spots):
+def cures(network, sets):
+    """How many of the weakest sets a new link crosses at the most, and the pairs of sites between which it does. Sites
+    that lie in the same sets are alike."""
+    inside = {site: set() for site in network.sites}
+    for place, sites in enumerate(sets):
+        for site in sites:
+            inside[site].add(place)
+    alike = {}
+    for site in network.sites:
+        alike.setdefault(frozenset(inside[site]), []).append(site)
+    for number in sorted({len(one ^ other) for one, other in combinations(alike, 2)}, reverse=True):
+        pairs = [pair for one, other in combinations(alike, 2) if len(one ^ other) == number
+                 for pair in product(alike[one], alike[other]) if frozenset(pair) not in network.joined]
+        if pairs:
+            return number, pairs
+    return 0, []
+
+
+def shortest(pairs, network):
     """The pair of sites that lie nearest each other, of equals the first; None where there is no pair."""
+    order = {site: place for place, site in enumerate(network.sites)}
+
     def length(pair):
-        return sum((a - b) ** 2 for a, b in zip(spots[pair[0]], spots[pair[1]]))
-    return min(pairs, key=length, default=None)
+        (x, y), (to_x, to_y) = map(network.spots.get, pair)
+        return (x - to_x) ** 2 + (y - to_y) ** 2, sorted(map(order.get, pair))
+
+    found = min(pairs, key=length, default=None)
+    return found and tuple(sorted(found, key=order.get))
+
+
+def new_links(flow, network, weak, least):
+    """The new links that help, or else those that cure the most of the weakest sets."""
+    absent = len(network.sites) * (len(network.sites) - 1) // 2 - len(network.joined)
+    better = [pair for pair in product(*helpful(flow, network, weak, least)) if frozenset(pair) not in network.joined]
+    if better:
+        return NewLinks(absent, len(better), 0, 0, shortest(better, network))
+    cured, most = cures(network, weakest_sets(weak, least))
+    return NewLinks(absent, 0, cured, len(most), shortest(most, network))
 
 
 def crossing(network, sites):
@@ -180,12 +224,12 @@ def draw(path, network, weak, least, new):
     title = f"The loss of {command.count(least, 'link')} can split this network"
     drawing.text(28, 38, title, 20, font_weight="bold")
     radius = min(max(14 * (40 / len(spots)) ** 0.5, 3), 14)
-    sets = {found.sites for found in weak.values() if found.number == least}
+    sets = weakest_sets(weak, least)
     lost = frozenset().union(*sets)
     for site in filter(lost.__contains__, network.sites):
         drawing.circle(*spots[site], radius * 2.7, fill=SHADE)
-    if new is not None:
-        drawing.line(spots[new[0]], spots[new[1]], svg.GREEN, 4, stroke_dasharray="3 10")
+    if new.shortest:
+        drawing.line(*map(spots.get, new.shortest), svg.GREEN, 4, stroke_dasharray="3 10")
     broken = {frozenset(link) for sites in sets for link in crossing(network, sites)}
     for link in sorted(network.links, key=lambda link: frozenset(link) in broken):
         draw_link(drawing, spots, link, radius, frozenset(link) in broken)
@@ -194,7 +238,11 @@ def draw(path, network, weak, least, new):
         draw_site(drawing, *spots[site], radius, *palette.colours(palette.step(weak[site].number)), weak[site].number)
     draw_hub(drawing, *spots[network.hub], max(radius, 6))
     put_labels(drawing, network, spots, weak, least, radius, bottom)
-    draw_legend(drawing, network.hub, palette, bottom, new)
+    draw_legend(drawing, network.hub, palette, bottom)
+    if new.shortest:
+        drawing.line((40, bottom + 62), (100, bottom + 62), svg.GREEN, 4, stroke_dasharray="3 10")
+        helps = "new link after which more must fail" if new.helpful else "new link that cures most of them"
+        drawing.text(116, bottom + 67, helps, 14)
     drawing.save(path)
 
 
@@ -227,14 +275,11 @@ def put_labels(drawing, network, spots, weak, least, radius, bottom):
         labels.put(*spots[site], radius + 4, site, size)
 
 
-def draw_legend(drawing, hub, palette, bottom, new):
+def draw_legend(drawing, hub, palette, bottom):
     drawing.rect(20, bottom, WIDTH - 40, 1, fill=svg.GREY)
     drawing.line((40, bottom + 30), (100, bottom + 30), svg.RED, 9)
     drawing.line((40, bottom + 30), (100, bottom + 30), svg.WHITE, 2)
     drawing.text(116, bottom + 35, "weakest links: their loss cuts the shaded sites off", 14)
-    if new is not None:
-        drawing.line((40, bottom + 62), (100, bottom + 62), svg.GREEN, 4, stroke_dasharray="3 10")
-        drawing.text(116, bottom + 67, "new link after which more must fail", 14)
     drawing.rect(541, bottom + 19, 22, 22, fill=svg.BLACK)
     drawing.text(580, bottom + 35, svg.shortened(f"the hub, {hub}", 390, 14), 14)
     x = 552
@@ -254,20 +299,23 @@ def some(names):
     return ", ".join(names[:MOST_NAMES]) + (f" and {more} more" if more > 0 else "")
 
 
-def tell(network, weak, least, absent, better, new):
+def tell(network, weak, least, new):
     """The weaknesses in words."""
     print(f"{len(network.sites)} sites, {command.count(len(network.links), 'link')}; the loss of "
           f"{command.count(least, 'link')} can split the network, of fewer never")
     for number in sorted({found.number for found in weak.values()}):
         names = [site for site in weak if weak[site].number == number]
         print(f"{command.count(number, 'link')} must fail before these lose {network.hub}: {some(names)}")
-    for sites in dict.fromkeys(found.sites for found in weak.values() if found.number == least):
+    sets = weakest_sets(weak, least)
+    for sites in sets:
         names = [f"{one} to {other}" + (f" ({number} links)" if number > 1 else "")
                  for (one, other), number in crossing(network, sites).items()]
         lost = some([site for site in network.sites if site in sites])
         print(f"the loss of {' and '.join(names)} cuts off {lost}")
-    print(f"of {command.count(absent, 'new link')} {better} help{'s' if better == 1 else ''}, so that {least + 1} "
-          "must fail" + (f"; the shortest is {new[0]} to {new[1]}" if new else ""))
+    more = "" if new.helpful or not new.most else (
+        f"; {new.most} cure{'s' if new.most == 1 else ''} {new.cured} of the {len(sets)} weakest sets, none more")
+    print(f"of {command.count(new.absent, 'new link')} {new.helpful} help{'s' if new.helpful == 1 else ''}, so that "
+          f"{least + 1} must fail{more}" + (f"; the shortest is {' to '.join(new.shortest)}" if new.shortest else ""))
 
 
 def main():
@@ -276,15 +324,8 @@ def main():
     network.once().save(example.output("network.max"))
     least = flow.connectivity(network.once(), undirected=True)
     weak = weaknesses(example, network, least)
-    there = {frozenset(link) for link in network.links}
-    ends, other_ends = ([site for site in network.sites if site in side]
-                        for side in helpful(flow, network, weak, least))
-    order = {site: place for place, site in enumerate(network.sites)}
-    better = [tuple(sorted((one, other), key=order.get)) for one in ends for other in other_ends
-              if frozenset((one, other)) not in there]
-    new = shortest(sorted(better, key=lambda pair: [order[site] for site in pair]), network.spots)
-    absent = len(order) * (len(order) - 1) // 2 - len(there)
-    tell(network, weak, least, absent, len(better), new)
+    new = new_links(flow, network, weak, least)
+    tell(network, weak, least, new)
     draw(example.output("redundancy.svg"), network, weak, least, new)
     print(f"drawn: {example.output('redundancy.svg')}")
 

@@ -241,7 +241,7 @@ def draw(path, network, weak, least, new):
     draw_legend(drawing, network.hub, palette, bottom)
     if new.shortest:
         drawing.line((40, bottom + 62), (100, bottom + 62), svg.GREEN, 4, stroke_dasharray="3 10")
-        helps = "new link after which more must fail" if new.helpful else "new link that cures most of them"
+        helps = "new link after which more must fail" if new.helpful else "new link that cures the most of these"
         drawing.text(116, bottom + 67, helps, 14)
     drawing.save(path)
 

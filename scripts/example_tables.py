@@ -34,6 +34,63 @@ def small_limits(checks, flow, scratch):
         "one more would be filled if one of these worked one shift more: Ida Quite-Longname, of the Night Shift, Jon"])
 
 
+def best_by(people, shifts):
+    """The first of the best rosters, by trying all: `people` has the most and the shifts of each, `shifts` the places of
+    each, and the day is a shift's first letter."""
+    pairs, best = [(shift, person) for shift in shifts for person in people if shift in people[person][1]], ()
+
+    def tried(place, taken):
+        nonlocal best
+        if len(taken) + len(pairs) - place <= len(best):
+            return
+        if place == len(pairs):
+            best = taken
+            return
+        shift, person = pairs[place]
+        own = [other for other, who in taken if who == person]
+        if (len(own) < people[person][0] and shift[0] not in [other[0] for other in own]
+                and sum(other == shift for other, _ in taken) < shifts[shift]):
+            tried(place + 1, (*taken, pairs[place]))
+        tried(place + 1, taken)
+
+    tried(0, ())
+    return best
+
+
+def first_rosters(checks, flow, scratch):
+    """The roster that is drawn is the first of the best ones, on random weeks, against a trial of all rosters."""
+    chance = random.Random(1931)
+    for _ in range(12):
+        shifts = {f"{day} {half}": chance.randrange(3) for day in "MTW" for half in "ab"}
+        people = {person: (chance.randrange(4), [shift for shift in shifts if chance.random() < 0.6])
+                  for person in ("Ida", "Jon", "Kim", "Lea")}
+        write(scratch, "people.csv", "person,most,can\n" + "".join(
+            f"{person},{most},{';'.join(can)}\n" for person, (most, can) in people.items()))
+        write(scratch, "shifts.csv", "shift,places\n" + "".join(
+            f"{shift},{places}\n" for shift, places in shifts.items()))
+        _, words, _ = python("examples/scheduling/schedule.py", "--flow", flow, "--data", scratch, "--out", scratch)
+        best = best_by(people, shifts)
+        expected = {person: ", ".join(shift for shift, who in best if who == person) for person in people}
+        checks.equal(f"scheduling: the first best roster of {people}, {shifts}",
+                     dict(re.findall(r"^  (\w+): (.*)$", words, re.M)), expected)
+
+
+def large_roster(checks, flow, scratch):
+    """A roster of 120 people for four weeks of three shifts a day, in some seconds. All its places can be filled: a
+    quarter of each person in each shift that they can work in fills them and keeps all rules, and so do whole people."""
+    shifts = [f"{day} {half}" for day in range(28) for half in "abc"]
+    write(scratch, "people.csv", "person,most,can\n" + "".join(
+        f"Person {place},14,{';'.join(shift for at, shift in enumerate(shifts) if (place + at) % 3)}\n"
+        for place in range(120)))
+    write(scratch, "shifts.csv", "shift,places,day\n" + "".join(f"{shift},20,{shift.split()[0]}\n" for shift in shifts))
+    started = time.perf_counter()
+    status, words, complaint = python("examples/scheduling/schedule.py", "--flow", flow, "--data", scratch, "--out", scratch)
+    checks.equal("scheduling: a large roster, status and complaint", (status, complaint), (0, ""))
+    checks.equal("scheduling: a large roster", words.splitlines()[0],
+                 "120 people, 84 shifts with 1680 places; 1680 can be filled")
+    checks.equal("scheduling: a large roster takes less than half a minute", time.perf_counter() - started < 30, True)
+
+
 def days_in_a_column(checks, flow, scratch):
     """Two Mondays are two days where a column says so: Ida works on both, and once on each. The shifts are listed by
     what they are called, so each day stands in the table twice."""

@@ -7,14 +7,13 @@ It reads people.csv and shifts.csv, writes the problem, runs `flow` and draws th
 
 Many rosters may fill equally many places, and which of them `flow solve` prints is open. So the roster that is
 drawn is the first of the best ones: pair by pair of shift and person in the order of the files, a pair is kept
-where some best roster has it beside all that were kept before. Only values and minimum cuts are asked for, so it is
-the same with every version.
+where some best roster has it beside all that were kept before. So it is the same with every version.
 """
 
 import os
 import re
 import sys
-from collections import namedtuple
+from collections import Counter, namedtuple
 from itertools import groupby
 
 HERE = os.path.dirname(os.path.abspath(__file__))
@@ -25,6 +24,7 @@ import script
 import svg
 import tables
 from dimacs import Problem
+from exchanges import Exchanges
 
 ROW, TOP = 50, 118
 SHORT = "#FBE5D6"
@@ -49,17 +49,20 @@ class Week:
         """Each shift with each person who can work in it, in the order of the files."""
         return [(shift, person) for shift in self.places for person in self.can if shift in self.can[person]]
 
-    def allows(self, taken, pair):
-        """Whether a pair can be added to a roster without a second shift on the day, one too many, or a full shift."""
-        shift, person = pair
-        own = [other for other, who in taken if who == person]
-        there = sum(other == shift for other, _ in taken)
-        return (len(own) < self.most[person] and there < self.places[shift]
-                and self.day[shift] not in [self.day[other] for other in own])
-
     def half(self, shift):
         """What a shift is called beside its day."""
         return shift.removeprefix(self.day[shift]).strip() or shift
+
+
+class Roster:
+    """Who works when, of pairs of shift and person: the shifts of each person, and the people of each shift."""
+
+    def __init__(self, week, pairs):
+        self.shifts = {person: [] for person in week.most}
+        self.people = {shift: [] for shift in week.places}
+        for shift, person in pairs:
+            self.shifts[person].append(shift)
+            self.people[shift].append(person)
 
 
 def shifts_of(row, places):
@@ -88,57 +91,31 @@ def days_of(rows):
     return days
 
 
-def problem_of(week, taken=()):
-    """The problem of what is left to staff beside the pairs that are taken: people are sources, shifts are sinks.
+def problem_of(week):
+    """The problem of the week: people are sources, shifts are sinks. Its first arcs are the pairs, in their order.
 
     A unit of flow is one person in one shift. It goes from the person through the week (at most so many shifts) and
     the day (at most one) to the shift (at most so many places).
     """
     problem = Problem()
-    for person, most in week.most.items():
-        problem.source(("person", person))
-        own = [shift for shift, who in taken if who == person]
-        problem.arc(("person", person), ("week", person), most - len(own))
-        for day in week.days:
-            busy = day in [week.day[shift] for shift in own]
-            problem.arc(("week", person), ("day", person, day), 0 if busy else 1)
     for shift, person in week.pairs():
         problem.arc(("day", person, week.day[shift]), ("shift", shift), 1)
+    for person, most in week.most.items():
+        problem.source(("person", person))
+        problem.arc(("person", person), ("week", person), most)
+        for day in week.days:
+            problem.arc(("week", person), ("day", person, day), 1)
     for shift, places in week.places.items():
-        problem.arc(("shift", shift), ("staffed", shift), places - sum(other == shift for other, _ in taken))
+        problem.arc(("shift", shift), ("staffed", shift), places)
         problem.sink(("staffed", shift))
     return problem
 
 
-def some_best_roster(flow, week, taken):
-    """A roster that fills the most places beside the pairs that are taken: these and the pairs that `flow` found."""
-    problem = problem_of(week, taken)
-    _, units = flow.solve(problem)
-    found = set(taken)
-    for (src, dst, _), amount in zip(problem.arcs, units):
-        kind, shift = problem.name(dst)[:2]
-        if kind == "shift" and amount:
-            found.add((shift, problem.name(src)[1]))
-    return found
-
-
-def first_best_roster(flow, week, best, progress):
-    """The first of the rosters that fill the most places, as pairs of shift and person.
-
-    A pair of the best roster that was found last is kept without a question. Which roster that is plays no part in
-    what is kept.
-    """
-    taken, pairs = [], week.pairs()
-    known = some_best_roster(flow, week, taken)
-    for place, pair in enumerate(pairs):
-        progress.say(f"pair {place} of {len(pairs)}")
-        if pair not in known and week.allows(taken, pair):
-            found = some_best_roster(flow, week, taken + [pair])
-            known = found if len(found) == best else known
-        if pair in known:
-            taken.append(pair)
-    progress.say("")
-    return taken
+def first_best_roster(flow, week, problem):
+    """The first of the rosters that fill the most places. Which best roster `flow` finds plays no part in which pairs
+    can be kept."""
+    exchanges = Exchanges(problem, flow.solve(problem)[1])
+    return Roster(week, [pair for place, pair in enumerate(week.pairs()) if exchanges.keep(place)])
 
 
 Reasons = namedtuple("Reasons", "short gives helpers limits")
@@ -156,10 +133,11 @@ def explain(week, near_sources, near_sinks):
     on the sink side, since the person, a source, is always on the source side.
     """
     short = [shift for shift in week.places if ("shift", shift) not in near_sinks.source_side]
-    gives = {}
+    gives = Counter()
     for src, dst, capacity in near_sinks.arcs:
         if dst[0] != "staffed":
-            gives[src[1]] = gives.get(src[1], 0) + capacity
+            gives[src[1]] += capacity
+    gives = {person: gives[person] for person in week.most if person in gives}
     spare = {name[1:] for name in near_sources.source_side if name[0] == "day"}
     helpers = [person for person, can in week.can.items()
                if any(shift not in can and (person, week.day[shift]) in spare for shift in short)]
@@ -192,7 +170,7 @@ def day_columns(week):
     return runs
 
 
-def draw(path, week, taken, short, value):
+def draw(path, week, roster, short, value):
     """The roster: a row for each person, a column for each shift."""
     shifts, layout = list(week.places), Layout(week)
     needed, bottom = sum(week.places.values()), layout.bottom
@@ -204,7 +182,7 @@ def draw(path, week, taken, short, value):
         if shift in short:
             drawing.rect(x, TOP - 28, layout.cell, bottom - TOP + 70, fill=SHORT)
         drawing.text(middle, TOP - 10, svg.shortened(week.half(shift), layout.cell - 4), 13, text_anchor="middle")
-        draw_filled(drawing, middle, bottom, sum(other == shift for other, _ in taken), week.places[shift])
+        draw_filled(drawing, middle, bottom, len(roster.people[shift]), week.places[shift])
     for day, first, columns in day_columns(week):
         middle = layout.left + layout.cell * (2 * first + columns) // 2
         drawing.text(middle, TOP - 36, svg.shortened(day, layout.cell * columns, 15, True), 15, text_anchor="middle",
@@ -212,7 +190,7 @@ def draw(path, week, taken, short, value):
     drawing.text(layout.right + 22, TOP - 10, "shifts / most", 13)
     drawing.text(28, bottom + 28, "filled / places", 13)
     for row, person in enumerate(week.most):
-        draw_person(drawing, week, taken, person, layout, TOP + ROW * row)
+        draw_person(drawing, week, roster.shifts[person], person, layout, TOP + ROW * row)
     draw_legend(drawing, bottom + 76, short)
     drawing.save(path)
 
@@ -222,19 +200,18 @@ def draw_filled(drawing, middle, bottom, filled, places):
     drawing.text(middle, bottom + 28, f"{filled} / {places}", 14, colour, text_anchor="middle", font_weight=weight)
 
 
-def draw_person(drawing, week, taken, person, layout, y):
+def draw_person(drawing, week, shifts, person, layout, y):
     drawing.text(28, y + ROW // 2 + 5, svg.shortened(person, layout.names, 15), 15)
     for column, shift in enumerate(week.places):
         x = layout.left + layout.cell * column
-        if (shift, person) in taken:
+        if shift in shifts:
             drawing.rect(x + 4, y + 4, layout.cell - 8, ROW - 8, rx=8, fill=svg.BLUE)
         elif shift in week.can[person]:
             drawing.rect(x + 5, y + 5, layout.cell - 10, ROW - 10, rx=8, fill=svg.WHITE, stroke=svg.BLUE,
                          stroke_width=2)
         else:
             drawing.circle(x + layout.cell // 2, y + ROW // 2, 3, fill=svg.GREY)
-    worked = sum(who == person for _, who in taken)
-    drawing.text(layout.right + 46, y + ROW // 2 + 5, f"{worked} / {week.most[person]}", 14)
+    drawing.text(layout.right + 46, y + ROW // 2 + 5, f"{len(shifts)} / {week.most[person]}", 14)
 
 
 def draw_legend(drawing, y, short):
@@ -249,13 +226,13 @@ def draw_legend(drawing, y, short):
         drawing.text(350, y + 59, "shifts among which places stay empty in every roster", 14)
 
 
-def tell(week, taken, reasons, value):
+def tell(week, roster, reasons, value):
     """The roster in words, and why places stay empty."""
     needed = sum(week.places.values())
     print(f"{command.count(len(week.most), 'person', 'people')}, {command.count(len(week.places), 'shift')} with "
           f"{command.count(needed, 'place')}; {value} can be filled")
     for person in week.most:
-        print(f"  {person}: " + ", ".join(shift for shift, who in taken if who == person))
+        print(f"  {person}: " + ", ".join(roster.shifts[person]))
     if not reasons.short:
         return
     places = command.count(sum(week.places[shift] for shift in reasons.short), "place")
@@ -276,10 +253,10 @@ def main():
     problem = problem_of(week)
     problem.save(example.output("roster.max"))
     near_sources, near_sinks = example.flow.cut(problem), example.flow.cut(problem, sink=True)
-    taken = first_best_roster(example.flow, week, near_sinks.value, example.progress)
+    roster = first_best_roster(example.flow, week, problem)
     reasons = explain(week, near_sources, near_sinks)
-    tell(week, taken, reasons, near_sinks.value)
-    draw(example.output("roster.svg"), week, taken, reasons.short, near_sinks.value)
+    tell(week, roster, reasons, near_sinks.value)
+    draw(example.output("roster.svg"), week, roster, reasons.short, near_sinks.value)
     print(f"drawn: {example.output('roster.svg')}")
 
 

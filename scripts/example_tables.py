@@ -290,6 +290,39 @@ NETWORKS_REFUSED = (
 )
 
 
+def failures(checks, flow, scratch):
+    """What is left where a link or a site fails, on random networks, against the problem without its arcs."""
+    import dimacs
+    chance, program = random.Random(1912), dimacs.Flow(flow)
+
+    def problem_of(arcs):
+        problem = dimacs.Problem()
+        problem.source(0)
+        problem.sink(7)
+        for arc in arcs:
+            problem.arc(*arc)
+        return problem
+
+    for trial in range(4):
+        arcs = []
+        for src, dst in [(chance.randrange(8), chance.randrange(8)) for _ in range(12)]:
+            arcs += [(src, dst, chance.randrange(1, 5)), (dst, src, chance.randrange(1, 5))][:1 + trial % 2]
+        links = [[], *([arc] for arc in range(len(arcs))), [0, 1], *([2 * link, 2 * link + 1] for link in range(6)),
+                 *([place for place, arc in enumerate(arcs) if node in arc[:2]] for node in range(8))]
+        expected = [program.value(problem_of(arc for place, arc in enumerate(arcs) if place not in link))
+                    for link in links]
+        found = list(program.values_without(problem_of(arcs), links))
+        checks.equal(f"dimacs: values without links of {arcs}", found, expected)
+    os.makedirs(os.path.join(scratch, "programs"))
+    os.symlink(flow, os.path.join(scratch, "programs", "flow"))
+    write(scratch, "table.csv", "from,to,capacity\nA,B,3\nB,C,inf\nA,C,1\n")
+    words = python("examples/guide/failures.py", os.path.join(scratch, "table.csv"), "A", "C",
+                   env={"PATH": os.path.join(scratch, "programs") + os.pathsep + os.environ["PATH"]})
+    checks.equal("failures.py", words, (0, "value 4\n1 without link A, B\n1 without link B, C\n3 without link A, C\n"
+                                        "1 without site B\nlinks that can fail alone: 0 of 3\n"
+                                        "sites that can fail alone: 0 of 1\n", ""))
+
+
 def guide_scripts(checks, flow, scratch):
     """The scripts of the guide on tables as spreadsheets save them, and what they refuse."""
     path = {"PATH": os.path.join(scratch, "programs") + os.pathsep + os.environ["PATH"]}
@@ -312,6 +345,12 @@ def guide_scripts(checks, flow, scratch):
     done = subprocess.run([sys.executable, "-B", "examples/guide/names.py", os.path.join(scratch, "names.max")],
                           input="s 0\nn 1\nf 1 2 0\n", capture_output=True, text=True, check=False, cwd=ROOT)
     checks.equal("names.py: quotes", done.stdout, 's 0\nn "Smith, Ann"\nf "Smith, Ann", "Über ""Bridge""", 0\n')
+    write(scratch, "sites.csv", "site,capacity\nB,3\n")
+    write(scratch, "links.csv", "from,to,capacity\nA,B,5\nB,C,inf\nD,B,1\n")
+    found = guide("table.py", "--sites", os.path.join(scratch, "sites.csv"), os.path.join(scratch, "links.csv"), "A,D", "B")
+    # B is the sink, so what passes through it leaves the problem at its second node.
+    checks.equal("table.py: sites", found, (0, "c node 1 A\nc node 2 B\nc node 3 C\nc node 4 D\nc node 5 B (out)\n"
+                                               "p max 5 4\nn 1 s\nn 4 s\nn 5 t\na 1 2 5\na 5 3 10\na 4 2 1\na 2 5 3\n", ""))
     refused_tables(checks, scratch, guide)
     refused_places(checks, guide)
 
@@ -325,6 +364,8 @@ def refused_tables(checks, scratch, guide):
     write(scratch, "latin_1.csv", "from,to,capacity\nA,B,1\n")
     write(scratch, "limit.csv", "from,to,low,high\nA,B,1,2\n")
     write(scratch, "low.csv", "from,to,low,high\nA,B,3,2\n")
+    write(scratch, "out.csv", "from,to,capacity\nA,B,1\nB,A (out),1\n")
+    write(scratch, "limits.csv", "site,capacity\nA,1\n")
     write(scratch, "many.csv", f"from,to,capacity\nA,B,{2 ** 64 - 1}\nA,B,inf\n")
     for words, expected in (
             ("latin A B", "latin.csv: row 3 isn't UTF-8; save the table as 'CSV UTF-8'"),
@@ -335,10 +376,13 @@ def refused_tables(checks, scratch, guide):
                          f"greatest is {2 ** 64 - 1}"),
             ("low A B", "low.csv: row 2, column low: 3 is greater than high, which is 2"),
             ("limit A A", "'A' is a source and a sink"),
+            ("out A B", "limits.csv: row 2, column site: 'A (out)' is the name of another site"),
+            ("limit A B", "limit.csv: row 1: the column capacity isn't among from, to, low, high"),
             ("none A B", "[Errno 2] No such file or directory: 'none.csv'")):
         name, *ends = words.split()
-        script = "lower.py" if name in ("low", "limit") else "table.py"
-        found = guide(script, os.path.join(scratch, f"{name}.csv"), *ends)
+        script = "lower.py" if words in ("low A B", "limit A A") else "table.py"
+        sites = ["--sites", os.path.join(scratch, "limits.csv")] if name == "out" else []
+        found = guide(script, *sites, os.path.join(scratch, f"{name}.csv"), *ends)
         checks.equal(f"{script} {words}", found, (1, "", f"{script}: {expected}\n"))
 
 

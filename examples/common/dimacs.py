@@ -19,7 +19,7 @@ names back.
 import os
 import shutil
 import subprocess
-from collections import namedtuple
+from collections import Counter, namedtuple
 from concurrent.futures import ThreadPoolExecutor
 
 Cut = namedtuple("Cut", "value source_side arcs")
@@ -78,13 +78,26 @@ class Problem:
         this capacity, unless no cut can avoid one."""
         return sum(capacity for _, _, capacity in self.arcs) + 1
 
+    def lines(self):
+        """The lines of the problem in the DIMACS format: those before the arcs, and those of the arcs."""
+        before = [f"p max {len(self.names)} {len(self.arcs)}\n"]
+        before += [f"n {number} s\n" for number in self.sources]
+        before += [f"n {number} t\n" for number in self.sinks]
+        return before, [f"a {src} {dst} {capacity}\n" for src, dst, capacity in self.arcs]
+
     def text(self):
         """The problem in the DIMACS format."""
-        lines = [f"p max {len(self.names)} {len(self.arcs)}"]
-        lines += [f"n {number} s" for number in self.sources]
-        lines += [f"n {number} t" for number in self.sinks]
-        lines += [f"a {src} {dst} {capacity}" for src, dst, capacity in self.arcs]
-        return "\n".join(lines) + "\n"
+        before, arcs = self.lines()
+        return "".join(before + arcs)
+
+    def carries(self, units, link):
+        """Whether a flow, given for each arc, needs a link, given as the numbers of its arcs: whether more flows over
+        it one way than the other."""
+        net = Counter()
+        for arc in link:
+            src, dst, _ = self.arcs[arc]
+            net[min(src, dst), max(src, dst)] += units[arc] if src < dst else -units[arc]
+        return any(net.values())
 
     def save(self, path):
         """Writes the problem into a file, on which `flow` can then be run by hand."""
@@ -158,6 +171,26 @@ class Flow:
         """
         first, *rest = self._run(problem.text(), "solve").splitlines()
         return int(first.split()[1]), [int(line.split()[3]) for line in rest]
+
+    def values_without(self, problem, links):
+        """For each link, given as the numbers of its arcs, the greatest value where it has failed.
+
+        A link that carries nothing in one greatest flow can fail without loss: what is left carries that flow as well,
+        and a network never lets more through for a failure. So only the links that this flow needs are asked for.
+        """
+        value, units = self.solve(problem)
+        before, arcs = problem.lines()
+
+        def without(link):
+            if not problem.carries(units, link):
+                return value
+            left = list(arcs)
+            for arc in link:
+                left[arc] = "a {} {} 0\n".format(*problem.arcs[arc])
+            return int(self._run("".join(before + left), "solve", "--value").split()[1])
+
+        with ThreadPoolExecutor(os.cpu_count()) as pool:
+            yield from pool.map(without, links)
 
     def cut(self, problem, sink=False):
         """The minimum cut nearest the sources, or with `sink` the one nearest the sinks. Each problem has one of

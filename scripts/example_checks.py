@@ -1,7 +1,9 @@
 """What the checks of the examples share: counts, scratch files, and scripts that are run."""
 
+import base64
 import csv
 import os
+import re
 import subprocess
 import sys
 
@@ -14,7 +16,7 @@ import png
 
 COMMANDS = {"segmentation": "segment.py", "scheduling": "schedule.py", "roads": "roads.py",
             "redundancy": "redundancy.py"}
-PICTURES = {"segmentation": "segmentation.png", "scheduling": "roster.svg", "roads": "roads.svg",
+PICTURES = {"segmentation": "segmentation.svg", "scheduling": "roster.svg", "roads": "roads.svg",
             "redundancy": "redundancy.svg"}
 
 
@@ -51,13 +53,18 @@ def rows(*path):
 
 
 def content(path):
-    """What a file holds: the pixels of a picture in PNG, else the bytes; None where there is no file."""
+    """What a file holds: the pixels of a picture in PNG, of a drawing the texts between such pictures and their pixels,
+    else the bytes; None where there is no file."""
     if not os.path.exists(path):
         return None
     if path.endswith(".png"):
         return png.read(path).pixels
     with open(path, "rb") as file:
-        return file.read()
+        raw = file.read()
+    if not path.endswith(".svg"):
+        return raw
+    texts = re.split(rb"data:image/png;base64,([^\"]*)", raw)
+    return [png.decoded(base64.b64decode(text), path).pixels if place % 2 else text for place, text in enumerate(texts)]
 
 
 def write(folder, name, text):

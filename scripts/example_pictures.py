@@ -16,15 +16,81 @@ def small_segmentation(checks, flow, scratch):
     os.makedirs(scratch)
     png.write(os.path.join(scratch, "picture.png"), image)
     write(scratch, "strokes.csv", "what,x,y,to_x,to_y\nobject,1,1,1,4\nbackground,6,1,6,4\n")
-    # With 4 neighbours each of the 6 links across costs 7000 * 900 // (900 + 3 * 210 * 210) = 47. With 8 each costs
-    # 3500 * 900 // 133200 = 23, and each of 10 slanting ones 2450 * 900 // 133200 = 16. All 48 pixels have an arc
+    # With 4 neighbours each of the 6 links across costs 70000 * 900 // (900 + 3 * 210 * 210) = 472. With 8 each costs
+    # 35000 * 900 // 133200 = 236, and each of 10 slanting ones 24500 * 900 // 133200 = 165. All 48 pixels have an arc
     # to or from one of the two further nodes, and there are 7 * 6 + 8 * 5 links, with slanting ones 70 more.
     own_data(checks, flow, scratch, "segmentation", [
         "by colour alone: 24 of 48 pixels are object",
-        "4 neighbours: 50 nodes, 212 arcs, minimum cut 282", "  24 of 48 pixels are object",
-        "8 neighbours: 50 nodes, 352 arcs, minimum cut 298", "  24 of 48 pixels are object"])
+        "4 neighbours: 50 nodes, 212 arcs, minimum cut 2832", "  24 of 48 pixels are object",
+        "8 neighbours: 50 nodes, 352 arcs, minimum cut 3066", "  24 of 48 pixels are object"])
     inside = content(os.path.join(scratch, "out", "object8.png"))
     checks.equal("segmentation: other data, object", inside, [[(20, 20, 20)] * 4 + [(255, 255, 255)] * 4] * 6)
+    drawn = content(os.path.join(scratch, "out", "segmentation.svg"))
+    captions = ("the picture with the strokes", "by colour alone", "4 neighbours", "8 neighbours")
+    checks.equal("segmentation: captions", [f">{caption}</text>".encode() in text
+                                            for caption, text in zip(captions, drawn[::2])], [True] * 4)
+    checks.equal("segmentation: panels", drawn[7], inside)
+
+
+def halves(scratch, factor=1, spot=False):
+    """The picture and the strokes of `small_segmentation`, each pixel a square of so many, and with a dark spot of one
+    pixel among the light ones."""
+    image = png.Image(8 * factor, 6 * factor, (20, 20, 20))
+    for row in image.pixels:
+        row[4 * factor:] = [(230, 230, 230)] * (4 * factor)
+    if spot:
+        image.pixels[0][7] = (20, 20, 20)
+    os.makedirs(scratch)
+    png.write(os.path.join(scratch, "picture.PNG"), image)
+    ends = [",".join(str(factor * end) for end in ends) for ends in ((1, 1, 1, 4), (6, 2, 6, 4))]
+    write(scratch, "strokes.csv", "what,x,y,to_x,to_y\nobject,{}\nbackground,{}\n".format(*ends))
+
+
+SEGMENT_IN_LITTLE = """
+import sys
+sys.path[:0] = ["examples/segmentation", "examples/common"]
+import command, segment
+segment.MOST_ARCS = 400
+command.run(segment.main)
+"""
+
+
+def segmentation_options(checks, flow, scratch):
+    """Each option on the halves of `small_segmentation`, with numbers from there."""
+    def cut(*words, program=("examples/segmentation/segment.py",)):
+        status, said, complaint = python(*program, "--flow", flow, "--out", os.path.join(scratch, "out"), *words)
+        return status, said.splitlines()[:-1], complaint
+
+    one, other, large = (os.path.join(scratch, name) for name in ("one", "other", "large"))
+    halves(one)
+    halves(other, spot=True)
+    halves(large, factor=2)
+    colours, half = "by colour alone: 24 of 48 pixels are object", "  24 of 48 pixels are object"
+    # With a tenth of the outline's cost: 7000 * 900 // 133200 = 47, six times.
+    found = cut("--data", one, "--outline", "1", "--neighbours", "4")
+    checks.equal("segmentation: outline and neighbours", found,
+                 (0, [colours, "4 neighbours: 50 nodes, 212 arcs, minimum cut 282", half], ""))
+    # The spot in the corner costs two links more, 2 * 47, which is less than its colour: 3 * 210 * 210.
+    spot = ["by colour alone: 25 of 48 pixels are object", "4 neighbours: 50 nodes, 212 arcs, minimum cut 376"]
+    for words, number in (((), 25), (("--marked-only",), 24)):
+        found = cut("--data", other, "--outline", "1", "--neighbours", "4", *words)
+        checks.equal(f"segmentation: a piece without a stroke, {words}", found,
+                     (0, [*spot, f"  {number} of 48 pixels are object"], ""))
+    found = cut("--data", large, "--shrink", "--neighbours", "8", program=("-c", SEGMENT_IN_LITTLE))
+    checks.equal("segmentation: shrunk", found, (0, [
+        "too large for flow, so cut at 8 by 6 pixels, each of them 2 by 2 of the picture's",
+        "by colour alone: 96 of 192 pixels are object", "8 neighbours: 50 nodes, 352 arcs, minimum cut 3066",
+        "  96 of 192 pixels are object"], ""))
+    inside = content(os.path.join(scratch, "out", "object8.png"))
+    checks.equal("segmentation: shrunk, object", inside, [[(20, 20, 20)] * 8 + [(255, 255, 255)] * 8] * 12)
+    found = cut("--data", one, os.path.join(scratch, "out"), large, "--neighbours", "4")
+    checks.equal("segmentation: several folders", found, (1, [
+        f"{one}:", f"  {colours}", "  4 neighbours: 50 nodes, 212 arcs, minimum cut 2832", f"  {half}",
+        f"  drawn: {os.path.join(scratch, 'out', 'one', 'segmentation.svg')}", f"{large}:",
+        "  by colour alone: 96 of 192 pixels are object", "  4 neighbours: 194 nodes, 904 arcs, minimum cut 5664",
+        "    96 of 192 pixels are object"], f"segment.py: {os.path.join(scratch, 'out')} has no picture.png\n"))
+    for words in (("--outline", "0"), ("--outline", "nan"), ("--neighbours", "6")):
+        checks.equal(f"segmentation: {words} is refused", cut("--data", one, *words)[:2], (2, []))
 
 
 FILTERED = (
@@ -137,7 +203,7 @@ def refused_strokes(checks, flow, scratch):
     # W by H pixels make at most 9 W H - 6 W - 6 H + 4 arcs, which for 943 by 471 are 3,988,897 and for 944 by 472
     # 4,001,620.
     refused("too many pixels", "picture.png: 1000 by 500 pixels make more than the 4,000,000 arcs that flow takes; a "
-            "picture of 943 by 471 fits", picture=png.Image(1000, 500, (0, 0, 0)))
+            "picture of 943 by 471 fits, and --shrink cuts this one smaller", picture=png.Image(1000, 500, (0, 0, 0)))
     with open(os.path.join(scratch, "picture.jpg"), "wb") as file:
         file.write(b"no picture")
     os.remove(os.path.join(scratch, "picture.png"))

@@ -266,6 +266,7 @@ def main():
             check(checks, flow, os.path.join(folder, check.__name__))
         tables.endings(checks, os.path.join(folder, "endings"))
         pictures.png_files(checks, folder)
+        pictures.segmentation_options(checks, flow, os.path.join(folder, "options"))
         pictures.painted_strokes(checks, flow, os.path.join(folder, "painted"))
         pictures.refused_strokes(checks, flow, os.path.join(folder, "strokes"))
     tables.common_module(checks, flow)

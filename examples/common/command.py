@@ -1,6 +1,7 @@
-"""What the commands of the examples share: their three options, and the folders that they read from and write to."""
+"""What the commands of the examples share: three options, and the folders that they read from and write to."""
 
 import argparse
+import copy
 import os
 
 import script
@@ -9,21 +10,37 @@ from dimacs import Flow, FlowFailed
 
 
 class Example:
-    """One run of an example: the program, the folder of the data and the folder for the results."""
+    """One run of an example: the program, the folder of the data and the folder for the results. `options` adds further
+    options to the parser, whose values are then `words`; with `several` the data may lie in several folders."""
 
-    def __init__(self, path, description):
+    def __init__(self, path, description, options=None, several=False):
         here = os.path.relpath(os.path.dirname(os.path.abspath(path)))
         parser = argparse.ArgumentParser(description=description)
         parser.add_argument("--flow", metavar="PROGRAM", help="the program flow; else bin/flow, or the one on the PATH")
-        parser.add_argument("--data", metavar="FOLDER", default=here,
+        parser.add_argument("--data", metavar="FOLDER", default=[here], nargs="+" if several else 1,
                             help="where the data lies, in files of the same names; else beside the script")
         parser.add_argument("--out", metavar="FOLDER",
                             help="where to write problems and pictures; else a folder in out, here or at home")
-        words = parser.parse_args()
-        self.data = words.data
-        self.out = words.out or folder_for(os.path.basename(os.path.dirname(os.path.abspath(path))))
-        self.flow = Flow(words.flow)
+        if options:
+            options(parser)
+        self.words = parser.parse_args()
+        self.data = self.words.data[0]
+        self.out = self.words.out or folder_for(os.path.basename(os.path.dirname(os.path.abspath(path))))
+        self.flow = Flow(self.words.flow)
         self.progress = script.Progress()
+
+    def each(self):
+        """The runs of the folders that the data lies in: this one, or one for each with a folder for its results."""
+        if len(self.words.data) == 1:
+            return [self]
+        names = [os.path.basename(os.path.abspath(folder)) for folder in self.words.data]
+        for name in names:
+            if names.count(name) > 1:
+                raise script.Refused(f"two folders are called {name}, and their results would be one")
+        runs = [copy.copy(self) for _ in names]
+        for run_, folder, name in zip(runs, self.words.data, names):
+            run_.data, run_.out = folder, os.path.join(self.out, name)
+        return runs
 
     def input(self, name):
         """The path of a file of the example's data."""

@@ -9,14 +9,16 @@ KINDS = (".png", ".jpg", ".jpeg", ".webp", ".tif", ".tiff", ".bmp", ".gif", ".pp
 
 
 def find(folder, stem):
-    """The path of the picture of this name in a folder, whatever its kind; None where there is none."""
-    paths = [os.path.join(folder, stem + kind) for kind in KINDS]
-    return next(filter(os.path.exists, paths), None)
+    """The path of the picture of this name in a folder, whatever its kind, in small letters or capitals; None where
+    there is none."""
+    names = {name.lower(): name for name in sorted(os.listdir(folder), reverse=True)}
+    found = [names[stem + kind] for kind in KINDS if stem + kind in names]
+    return os.path.join(folder, found[0]) if found else None
 
 
 def read(path):
     """Reads a picture."""
-    return png.read(path) if path.endswith(".png") else _read_by_pillow(path)
+    return png.read(path) if path.lower().endswith(".png") else _read_by_pillow(path)
 
 
 def _read_by_pillow(path):

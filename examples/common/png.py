@@ -23,12 +23,15 @@ class Image:
         self.height = height
         self.pixels = [[colour] * width for _ in range(height)]
 
-    def enlarged(self, factor):
-        """The picture with each pixel a square of `factor` by `factor`."""
-        image = Image(self.width * factor, self.height * factor, None)
+    def shrunk(self, factor):
+        """The picture with each square of `factor` by `factor` pixels as one, of their mean colour; at the right and at
+        the bottom squares may be cut off."""
+        image = Image(-(-self.width // factor), -(-self.height // factor), None)
         for y in range(image.height):
-            row = self.pixels[y // factor]
-            image.pixels[y] = [row[x // factor] for x in range(image.width)]
+            rows = self.pixels[y * factor:(y + 1) * factor]
+            squares = [[pixel for row in rows for pixel in row[left:left + factor]]
+                       for left in range(0, self.width, factor)]
+            image.pixels[y] = [tuple(sum(channel) // len(square) for channel in zip(*square)) for square in squares]
         return image
 
     def paste(self, image, left, top):
@@ -37,23 +40,33 @@ class Image:
             self.pixels[top + y][left:left + image.width] = row
 
 
-def write(path, image):
-    """Writes a picture. All its pixels have as many channels as its first."""
+def encoded(image):
+    """The bytes of a PNG file of a picture, all of whose pixels have as many channels as its first."""
     channels = len(image.pixels[0][0])
     colour_type = {3: 2, 4: 6}[channels]
     raw = b"".join([b"\0" + bytes(chain.from_iterable(row)) for row in image.pixels])
     header = struct.pack(">IIBBBBB", image.width, image.height, 8, colour_type, 0, 0, 0)
+    chunks = (b"IHDR", header), (b"IDAT", zlib.compress(raw, 6)), (b"IEND", b"")
+    return SIGNATURE + b"".join([struct.pack(">I", len(body)) + kind + body + struct.pack(">I", zlib.crc32(kind + body))
+                                 for kind, body in chunks])
+
+
+def write(path, image):
+    """Writes a picture."""
     with open(path, "wb") as file:
-        file.write(SIGNATURE)
-        for kind, body in ((b"IHDR", header), (b"IDAT", zlib.compress(raw, 6)), (b"IEND", b"")):
-            file.write(struct.pack(">I", len(body)) + kind + body + struct.pack(">I", zlib.crc32(kind + body)))
+        file.write(encoded(image))
 
 
 def read(path):
     """Reads a picture. Grey and palettes become RGB, and 16 bits a channel become 8; opacity stays where a pixel of
     the file can have one."""
     with open(path, "rb") as file:
-        chunks = _chunks(file.read(), path)
+        return decoded(file.read(), path)
+
+
+def decoded(file, path):
+    """The picture that the bytes of a PNG file hold; `path` is what messages call it."""
+    chunks = _chunks(file, path)
     try:
         width, height, depth, colour_type, _, _, interlaced = struct.unpack(">IIBBBBB", chunks[b"IHDR"])
         raw = zlib.decompress(chunks[b"IDAT"])

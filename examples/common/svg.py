@@ -1,7 +1,10 @@
 """Drawings in SVG: shapes, lines and text put one over the other. The same calls give the same bytes."""
 
+import base64
 import unicodedata
 from xml.sax.saxutils import escape, quoteattr
+
+import png
 
 # Okabe and Ito's colours, which those who confuse red with green can tell apart.
 BLACK, ORANGE, SKY, GREEN = "#222222", "#E69F00", "#56B4E9", "#009E73"
@@ -35,6 +38,11 @@ class Drawing:
 
     def polygon(self, points, **style):
         self._shape("polygon", points=" ".join(f"{_number(x)},{_number(y)}" for x, y in points), **style)
+
+    def picture(self, x, y, width, height, image):
+        """A picture of pixels, whose edges stay sharp where it is enlarged."""
+        data = "data:image/png;base64," + base64.b64encode(png.encoded(image)).decode("ascii")
+        self._shape("image", x=x, y=y, width=width, height=height, image_rendering="pixelated", href=data)
 
     def clip(self, name, x, y, width, height):
         """A frame: a shape with `clip_path="url(#NAME)"` isn't drawn outside it."""

@@ -86,3 +86,10 @@ def read(example, picture):
         if not marks.marked[what]:
             raise Refused(f"no stroke marks the {what}; painted ones have the colour {paint}")
     return {what: sorted(pixels) for what, pixels in marks.marked.items()}
+
+
+def shrunk(marks, factor):
+    """The marks of a picture with squares of pixels as one. A square that both kinds of strokes touch isn't marked."""
+    squares = {what: {(x // factor, y // factor) for x, y in pixels} for what, pixels in marks.items()}
+    both = squares[OBJECT] & squares[BACKGROUND]
+    return {what: sorted(found - both) for what, found in squares.items()}

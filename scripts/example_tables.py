@@ -7,7 +7,7 @@ import signal
 import subprocess
 import sys
 import time
-from itertools import combinations
+from itertools import combinations, product
 
 from example_checks import COMMANDS, EXAMPLES, ROOT, own_data, python, write
 
@@ -321,6 +321,40 @@ def failures(checks, flow, scratch):
     checks.equal("failures.py", words, (0, "value 4\n1 without link A, B\n1 without link B, C\n3 without link A, C\n"
                                         "1 without site B\nlinks that can fail alone: 0 of 3\n"
                                         "sites that can fail alone: 0 of 1\n", ""))
+
+
+def limited_flows(checks, flow, _):
+    """Flows with lower limits on random networks from node 0 to node 3, against a trial of all flows: the greatest and
+    the least value, or nodes into which more must come than can leave them."""
+    import dimacs
+    import limits
+    chance, program = random.Random(1962), dimacs.Flow(flow)
+    for _ in range(16):
+        arcs = []
+        for src, dst in (chance.sample(range(4), 2) for _ in range(6)):
+            low = chance.choice((0, 0, 1))
+            arcs.append((src, dst, low, chance.randrange(low, 3)))
+
+        def gain(units, node):
+            return sum(amount for (_, dst, _, _), amount in zip(arcs, units) if dst == node) - sum(
+                amount for (src, _, _, _), amount in zip(arcs, units) if src == node)
+
+        def is_flow(units):
+            within = all(low <= amount <= high for (_, _, low, high), amount in zip(arcs, units))
+            return within and gain(units, 1) == gain(units, 2) == 0
+
+        values = [gain(units, 3) for units in product(range(3), repeat=len(arcs)) if is_flow(units)]
+        units, side = limits.feasible(program, arcs, [0], [3])
+        checks.equal(f"limits: whether there is a flow, {arcs}", units is not None, bool(values))
+        if values:
+            found = [limits.greatest(program, arcs, *ends, units) for ends in (([0], [3]), ([3], [0]))]
+            checks.equal(f"limits: flows, {arcs}", list(map(is_flow, [units, *found])), [True] * 3)
+            checks.equal(f"limits: values, {arcs}", [gain(one, 3) for one in found], [max(values), min(values)])
+        else:
+            # The terminals give and take what they like, so they lie on the same side.
+            into = sum(low for src, dst, low, _ in arcs if src not in side and dst in side)
+            out = sum(high for src, dst, _, high in arcs if src in side and dst not in side)
+            checks.equal(f"limits: why not, {arcs}", (into > out, 0 in side), (True, 3 in side))
 
 
 def guide_scripts(checks, flow, scratch):

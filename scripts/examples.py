@@ -261,7 +261,7 @@ def main():
                 segmentation_by_networkx(checks, flow, scratch)
             small[name](checks, flow, os.path.join(folder, f"small {name}"))
         for check in (tables.small_limits, tables.first_rosters, tables.large_roster, tables.days_in_a_column, tables.small_chain, tables.crowded_hub,
-                      tables.new_links, tables.large_network, tables.complaints, tables.failures, tables.guide_scripts, example_places.places_of_results,
+                      tables.new_links, tables.large_network, tables.complaints, tables.failures, tables.limited_flows, tables.guide_scripts, example_places.places_of_results,
                       example_places.packaged_pages):
             check(checks, flow, os.path.join(folder, check.__name__))
         tables.endings(checks, os.path.join(folder, "endings"))

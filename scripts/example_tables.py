@@ -9,7 +9,7 @@ import sys
 import time
 from itertools import combinations, product
 
-from example_checks import COMMANDS, EXAMPLES, ROOT, own_data, python, write
+from example_checks import COMMANDS, EXAMPLES, ROOT, content, own_data, python, write
 
 
 def small_scheduling(checks, flow, scratch):
@@ -35,20 +35,21 @@ def small_limits(checks, flow, scratch):
 
 
 def best_by(people, shifts):
-    """The first of the best rosters, by trying all: `people` has the most and the shifts of each, `shifts` the places of
-    each, and the day is a shift's first letter."""
-    pairs, best = [(shift, person) for shift in shifts for person in people if shift in people[person][1]], ()
+    """The first of the best rosters, by trying all: `people` has the least, the most and the shifts of each, `shifts` the
+    places of each, and the day is a shift's first letter. None where no roster gives everybody the least."""
+    pairs, best = [(shift, person) for shift in shifts for person in people if shift in people[person][2]], None
 
     def tried(place, taken):
         nonlocal best
-        if len(taken) + len(pairs) - place <= len(best):
+        if best is not None and len(taken) + len(pairs) - place <= len(best):
             return
         if place == len(pairs):
-            best = taken
+            if all(sum(who == person for _, who in taken) >= least for person, (least, _, _) in people.items()):
+                best = taken
             return
         shift, person = pairs[place]
         own = [other for other, who in taken if who == person]
-        if (len(own) < people[person][0] and shift[0] not in [other[0] for other in own]
+        if (len(own) < people[person][1] and shift[0] not in [other[0] for other in own]
                 and sum(other == shift for other, _ in taken) < shifts[shift]):
             tried(place + 1, (*taken, pairs[place]))
         tried(place + 1, taken)
@@ -59,20 +60,28 @@ def best_by(people, shifts):
 
 def first_rosters(checks, flow, scratch):
     """The roster that is drawn is the first of the best ones, on random weeks, against a trial of all rosters."""
-    chance = random.Random(1931)
-    for _ in range(12):
-        shifts = {f"{day} {half}": chance.randrange(3) for day in "MTW" for half in "ab"}
-        people = {person: (chance.randrange(4), [shift for shift in shifts if chance.random() < 0.6])
-                  for person in ("Ida", "Jon", "Kim", "Lea")}
-        write(scratch, "people.csv", "person,most,can\n" + "".join(
-            f"{person},{most},{';'.join(can)}\n" for person, (most, can) in people.items()))
+    chance = random.Random(1902)
+    for trial in range(16):
+        shifts = {f"{day} {half}": chance.randrange(2) for day in "MTW" for half in "ab"}
+        people = {}
+        for person in ("Ida", "Jon", "Kim", "Lea"):
+            most = chance.randrange(4)
+            least = most if trial % 2 and person in ("Kim", "Lea") else 0
+            people[person] = least, most, [shift for shift in shifts if chance.random() < 0.6]
+        write(scratch, "people.csv", "person,most,can,least\n" + "".join(
+            f"{person},{most},{';'.join(can)},{least or ''}\n" for person, (least, most, can) in people.items()))
         write(scratch, "shifts.csv", "shift,places\n" + "".join(
             f"{shift},{places}\n" for shift, places in shifts.items()))
-        _, words, _ = python("examples/scheduling/schedule.py", "--flow", flow, "--data", scratch, "--out", scratch)
+        status, words, said = python("examples/scheduling/schedule.py", "--flow", flow, "--data", scratch, "--out", scratch)
         best = best_by(people, shifts)
+        what = f"scheduling: the first best roster of {people}, {shifts}"
+        if best is None:
+            checks.equal(what, (status, "no roster gives everybody the least" in said), (1, True))
+            continue
         expected = {person: ", ".join(shift for shift, who in best if who == person) for person in people}
-        checks.equal(f"scheduling: the first best roster of {people}, {shifts}",
-                     dict(re.findall(r"^  (\w+): (.*)$", words, re.M)), expected)
+        checks.equal(what, dict(re.findall(r"^  (\w+): (.*)$", words, re.M)), expected)
+        table = "day,shift,person\n" + "".join(f"{shift[0]},{shift},{person}\n" for shift, person in best)
+        checks.equal(f"{what} as a table", content(os.path.join(scratch, "roster.csv")).decode(), table)
 
 
 def large_roster(checks, flow, scratch):
@@ -276,6 +285,11 @@ SCHEDULES_REFUSED = (
     ("a day in two weeks", "shifts.csv: row 4, column shift: the day 'Mon', the first word, comes again after 'Tue'; "
      "a column 'day' says which day each shift is on",
      {"people": "person,most,can\nIda,2,\n", "shifts": "shift,places\nMon a,1\nTue a,1\nMon b,1\n"}),
+    ("a least that nobody can give", "people.csv: no roster gives everybody the least: Ida, Jon have to work 3 shifts "
+     "together, and can work 2", {"people": "person,most,can,least\nIda,2,Mon a;Tue a,2\nJon,2,Mon a;Tue a,1\nKim,1,Tue b,\n",
+                                  "shifts": "shift,places\nMon a,1\nTue a,1\nTue b,1\n"}),
+    ("a least above the most", "people.csv: row 2, column least: '3' isn't between 0 and 2",
+     {"people": "person,most,can,least\nIda,2,Mon a,3\n"}),
     ("no day", "shifts.csv: row 2, column day: nothing stands here",
      {"people": "person,most,can\nIda,2,\n", "shifts": "shift,places,day\nMon a,1,\n"}),
 )

@@ -3,13 +3,15 @@
 
     python3 examples/scheduling/schedule.py [--flow PROGRAM] [--data FOLDER] [--out FOLDER]
 
-It reads people.csv and shifts.csv, writes the problem, runs `flow` and draws the roster. README.md tells the model.
+It reads people.csv and shifts.csv, writes the problem, runs `flow`, draws the roster and writes it as a table. README.md
+tells the model.
 
 Many rosters may fill equally many places, and which of them `flow solve` prints is open. So the roster that is
 drawn is the first of the best ones: pair by pair of shift and person in the order of the files, a pair is kept
 where some best roster has it beside all that were kept before. So it is the same with every version.
 """
 
+import csv
 import os
 import re
 import sys
@@ -20,6 +22,7 @@ HERE = os.path.dirname(os.path.abspath(__file__))
 sys.path.insert(0, os.path.join(HERE, "..", "common"))
 
 import command
+import limits
 import script
 import svg
 import tables
@@ -35,13 +38,15 @@ DAY_COLUMN = "a column 'day' says which day each shift is on"
 
 
 class Week:
-    """The people and shifts: who can work when, how often at most, and how many places a shift has."""
+    """The people and shifts: who can work when, how often at most and at least, and how many places a shift has."""
 
     def __init__(self, people, shifts):
         self.places = {name: row.whole("places") for name, row in tables.once(shifts, "shift").items()}
         self.day = days_of(shifts)
         people = tables.once(people, "person")
         self.most = {name: row.whole("most") for name, row in people.items()}
+        self.least = {name: row.whole("least", 0, self.most[name]) if row["least"] else 0
+                      for name, row in people.items()}
         self.can = {name: shifts_of(row, self.places) for name, row in people.items()}
         self.days = list(dict.fromkeys(self.day.values()))
 
@@ -111,10 +116,30 @@ def problem_of(week):
     return problem
 
 
+def some_best_roster(flow, week, problem, least):
+    """A roster that fills the most places and gives everybody the least, as a flow for each arc.
+
+    A least doesn't lower how many places can be filled: ways along which more people come to work never take a shift
+    from anybody without giving another.
+    """
+    if not any(least):
+        return flow.solve(problem)[1]
+    arcs = [(src, dst, low, high) for (src, dst, high), low in zip(problem.arcs, least)]
+    units, side = limits.feasible(flow, arcs, problem.sources, problem.sinks)
+    if units is None:
+        names = [problem.name(number) for number in side if number in range(1, len(problem.names) + 1)]
+        people = [person for person in week.most if ("week", person) in names]
+        can = sum(high for src, dst, _, high in arcs if src in side and dst not in side)
+        raise script.Refused(f"people.csv: no roster gives everybody the least: {', '.join(people)} have to work "
+                             f"{sum(map(week.least.get, people))} shifts together, and can work {can}")
+    return limits.greatest(flow, arcs, problem.sources, problem.sinks, units)
+
+
 def first_best_roster(flow, week, problem):
-    """The first of the rosters that fill the most places. Which best roster `flow` finds plays no part in which pairs
-    can be kept."""
-    exchanges = Exchanges(problem, flow.solve(problem)[1])
+    """The first of the rosters that fill the most places and give everybody the least. Which best roster `flow` finds
+    plays no part in which pairs can be kept."""
+    least = [week.least[problem.name(src)[1]] if problem.name(src)[0] == "person" else 0 for src, _, _ in problem.arcs]
+    exchanges = Exchanges(problem, some_best_roster(flow, week, problem, least), least)
     return Roster(week, [pair for place, pair in enumerate(week.pairs()) if exchanges.keep(place)])
 
 
@@ -143,6 +168,14 @@ def explain(week, near_sources, near_sinks):
                if any(shift not in can and (person, week.day[shift]) in spare for shift in short)]
     limits = [person for person in week.most if ("week", person) not in near_sinks.source_side]
     return Reasons(short, gives, helpers, limits)
+
+
+def write_table(path, week, roster):
+    """The roster as a table, a row for each person in each shift."""
+    with open(path, "w", newline="", encoding="utf-8") as file:
+        writer = csv.writer(file, lineterminator="\n")
+        writer.writerow(["day", "shift", "person"])
+        writer.writerows([week.day[shift], shift, person] for shift in week.places for person in roster.people[shift])
 
 
 class Layout:
@@ -257,7 +290,8 @@ def main():
     reasons = explain(week, near_sources, near_sinks)
     tell(week, roster, reasons, near_sinks.value)
     draw(example.output("roster.svg"), week, roster, reasons.short, near_sinks.value)
-    print(f"drawn: {example.output('roster.svg')}")
+    write_table(example.output("roster.csv"), week, roster)
+    print(f"drawn: {example.output('roster.svg')}, and as a table: {example.output('roster.csv')}")
 
 
 if __name__ == "__main__":

@@ -399,8 +399,52 @@ def guide_scripts(checks, flow, scratch):
     # B is the sink, so what passes through it leaves the problem at its second node.
     checks.equal("table.py: sites", found, (0, "c node 1 A\nc node 2 B\nc node 3 C\nc node 4 D\nc node 5 B (out)\n"
                                                "p max 5 4\nn 1 s\nn 4 s\nn 5 t\na 1 2 5\na 5 3 10\na 4 2 1\na 2 5 3\n", ""))
+    graphml_files(checks, scratch, guide)
     refused_tables(checks, scratch, guide)
     refused_places(checks, guide)
+
+
+GRAPHML = """<?xml version='1.0' encoding='utf-8'?>
+<graphml xmlns="http://graphml.graphdrawing.org/xmlns">
+  <key id="d0" for="edge" attr.name="capacity" attr.type="double"/>
+  <key id="d1" for="node" attr.name="label" attr.type="string"/>
+  <key id="d2" for="edge" attr.name="low" attr.type="int"><default>0</default></key>
+  <key id="d3" for="edge" attr.name="high" attr.type="double"/>
+  <graph edgedefault="directed">
+    <node id="n0"><data key="d1">Köln</data></node>
+    <node id="n1"><data key="d1">Bonn, West</data></node>
+    <edge source="n0" target="n1"><data key="d0">1000.0</data><data key="d3">3e1</data></edge>
+    <edge source="n1" target="n0" directed="false"><data key="d0">{}</data><data key="d3">4</data></edge>
+  </graph>
+</graphml>
+"""
+
+
+def graphml_files(checks, scratch, guide):
+    """Edges out of GraphML: names, whole numbers with a point, edges without a direction, and what is refused."""
+    write(scratch, "links.graphml", GRAPHML.format(7))
+    path, ends = os.path.join(scratch, "links.graphml"), ("Köln", '"Bonn, West"')
+    names = "c node 1 Köln\nc node 2 Bonn, West\np max 2 3\nn 1 s\nn 2 t\n"
+    for words, arcs in (((), "a 1 2 1000\na 2 1 7\na 1 2 7\n"), (("--unit",), "a 1 2 1\na 2 1 1\na 1 2 1\n")):
+        checks.equal(f"table.py: GraphML {words}", guide("table.py", *words, path, *ends), (0, names + arcs, ""))
+    checks.equal("lower.py: GraphML", guide("lower.py", path, *ends), (
+        1, "", "lower.py: links.graphml: edge 2, to: a link with lower limits needs a direction\n"))
+    write(scratch, "directed.graphml", GRAPHML.format(7).replace(' directed="false"', ""))
+    checks.equal("lower.py: GraphML with directions", guide("lower.py", os.path.join(scratch, "directed.graphml"), *ends), (
+        0, "value 30\nKöln -> Bonn, West: 30 of 0 to 30\nBonn, West -> Köln: 0 of 0 to 4\n", ""))
+    for text, expected in (
+            (GRAPHML.format(7.5), "edge 2, capacity: '7.5' isn't a whole number from 0; decimals want a smaller unit, the "
+                                  "same in all rows"),
+            (GRAPHML.format(""), "edge 2, capacity: nothing stands here"),
+            (GRAPHML.format(7).replace('target="n0"', 'target="n2"'), "edge 2, to: 'n2' isn't a node"),
+            (GRAPHML.format(7).replace('"capacity"', '"weight"'), "no edge has the attribute 'capacity'")):
+        write(scratch, "links.graphml", text)
+        checks.equal(f"table.py: GraphML, {expected}", guide("table.py", path, *ends), (
+            1, "", f"table.py: links.graphml: {expected}\n"))
+    for text, expected in (("<graphml/>", "links.graphml has no edge of GraphML"),
+                           ("from,to", "links.graphml isn't GraphML: syntax error: line 1, column 0")):
+        write(scratch, "links.graphml", text)
+        checks.equal(f"table.py: {text}", guide("table.py", path, *ends), (1, "", f"table.py: {expected}\n"))
 
 
 def refused_tables(checks, scratch, guide):

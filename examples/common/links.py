@@ -1,5 +1,6 @@
-"""Tables of links between nodes that have names, made into problems."""
+"""Links between nodes that have names, out of tables and GraphML files, made into problems."""
 
+import graphml
 import tables
 from dimacs import Problem
 from script import Refused
@@ -11,7 +12,7 @@ class Links:
 
     def __init__(self, path, both_ways=False, unit=False, sites=None):
         self.path = path
-        self.rows = tables.read_table(path, "from", "to", "capacity")
+        self.rows = read(path, *(["capacity"] if not unit else []))
         self.names = list(dict.fromkeys(row.name(end) for row in self.rows for end in ("from", "to")))
         self.limits = read_sites(sites, self.names, path) if sites else {}
         self.problem = Problem()
@@ -21,7 +22,7 @@ class Links:
         for row, capacity in zip(self.rows, self._capacities(unit)):
             self.arcs.append([len(self.problem.arcs)])
             self.problem.arc(self.out_of(row["from"]), row["to"], capacity)
-            if both_ways:
+            if both_ways or row.both_ways:
                 self.arcs[-1].append(len(self.problem.arcs))
                 self.problem.arc(self.out_of(row["to"]), row["from"], capacity)
         for site, capacity in self.limits.items():
@@ -40,12 +41,21 @@ class Links:
 
     def _capacities(self, unit):
         """The capacity of each row, where `inf` is one more than all others together."""
+        if unit:
+            return [1 for _ in self.rows]
         finite = [None if row["capacity"] == "inf" else row.whole("capacity") for row in self.rows]
         infinite = 1 + sum(filter(None, finite)) + sum(self.limits.values())
         if None in finite and infinite > tables.GREATEST:
             raise Refused(f"{self.path}: the capacities make {infinite - 1} together, which leaves none for inf, since "
                           f"the greatest is {tables.GREATEST}")
-        return [1 if unit else infinite if capacity is None else capacity for capacity in finite]
+        return [infinite if capacity is None else capacity for capacity in finite]
+
+
+def read(path, *columns):
+    """The rows of a table of links, or the edges of a GraphML file; `both_ways` tells that an edge has no direction."""
+    if path.lower().endswith(".graphml"):
+        return graphml.read(path, *columns)
+    return tables.read_table(path, "from", "to", *columns)
 
 
 def read_sites(path, names, links):

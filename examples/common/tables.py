@@ -22,6 +22,8 @@ class Row:
     """A row: `row[column]` is its text, perhaps empty. Blanks around a text don't count, and a run of blanks within it
     is one blank."""
 
+    both_ways = False
+
     def __init__(self, path, number, texts):
         self.path = path
         self.number = number

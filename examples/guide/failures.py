@@ -3,7 +3,7 @@
 
 Usage: failures.py [--both-ways] TABLE SOURCE[,SOURCE ..] SINK[,SINK ..]
 
-TABLE is a CSV file as table.py reads it. What is printed is the greatest value; then each link whose failure lowers
+TABLE is a CSV or GraphML file as table.py reads it. What is printed is the greatest value; then each link whose failure lowers
 it, and each site but the sources and sinks, with the value that is left; and how many don't matter.
 """
 
@@ -21,7 +21,7 @@ from links import Links
 def main():
     words = argparse.ArgumentParser(description="Tells what gets through where a link or a site fails.")
     words.add_argument("--both-ways", action="store_true", help="links can be used in both directions")
-    words.add_argument("table", help="a CSV file with the columns from, to and capacity")
+    words.add_argument("table", help="a CSV file with the columns from, to and capacity, or a GraphML file")
     words.add_argument("sources", help="the names of the sources, parted by commas")
     words.add_argument("sinks", help="the names of the sinks, parted by commas")
     given = words.parse_args()

@@ -3,7 +3,7 @@
 
 Usage: lower.py [--least] TABLE SOURCE[,SOURCE ..] SINK[,SINK ..]
 
-TABLE is a CSV file with the columns from, to, low and high: the least and the most that flows from one end to the
+TABLE is a CSV or GraphML file with the columns from, to, low and high: the least and the most that flows from one end to the
 other. What is printed is the value and the flow of each row. Where no flow keeps the limits, a set of nodes is printed
 into which more must come than can leave it, or the other way round.
 """
@@ -16,6 +16,7 @@ sys.path.insert(0, os.path.join(os.path.dirname(os.path.abspath(__file__)), ".."
 
 import command
 import limits
+import links
 import script
 import tables
 from dimacs import Flow
@@ -23,10 +24,12 @@ from dimacs import Flow
 
 def read(path, sources, sinks):
     """The names in a table, its rows as (from, to, low, high), and the names of the sources and sinks."""
-    table = tables.read_table(path, "from", "to", "low", "high")
+    table = links.read(path, "low", "high")
     names = list(dict.fromkeys(row.name(end) for row in table for end in ("from", "to")))
     arcs = [(row["from"], row["to"], row.whole("low"), row.whole("high")) for row in table]
     for row, (_, _, low, high) in zip(table, arcs):
+        if row.both_ways:
+            row.refuse("to", "a link with lower limits needs a direction")
         if low > high:
             row.refuse("low", f"{low} is greater than high, which is {high}")
     both = [tables.listed(words, names, path) for words in (sources, sinks)]

@@ -29,7 +29,7 @@ def small_limits(checks, flow, scratch):
     own_data(checks, flow, scratch, "scheduling", [
         "3 people, 2 shifts with 2 places; 1 can be filled", "  Ida Quite-Longname, of the Night Shift: Mon a",
         "  Jon: ", "  Kim: ", "these shifts have 2 places: Mon a, Tue a",
-        "at most 1 of them can be filled: Ida Quite-Longname, of the Night Shift 1, Jon 0",
+        "at most 1 of them can be filled: Ida Quite-Longname, of the Night Shift (1), Jon (0)",
         "one more would be filled if one of these could work then: Kim",
         "one more would be filled if one of these worked one shift more: Ida Quite-Longname, of the Night Shift, Jon"])
 
@@ -107,7 +107,7 @@ def days_in_a_column(checks, flow, scratch):
     write(scratch, "shifts.csv", "shift,places,day\nMo 02 a,1,Mo 02\nMo 09 a,1,Mo 09\nMo 02 b,1,Mo 02\nMo 09 b,1,Mo 09\n")
     own_data(checks, flow, scratch, "scheduling", [
         "1 person, 4 shifts with 4 places; 2 can be filled", "  Ida: Mo 02 a, Mo 09 a",
-        "these shifts have 4 places: Mo 02 a, Mo 09 a, Mo 02 b, Mo 09 b", "at most 2 of them can be filled: Ida 2",
+        "these shifts have 4 places: Mo 02 a, Mo 09 a, Mo 02 b, Mo 09 b", "at most 2 of them can be filled: Ida (2)",
         "one more would be filled if one of these could work then: nobody",
         "one more would be filled if one of these worked one shift more: nobody"])
 
@@ -115,11 +115,29 @@ def days_in_a_column(checks, flow, scratch):
 def small_roads(checks, flow, scratch):
     """Three places in a row: the narrower road is the one bottleneck, till it takes as much as the other."""
     write(scratch, "places.csv", "place,x,y,name,role\nA,-0.5,1e3,,source\nB,0.25,1e3,,\nC,1,1000,Sea,sink\n")
-    write(scratch, "roads.csv", "one,other,vehicles,name\nA,B,300,High Street\nC,B,200,\n")
+    write(scratch, "roads.csv", "one,other,capacity,name\nA,B,300,High Street\nC,B,200,\n")
     own_data(checks, flow, scratch, "roads", [
-        "from A to Sea: 200 vehicles an hour", "bottleneck nearest the sources: C to B 200",
-        "bottleneck nearest the sinks: C to B 200", "in both, so one upgrade helps: C to B",
-        "tried, each road with 500 more vehicles an hour:", "  C to B       300"])
+        "from A to Sea: 200 vehicles an hour", "bottleneck nearest the sources: Sea to B (200)",
+        "bottleneck nearest the sinks: Sea to B (200)", "in both, so one upgrade helps: Sea to B",
+        "tried, each road with 500 more vehicles an hour:", "  Sea to B: 300"])
+
+
+def units_of_roads(checks, flow, scratch):
+    """A unit and an upgrade of one's own."""
+    write(scratch, "places.csv", PLACES)
+    write(scratch, "roads.csv", ROADS + "3,Canal\n")
+    status, words, complaint = python("examples/roads/roads.py", "--flow", flow, "--data", scratch, "--out", scratch,
+                                      "--unit", "boats a day", "--more", "2")
+    checks.equal("roads: a unit", (status, words.splitlines()[:-1], complaint), (0, [
+        "from A to B: 3 boats a day", "bottleneck nearest the sources: Canal (3)",
+        "bottleneck nearest the sinks: Canal (3)", "in both, so one upgrade helps: Canal",
+        "tried, each road with 2 more boats a day:", "  Canal: 5"], ""))
+    for more in ("0", "2.5"):
+        status, words, _ = python("examples/roads/roads.py", "--data", scratch, "--more", more)
+        checks.equal(f"roads: an upgrade by {more} is refused", (status, words), (2, ""))
+    drawn = content(os.path.join(scratch, "roads.svg"))[0].decode()
+    checks.equal("roads: a unit, drawn", [">3 boats a day from A to B<" in drawn, ">Canal: 3<" in drawn, "vehicles" in drawn],
+                 [True, True, False])
 
 
 def small_redundancy(checks, flow, scratch):
@@ -246,18 +264,18 @@ def complaints(checks, flow, scratch):
 
 
 PLACES = "place,x,y,name,role\nA,1,1,,source\nB,2,2,,sink\n"
-ROADS = "one,other,vehicles,name\nA,B,"
+ROADS = "one,other,capacity,name\nA,B,"
 ROADS_REFUSED = (
-    ("a column is missing", "roads.csv: row 1: the column vehicles isn't among one, other",
+    ("a column is missing", "roads.csv: row 1: the column capacity isn't among one, other",
      {"roads": "one,other\nA,B\n"}),
-    ("a column is twice", "roads.csv: row 1: the column one is twice among one, other, one, vehicles, name",
-     {"roads": "one,other,one,vehicles,name\nA,B,C,1,\n"}),
-    ("a great number", f"roads.csv: row 2, column vehicles: '{2 ** 64}' isn't between 0 and {2 ** 64 - 1}",
+    ("a column is twice", "roads.csv: row 1: the column one is twice among one, other, one, capacity, name",
+     {"roads": "one,other,one,capacity,name\nA,B,C,1,\n"}),
+    ("a great number", f"roads.csv: row 2, column capacity: '{2 ** 64}' isn't between 0 and {2 ** 64 - 1}",
      {"roads": ROADS + f"{2 ** 64},\n"}),
-    ("a negative number", "roads.csv: row 2, column vehicles: '-4' isn't a whole number from 0; decimals want a "
+    ("a negative number", "roads.csv: row 2, column capacity: '-4' isn't a whole number from 0; decimals want a "
      "smaller unit, the same in all rows", {"roads": ROADS + "-4,\n"}),
-    ("an empty number", "roads.csv: row 3, column vehicles: nothing stands here", {"roads": ROADS + "1,\nB,A,,\n"}),
-    ("a short row", "roads.csv: row 4, column vehicles: the row ends before it: it has 2 of 4 columns",
+    ("an empty number", "roads.csv: row 3, column capacity: nothing stands here", {"roads": ROADS + "1,\nB,A,,\n"}),
+    ("a short row", "roads.csv: row 4, column capacity: the row ends before it: it has 2 of 4 columns",
      {"roads": ROADS + "1,\n\nB,A\n"}),
     ("a long row", "roads.csv: row 2 has 5 columns where row 1 has 4; a text with the mark that parts columns wants "
      "quotes around it", {"roads": ROADS + "1,\"Bridge\",Old\n"}),

@@ -39,10 +39,10 @@ BY_HAND = {
     # On Saturday and Sunday only Ben, Cleo and Eva can work: Ben and Cleo once a day, Eva once in the week, so 5 of
     # 8 places. The 17 places from Monday to Friday are filled in the roster that is drawn, which `roster_is_valid`
     # checks.
-    "scheduling": ("25 places; 22 can be filled", "at most 5 of them can be filled: Ben 2, Cleo 2, Eva 1",
+    "scheduling": ("25 places; 22 can be filled", "at most 5 of them can be filled: Ben (2), Cleo (2), Eva (1)",
                    "these shifts have 8 places: Sat early, Sat late, Sun early, Sun late"),
     # The bridges to the island take 600 + 900 + 500, those from it 800 + 1200, the bridge beside it 1400.
-    "roads": ("3400 vehicles an hour", "in both, so one upgrade helps: Ring Bridge", "Ring Bridge  3900"),
+    "roads": ("3400 vehicles an hour", "in both, so one upgrade helps: Ring Bridge", "Ring Bridge: 3900"),
     # Skerry has two links, and two links join the five eastern sites to the rest, so a new link helps both only
     # between them. Of 18 * 17 / 2 pairs 38 have a link.
     "redundancy": ("the loss of 2 links can split", "of 115 new links 5 help, so that 3 must fail",
@@ -194,13 +194,13 @@ def roads_by_networkx(checks, words, _):
                 graph.add_edge(place["role"], place["place"])
         for road in roads:
             more = 500 if road is upgraded else 0
-            graph.add_edge(road["one"], road["other"], capacity=int(road["vehicles"]) + more)
+            graph.add_edge(road["one"], road["other"], capacity=int(road["capacity"]) + more)
         return networkx.maximum_flow_value(graph, "source", "sink")
 
     checks.equal("roads: the value by NetworkX", value(None), 3400)
     better = [road["name"] for road in roads if value(road) > 3400]
     checks.equal("roads: upgrades that help by NetworkX", better, ["Ring Bridge"])
-    for name, told in re.findall(r"^  (\w+ Bridge) +(\d+)$", words, re.M):
+    for name, told in re.findall(r"^  (\w+ Bridge): (\d+)$", words, re.M):
         road = next(road for road in roads if road["name"] == name)
         checks.equal(f"roads: {name} upgraded by NetworkX", int(told), value(road))
 
@@ -260,7 +260,7 @@ def main():
             elif networkx:
                 segmentation_by_networkx(checks, flow, scratch)
             small[name](checks, flow, os.path.join(folder, f"small {name}"))
-        for check in (tables.small_limits, tables.first_rosters, tables.large_roster, tables.days_in_a_column, tables.small_chain, tables.crowded_hub,
+        for check in (tables.small_limits, tables.units_of_roads, tables.first_rosters, tables.large_roster, tables.days_in_a_column, tables.small_chain, tables.crowded_hub,
                       tables.new_links, tables.large_network, tables.complaints, tables.failures, tables.limited_flows, tables.guide_scripts, example_places.places_of_results,
                       example_places.packaged_pages):
             check(checks, flow, os.path.join(folder, check.__name__))

@@ -51,7 +51,7 @@ def main():
                     writer.writerow([place, around(x, 13), around(y, 13), *TERMINALS.get(place, ("", ""))])
     with open(os.path.join(folder, "roads.csv"), "w", newline="", encoding="utf-8") as file:
         writer = csv.writer(file, lineterminator="\n")
-        writer.writerow(["one", "other", "vehicles", "name"])
+        writer.writerow(["one", "other", "capacity", "name"])
         for quarter, (columns, rows) in QUARTERS.items():
             for row in range(len(rows)):
                 for column in range(len(columns)):

@@ -1,7 +1,7 @@
 #!/usr/bin/env python3
 """Finds the bottleneck of a road network, and the one road whose upgrade helps.
 
-    python3 examples/roads/roads.py [--flow PROGRAM] [--data FOLDER] [--out FOLDER]
+    python3 examples/roads/roads.py [--flow PROGRAM] [--data FOLDER] [--out FOLDER] [--unit WORDS] [--more NUMBER]
 
 It reads places.csv, roads.csv and areas.csv, writes the problem, runs `flow cut` from both ends and draws the map.
 README.md tells the model. Both cuts are determined by the roads alone, so the map is the same whatever way `flow`
@@ -21,8 +21,8 @@ import svg
 import tables
 from dimacs import Problem
 
-MORE = 500
-"""By how many vehicles an hour each road is upgraded on trial."""
+UNIT, MORE = "vehicles an hour", 500
+"""What the numbers count, and by how many of them each road is upgraded on trial, where no option says it."""
 GROUND = {"land": "#F6F4EE", "water": "#DCEBF3"}
 STYLES = {"first": (svg.ORANGE, "9 6"), "last": (svg.BLUE, "2 7"), "both": (svg.RED, "none")}
 """For each kind of bottleneck road its colour and its dashes, so that it can be told without colours too."""
@@ -34,6 +34,7 @@ class Town:
     """The places by name and the roads between them, as rows of their tables."""
 
     def __init__(self, example):
+        self.unit = example.words.unit
         self.places = tables.once(example.rows("places.csv", "place", "x", "y", "name", "role"), "place")
         for place in self.places.values():
             if place["role"] not in ROLES:
@@ -44,12 +45,21 @@ class Town:
             for role in ("source", "sink"))
         if not (self.sources and self.sinks):
             raise script.Refused("places.csv: the column role has to say source of a place, and sink of another")
-        self.roads = example.rows("roads.csv", "one", "other", "vehicles", "name")
+        self.roads = example.rows("roads.csv", "one", "other", "capacity", "name")
         for road in self.roads:
             for end in ("one", "other"):
                 road.known(end, self.places, "places.csv")
-        self.vehicles = {road.number: road.whole("vehicles") for road in self.roads}
+        self.capacities = {road.number: road.whole("capacity") for road in self.roads}
+        self.more = example.words.more
         self.way = f"from {some(self.sources.values())} to {some(self.sinks.values())}"
+
+    def name(self, road):
+        """The name of a road, or of the places that it joins."""
+        return road["name"] or " to ".join(self.places[road[end]]["name"] or road[end] for end in ("one", "other"))
+
+    def label(self, road):
+        """The name of a road and how much it takes."""
+        return f"{self.name(road)}: {self.capacities[road.number]}"
 
 
 def some(names):
@@ -66,7 +76,7 @@ def problem_of(town, upgraded=None):
     for name in town.sinks:
         problem.sink(name)
     for road in town.roads:
-        problem.link(road["one"], road["other"], town.vehicles[road.number] + (MORE if road is upgraded else 0))
+        problem.link(road["one"], road["other"], town.capacities[road.number] + (town.more if road is upgraded else 0))
     return problem
 
 
@@ -74,10 +84,6 @@ def crossing(roads, cut):
     """The roads that lead out of a cut's source side, in the order of the file."""
     pairs = {(src, dst) for src, dst, _ in cut.arcs}
     return [road for road in roads if (road["one"], road["other"]) in pairs or (road["other"], road["one"]) in pairs]
-
-
-def named(road):
-    return road["name"] or f"{road['one']} to {road['other']}"
 
 
 def read_areas(example):
@@ -104,16 +110,16 @@ def draw(path, areas, town, first, last, value):
     bottom = TOP + scale.height + 2 * MARGIN
     spots = {name: scale.spot(*spot) for name, spot in town.spots.items()}
     drawing = svg.Drawing(WIDTH, bottom + 125, "The bottleneck of a road map")
-    title = svg.shortened(f"{value} vehicles an hour {town.way}", WIDTH - 56, 16, True)
+    title = svg.shortened(f"{value} {town.unit} {town.way}", WIDTH - 56, 16, True)
     drawing.text(28, 38, title, 16, font_weight="bold")
     drawing.rect(20, TOP, WIDTH - 40, bottom - TOP, fill=GROUND["land"])
     drawing.clip("map", 20, TOP, WIDTH - 40, bottom - TOP)
     for ground, corners in areas:
         drawing.polygon([scale.spot(*corner) for corner in corners], fill=GROUND[ground], clip_path="url(#map)")
-    greatest = max([1, *town.vehicles.values()])
+    greatest = max([1, *town.capacities.values()])
     for road in town.roads:
         if road not in first and road not in last:
-            width = max(1.0, 6 * town.vehicles[road.number] / greatest)
+            width = max(1.0, 6 * town.capacities[road.number] / greatest)
             drawing.line(spots[road["one"]], spots[road["other"]], svg.GREY, width)
     for road in town.roads:
         if road in first or road in last:
@@ -161,8 +167,7 @@ def put_labels(drawing, town, spots, first, last, bottom):
         is_narrow = road in first or road in last
         if is_narrow or road["name"]:
             (x, y), (to_x, to_y) = spots[road["one"]], spots[road["other"]]
-            words = f"{named(road)}  {town.vehicles[road.number]}"
-            labels.put((x + to_x) / 2, (y + to_y) / 2, 10, words, bold=is_narrow)
+            labels.put((x + to_x) / 2, (y + to_y) / 2, 10, town.label(road), bold=is_narrow)
 
 
 def draw_legend(drawing, y):
@@ -174,32 +179,46 @@ def draw_legend(drawing, y):
     drawing.line((560, y), (620, y), svg.GREY, 6)
     drawing.text(638, y + 5, "other road, the wider the more it takes", 14)
     drawing.circle(590, y + 28, 9, fill=svg.BLACK)
-    drawing.text(638, y + 33, "source: vehicles start here", 14)
+    drawing.text(638, y + 33, "source: the way starts here", 14)
     drawing.rect(581, y + 47, 18, 18, fill=svg.BLACK)
-    drawing.text(638, y + 61, "sink: vehicles leave here", 14)
+    drawing.text(638, y + 61, "sink: the way ends here", 14)
+
+
+def add_options(parser):
+    parser.add_argument("--unit", metavar="WORDS", default=UNIT, help=f"what the numbers count; else {UNIT}")
+    parser.add_argument("--more", metavar="NUMBER", type=upgrade, default=MORE,
+                        help=f"by how much a road is upgraded on trial; else {MORE}")
+
+
+def upgrade(text):
+    """A whole number from 1."""
+    number = int(text)
+    if not 1 <= number <= tables.GREATEST:
+        raise ValueError
+    return number
 
 
 def main():
-    example = command.Example(__file__, "Finds the bottleneck of a road network.")
+    example = command.Example(__file__, "Finds the bottleneck of a road network.", add_options)
     town, areas = Town(example), read_areas(example)
     problem = problem_of(town)
     problem.save(example.output("roads.max"))
     near_sources, near_sinks = example.flow.cut(problem), example.flow.cut(problem, sink=True)
     first, last = crossing(town.roads, near_sources), crossing(town.roads, near_sinks)
-    print(f"{town.way}: {near_sources.value} vehicles an hour")
+    print(f"{town.way}: {near_sources.value} {town.unit}")
     for place, roads in (("sources", first), ("sinks", last)):
-        told = ", ".join(f"{named(road)} {town.vehicles[road.number]}" for road in roads)
+        told = ", ".join(f"{town.name(road)} ({town.capacities[road.number]})" for road in roads)
         print(f"bottleneck nearest the {place}: {told or 'none, since no roads lead there'}")
-    both = [named(road) for road in first if road in last]
+    both = [town.name(road) for road in first if road in last]
     print("in both, so one upgrade helps: " + (", ".join(both) or "none"))
     tried = [road for road in town.roads if road in first or road in last]
     if tried:
-        print(f"tried, each road with {MORE} more vehicles an hour:")
+        print(f"tried, each road with {town.more} more {town.unit}:")
     for place, road in enumerate(tried):
         example.progress.say(f"road {place} of {len(tried)}")
         value = example.flow.value(problem_of(town, upgraded=road))
         example.progress.say("")
-        print(f"  {named(road):<12} {value}")
+        print(f"  {town.name(road)}: {value}")
     draw(example.output("roads.svg"), areas, town, first, last, near_sources.value)
     print(f"drawn: {example.output('roads.svg')}")
 

@@ -270,7 +270,7 @@ def tell(week, roster, reasons, value):
         return
     places = command.count(sum(week.places[shift] for shift in reasons.short), "place")
     print(f"these shifts have {places}: {', '.join(reasons.short)}")
-    gives = ", ".join(f"{person} {number}" for person, number in reasons.gives.items())
+    gives = ", ".join(f"{person} ({number})" for person, number in reasons.gives.items())
     print(f"at most {sum(reasons.gives.values())} of them can be filled: {gives or 'nobody can work then'}")
     helpers, limits = ", ".join(reasons.helpers) or "nobody", ", ".join(reasons.limits) or "nobody"
     print(f"one more would be filled if one of these could work then: {helpers}")

@@ -47,6 +47,12 @@ def python(*words, env=None, cwd=ROOT):
     return done.returncode, done.stdout, done.stderr
 
 
+def example(name, flow, folder, *words):
+    """Runs an example with its data and its results in one folder."""
+    script = os.path.join("examples", name, COMMANDS[name])
+    return python(script, "--flow", flow, "--data", folder, "--out", folder, *words)
+
+
 def rows(*path):
     with open(os.path.join(EXAMPLES, *path), newline="", encoding="utf-8") as file:
         return list(csv.DictReader(file))

@@ -4,7 +4,7 @@ import os
 import struct
 import zlib
 
-from example_checks import EXAMPLES, content, own_data, png, python, write
+from example_checks import EXAMPLES, content, example, own_data, png, python, write
 
 
 def small_segmentation(checks, flow, scratch):
@@ -116,8 +116,9 @@ def png_file(path, width, height, colour_type, raw, depth=8, interlaced=0, more=
             file.write(struct.pack(">I", len(body)) + kind + body + struct.pack(">I", zlib.crc32(kind + body)))
 
 
-def png_files(checks, scratch):
+def png_files(checks, _, scratch):
     """Pictures in PNG as other programs write them."""
+    os.makedirs(scratch)
     path = os.path.join(scratch, "picture.png")
     png_file(path, 3, len(FILTERED), 0, bytes(byte for kind, line, _ in FILTERED for byte in (kind, *line)))
     checks.equal("png: grey", png.read(path).pixels, [[(grey,) * 3 for grey in row] for _, _, row in FILTERED])
@@ -169,8 +170,7 @@ def painted_strokes(checks, flow, scratch):
     for y in range(1, 5):
         image.pixels[y][1], image.pixels[y][6] = (240, 10, 20), (0, 0, 255)
     png.write(os.path.join(scratch, "strokes.png"), image)
-    status, words, complaint = python("examples/segmentation/segment.py", "--flow", flow, "--data", scratch, "--out",
-                                      scratch)
+    status, words, complaint = example("segmentation", flow, scratch)
     checks.equal("segmentation: painted, status and complaint", (status, complaint), (0, ""))
     checks.equal("segmentation: painted", words.count("24 of 48 pixels are object"), 3)
 
@@ -185,8 +185,7 @@ def refused_strokes(checks, flow, scratch):
                 write(scratch, f"{name}.csv", content_)
             else:
                 png.write(os.path.join(scratch, f"{name}.png"), content_)
-        status, words, said = python("examples/segmentation/segment.py", "--flow", flow, "--data", scratch, "--out",
-                                     scratch)
+        status, words, said = example("segmentation", flow, scratch)
         said = said.replace(scratch + os.sep, "").replace(scratch, "FOLDER")
         checks.equal(f"segmentation: {what}", (status, words, said), (1, "", f"segment.py: {expected}\n"))
 
@@ -207,6 +206,5 @@ def refused_strokes(checks, flow, scratch):
     with open(os.path.join(scratch, "picture.jpg"), "wb") as file:
         file.write(b"no picture")
     os.remove(os.path.join(scratch, "picture.png"))
-    status, words, said = python("examples/segmentation/segment.py", "--flow", flow, "--data", scratch, "--out",
-                                 scratch)
+    status, words, said = example("segmentation", flow, scratch)
     checks.equal("segmentation: no JPEG", (status, words, said.count("\n"), "picture.jpg: " in said), (1, "", 1, True))

@@ -15,8 +15,8 @@ def places_of_results(checks, flow, scratch):
         status, words, complaint = python(script, "--flow", flow, cwd=here, env={"HOME": scratch})
         checks.equal(f"roads: run in {here}, status and complaint", (status, complaint), (0, ""))
         checks.equal(f"roads: run in {here}", words.splitlines()[-1], f"drawn: {os.path.join(place, 'roads.svg')}")
-        drawn = os.path.join(here, place, "roads.svg")
-        checks.equal(f"roads: run in {here}, picture", content(drawn), content(os.path.join(EXAMPLES, "roads/roads.svg")))
+        drawn, committed = os.path.join(here, place, "roads.svg"), os.path.join(EXAMPLES, "roads", "roads.svg")
+        checks.equal(f"roads: run in {here}, picture", content(drawn), content(committed))
 
 
 def packaged_pages(checks, _, scratch):

@@ -3,13 +3,10 @@
 import os
 import random
 import re
-import signal
-import subprocess
-import sys
 import time
-from itertools import combinations, product
+from itertools import combinations
 
-from example_checks import COMMANDS, EXAMPLES, ROOT, content, own_data, python, write
+from example_checks import COMMANDS, EXAMPLES, content, example, own_data, python, write
 
 
 def small_scheduling(checks, flow, scratch):
@@ -35,8 +32,8 @@ def small_limits(checks, flow, scratch):
 
 
 def best_by(people, shifts):
-    """The first of the best rosters, by trying all: `people` has the least, the most and the shifts of each, `shifts` the
-    places of each, and the day is a shift's first letter. None where no roster gives everybody the least."""
+    """The first of the best rosters, by trying all: `people` has the least, the most and the shifts of each, `shifts`
+    the places of each, and the day is a shift's first letter. None where no roster gives everybody the least."""
     pairs, best = [(shift, person) for shift in shifts for person in people if shift in people[person][2]], None
 
     def tried(place, taken):
@@ -72,7 +69,7 @@ def first_rosters(checks, flow, scratch):
             f"{person},{most},{';'.join(can)},{least or ''}\n" for person, (least, most, can) in people.items()))
         write(scratch, "shifts.csv", "shift,places\n" + "".join(
             f"{shift},{places}\n" for shift, places in shifts.items()))
-        status, words, said = python("examples/scheduling/schedule.py", "--flow", flow, "--data", scratch, "--out", scratch)
+        status, words, said = example("scheduling", flow, scratch)
         best = best_by(people, shifts)
         what = f"scheduling: the first best roster of {people}, {shifts}"
         if best is None:
@@ -86,14 +83,14 @@ def first_rosters(checks, flow, scratch):
 
 def large_roster(checks, flow, scratch):
     """A roster of 120 people for four weeks of three shifts a day, in some seconds. All its places can be filled: a
-    quarter of each person in each shift that they can work in fills them and keeps all rules, and so do whole people."""
+    quarter of each person in each shift that they can work in fills them and keeps all rules, and so do whole ones."""
     shifts = [f"{day} {half}" for day in range(28) for half in "abc"]
     write(scratch, "people.csv", "person,most,can\n" + "".join(
         f"Person {place},14,{';'.join(shift for at, shift in enumerate(shifts) if (place + at) % 3)}\n"
         for place in range(120)))
     write(scratch, "shifts.csv", "shift,places,day\n" + "".join(f"{shift},20,{shift.split()[0]}\n" for shift in shifts))
     started = time.perf_counter()
-    status, words, complaint = python("examples/scheduling/schedule.py", "--flow", flow, "--data", scratch, "--out", scratch)
+    status, words, complaint = example("scheduling", flow, scratch)
     checks.equal("scheduling: a large roster, status and complaint", (status, complaint), (0, ""))
     checks.equal("scheduling: a large roster", words.splitlines()[0],
                  "120 people, 84 shifts with 1680 places; 1680 can be filled")
@@ -104,7 +101,8 @@ def days_in_a_column(checks, flow, scratch):
     """Two Mondays are two days where a column says so: Ida works on both, and once on each. The shifts are listed by
     what they are called, so each day stands in the table twice."""
     write(scratch, "people.csv", "person,most,can\nIda,4,Mo 02 a;Mo 09 a;Mo 02 b;Mo 09 b\n")
-    write(scratch, "shifts.csv", "shift,places,day\nMo 02 a,1,Mo 02\nMo 09 a,1,Mo 09\nMo 02 b,1,Mo 02\nMo 09 b,1,Mo 09\n")
+    write(scratch, "shifts.csv", "shift,places,day\nMo 02 a,1,Mo 02\nMo 09 a,1,Mo 09\nMo 02 b,1,Mo 02\n"
+                                 "Mo 09 b,1,Mo 09\n")
     own_data(checks, flow, scratch, "scheduling", [
         "1 person, 4 shifts with 4 places; 2 can be filled", "  Ida: Mo 02 a, Mo 09 a",
         "these shifts have 4 places: Mo 02 a, Mo 09 a, Mo 02 b, Mo 09 b", "at most 2 of them can be filled: Ida (2)",
@@ -126,8 +124,7 @@ def units_of_roads(checks, flow, scratch):
     """A unit and an upgrade of one's own."""
     write(scratch, "places.csv", PLACES)
     write(scratch, "roads.csv", ROADS + "3,Canal\n")
-    status, words, complaint = python("examples/roads/roads.py", "--flow", flow, "--data", scratch, "--out", scratch,
-                                      "--unit", "boats a day", "--more", "2")
+    status, words, complaint = example("roads", flow, scratch, "--unit", "boats a day", "--more", "2")
     checks.equal("roads: a unit", (status, words.splitlines()[:-1], complaint), (0, [
         "from A to B: 3 boats a day", "bottleneck nearest the sources: Canal (3)",
         "bottleneck nearest the sinks: Canal (3)", "in both, so one upgrade helps: Canal",
@@ -136,8 +133,8 @@ def units_of_roads(checks, flow, scratch):
         status, words, _ = python("examples/roads/roads.py", "--data", scratch, "--more", more)
         checks.equal(f"roads: an upgrade by {more} is refused", (status, words), (2, ""))
     drawn = content(os.path.join(scratch, "roads.svg"))[0].decode()
-    checks.equal("roads: a unit, drawn", [">3 boats a day from A to B<" in drawn, ">Canal: 3<" in drawn, "vehicles" in drawn],
-                 [True, True, False])
+    told = [words for words in (">3 boats a day from A to B<", ">Canal: 3<", "vehicles") if words in drawn]
+    checks.equal("roads: a unit, drawn", told, [">3 boats a day from A to B<", ">Canal: 3<"])
 
 
 def small_redundancy(checks, flow, scratch):
@@ -148,7 +145,8 @@ def small_redundancy(checks, flow, scratch):
         "4 sites, 4 links; the loss of 2 links can split the network, of fewer never",
         "2 links must fail before these lose A: B, C, D", "the loss of A to B and B to C cuts off B",
         "the loss of B to C and C to D cuts off C", "the loss of C to D and D to A cuts off D",
-        "of 2 new links 0 help, so that 3 must fail; 1 cures 2 of the 3 weakest sets, none more; the shortest is B to D"])
+        "of 2 new links 0 help, so that 3 must fail; 1 cures 2 of the 3 weakest sets, none more; the shortest is B to "
+        "D"])
 
 
 def small_chain(checks, flow, scratch):
@@ -169,7 +167,7 @@ def crowded_hub(checks, flow, scratch):
     spots = [(0, 0), *around, (850, 0)]
     write(scratch, "sites.csv", "site,x,y\n" + "".join(f"Site {place},{x},{y}\n" for place, (x, y) in enumerate(spots)))
     write(scratch, "links.csv", "one,other\n" + "".join(f"Site 0,Site {place}\n" * place for place in range(1, 10)))
-    status, _, complaint = python("examples/redundancy/redundancy.py", "--flow", flow, "--data", scratch, "--out", scratch)
+    status, _, complaint = example("redundancy", flow, scratch)
     checks.equal("redundancy: a crowded hub, status and complaint", (status, complaint), (0, ""))
     with open(os.path.join(scratch, "redundancy.svg"), encoding="utf-8") as file:
         drawing = file.read()
@@ -208,7 +206,7 @@ def new_links(checks, flow, scratch):
         most = (str(cured.count(max(cured))), str(max(cured))) if absent and not better else (None, None)
         write(scratch, "sites.csv", "site,x,y\n" + "".join(f"{site},{place},0\n" for place, site in enumerate(sites)))
         write(scratch, "links.csv", "one,other\n" + "".join(f"{one},{other}\n" for one, other in links))
-        _, words, _ = python("examples/redundancy/redundancy.py", "--flow", flow, "--data", scratch, "--out", scratch)
+        _, words, _ = example("redundancy", flow, scratch)
         told = re.search(r"of (\d+) new links? (\d+) helps?, .* fail(?:; (\d+) cures? (\d+))?", words) or re.match(
             "()()()()", "")
         told_least = re.search(r"the loss of (\d+) link", words) or re.match("()", "")
@@ -304,8 +302,9 @@ SCHEDULES_REFUSED = (
      "a column 'day' says which day each shift is on",
      {"people": "person,most,can\nIda,2,\n", "shifts": "shift,places\nMon a,1\nTue a,1\nMon b,1\n"}),
     ("a least that nobody can give", "people.csv: no roster gives everybody the least: Ida, Jon have to work 3 shifts "
-     "together, and can work 2", {"people": "person,most,can,least\nIda,2,Mon a;Tue a,2\nJon,2,Mon a;Tue a,1\nKim,1,Tue b,\n",
-                                  "shifts": "shift,places\nMon a,1\nTue a,1\nTue b,1\n"}),
+     "together, and can work 2", {"shifts": "shift,places\nMon a,1\nTue a,1\nTue b,1\n",
+                                  "people": "person,most,can,least\nIda,2,Mon a;Tue a,2\nJon,2,Mon a;Tue a,1\n"
+                                            "Kim,1,Tue b,\n"}),
     ("a least above the most", "people.csv: row 2, column least: '3' isn't between 0 and 2",
      {"people": "person,most,can,least\nIda,2,Mon a,3\n"}),
     ("no day", "shifts.csv: row 2, column day: nothing stands here",
@@ -320,212 +319,6 @@ NETWORKS_REFUSED = (
     ("a network in two parts", "sites.csv: row 3, column site: no links lead from 'B' to the hub 'A', nor from 1 site "
      "more", {"sites": "site,x,y\nA,1,1\nB,2,2\nC,3,3\nD,4,4\n", "links": "one,other\nA,D\nB,C\n"}),
 )
-
-
-def failures(checks, flow, scratch):
-    """What is left where a link or a site fails, on random networks, against the problem without its arcs."""
-    import dimacs
-    chance, program = random.Random(1912), dimacs.Flow(flow)
-
-    def problem_of(arcs):
-        problem = dimacs.Problem()
-        problem.source(0)
-        problem.sink(7)
-        for arc in arcs:
-            problem.arc(*arc)
-        return problem
-
-    for trial in range(4):
-        arcs = []
-        for src, dst in [(chance.randrange(8), chance.randrange(8)) for _ in range(12)]:
-            arcs += [(src, dst, chance.randrange(1, 5)), (dst, src, chance.randrange(1, 5))][:1 + trial % 2]
-        links = [[], *([arc] for arc in range(len(arcs))), [0, 1], *([2 * link, 2 * link + 1] for link in range(6)),
-                 *([place for place, arc in enumerate(arcs) if node in arc[:2]] for node in range(8))]
-        expected = [program.value(problem_of(arc for place, arc in enumerate(arcs) if place not in link))
-                    for link in links]
-        found = list(program.values_without(problem_of(arcs), links))
-        checks.equal(f"dimacs: values without links of {arcs}", found, expected)
-    os.makedirs(os.path.join(scratch, "programs"))
-    os.symlink(flow, os.path.join(scratch, "programs", "flow"))
-    write(scratch, "table.csv", "from,to,capacity\nA,B,3\nB,C,inf\nA,C,1\n")
-    words = python("examples/guide/failures.py", os.path.join(scratch, "table.csv"), "A", "C",
-                   env={"PATH": os.path.join(scratch, "programs") + os.pathsep + os.environ["PATH"]})
-    checks.equal("failures.py", words, (0, "value 4\n1 without link A, B\n1 without link B, C\n3 without link A, C\n"
-                                        "1 without site B\nlinks that can fail alone: 0 of 3\n"
-                                        "sites that can fail alone: 0 of 1\n", ""))
-
-
-def limited_flows(checks, flow, _):
-    """Flows with lower limits on random networks from node 0 to node 3, against a trial of all flows: the greatest and
-    the least value, or nodes into which more must come than can leave them."""
-    import dimacs
-    import limits
-    chance, program = random.Random(1962), dimacs.Flow(flow)
-    for _ in range(16):
-        arcs = []
-        for src, dst in (chance.sample(range(4), 2) for _ in range(6)):
-            low = chance.choice((0, 0, 1))
-            arcs.append((src, dst, low, chance.randrange(low, 3)))
-
-        def gain(units, node):
-            return sum(amount for (_, dst, _, _), amount in zip(arcs, units) if dst == node) - sum(
-                amount for (src, _, _, _), amount in zip(arcs, units) if src == node)
-
-        def is_flow(units):
-            within = all(low <= amount <= high for (_, _, low, high), amount in zip(arcs, units))
-            return within and gain(units, 1) == gain(units, 2) == 0
-
-        values = [gain(units, 3) for units in product(range(3), repeat=len(arcs)) if is_flow(units)]
-        units, side = limits.feasible(program, arcs, [0], [3])
-        checks.equal(f"limits: whether there is a flow, {arcs}", units is not None, bool(values))
-        if values:
-            found = [limits.greatest(program, arcs, *ends, units) for ends in (([0], [3]), ([3], [0]))]
-            checks.equal(f"limits: flows, {arcs}", list(map(is_flow, [units, *found])), [True] * 3)
-            checks.equal(f"limits: values, {arcs}", [gain(one, 3) for one in found], [max(values), min(values)])
-        else:
-            # The terminals give and take what they like, so they lie on the same side.
-            into = sum(low for src, dst, low, _ in arcs if src not in side and dst in side)
-            out = sum(high for src, dst, _, high in arcs if src in side and dst not in side)
-            checks.equal(f"limits: why not, {arcs}", (into > out, 0 in side), (True, 3 in side))
-
-
-def guide_scripts(checks, flow, scratch):
-    """The scripts of the guide on tables as spreadsheets save them, and what they refuse."""
-    path = {"PATH": os.path.join(scratch, "programs") + os.pathsep + os.environ["PATH"]}
-    os.makedirs(os.path.join(scratch, "programs"))
-    os.symlink(flow, os.path.join(scratch, "programs", "flow"))
-
-    def guide(script, *words):
-        status, found, complaint = python(f"examples/guide/{script}", *words, env=path)
-        return status, found, complaint.replace(scratch + os.sep, "")
-
-    table = os.path.join(scratch, "table.csv")
-    wide = 'from;to;capacity\r\n"Smith, Ann";"Über ""Bridge""";0\r\n"Über ""Bridge""";"Smith, Ann";inf\r\n'
-    names = 'c node 1 Smith, Ann\nc node 2 Über "Bridge"\np max 2 2\nn 1 s\nn 2 t\na 1 2 0\na 2 1 1\n'
-    for text in (wide.encode("utf-8-sig"), wide.encode("utf-16")):
-        with open(table, "wb") as file:
-            file.write(text)
-        found = guide("table.py", table, '"Smith, Ann"', '"Über ""Bridge"""')
-        checks.equal(f"table.py: {text[:4]}", found, (0, names, ""))
-    write(scratch, "names.max", names)
-    done = subprocess.run([sys.executable, "-B", "examples/guide/names.py", os.path.join(scratch, "names.max")],
-                          input="s 0\nn 1\nf 1 2 0\n", capture_output=True, text=True, check=False, cwd=ROOT)
-    checks.equal("names.py: quotes", done.stdout, 's 0\nn "Smith, Ann"\nf "Smith, Ann", "Über ""Bridge""", 0\n')
-    write(scratch, "sites.csv", "site,capacity\nB,3\n")
-    write(scratch, "links.csv", "from,to,capacity\nA,B,5\nB,C,inf\nD,B,1\n")
-    found = guide("table.py", "--sites", os.path.join(scratch, "sites.csv"), os.path.join(scratch, "links.csv"), "A,D", "B")
-    # B is the sink, so what passes through it leaves the problem at its second node.
-    checks.equal("table.py: sites", found, (0, "c node 1 A\nc node 2 B\nc node 3 C\nc node 4 D\nc node 5 B (out)\n"
-                                               "p max 5 4\nn 1 s\nn 4 s\nn 5 t\na 1 2 5\na 5 3 10\na 4 2 1\na 2 5 3\n", ""))
-    graphml_files(checks, scratch, guide)
-    refused_tables(checks, scratch, guide)
-    refused_places(checks, guide)
-
-
-GRAPHML = """<?xml version='1.0' encoding='utf-8'?>
-<graphml xmlns="http://graphml.graphdrawing.org/xmlns">
-  <key id="d0" for="edge" attr.name="capacity" attr.type="double"/>
-  <key id="d1" for="node" attr.name="label" attr.type="string"/>
-  <key id="d2" for="edge" attr.name="low" attr.type="int"><default>0</default></key>
-  <key id="d3" for="edge" attr.name="high" attr.type="double"/>
-  <graph edgedefault="directed">
-    <node id="n0"><data key="d1">Köln</data></node>
-    <node id="n1"><data key="d1">Bonn, West</data></node>
-    <edge source="n0" target="n1"><data key="d0">1000.0</data><data key="d3">3e1</data></edge>
-    <edge source="n1" target="n0" directed="false"><data key="d0">{}</data><data key="d3">4</data></edge>
-  </graph>
-</graphml>
-"""
-
-
-def graphml_files(checks, scratch, guide):
-    """Edges out of GraphML: names, whole numbers with a point, edges without a direction, and what is refused."""
-    write(scratch, "links.graphml", GRAPHML.format(7))
-    path, ends = os.path.join(scratch, "links.graphml"), ("Köln", '"Bonn, West"')
-    names = "c node 1 Köln\nc node 2 Bonn, West\np max 2 3\nn 1 s\nn 2 t\n"
-    for words, arcs in (((), "a 1 2 1000\na 2 1 7\na 1 2 7\n"), (("--unit",), "a 1 2 1\na 2 1 1\na 1 2 1\n")):
-        checks.equal(f"table.py: GraphML {words}", guide("table.py", *words, path, *ends), (0, names + arcs, ""))
-    checks.equal("lower.py: GraphML", guide("lower.py", path, *ends), (
-        1, "", "lower.py: links.graphml: edge 2, to: a link with lower limits needs a direction\n"))
-    write(scratch, "directed.graphml", GRAPHML.format(7).replace(' directed="false"', ""))
-    checks.equal("lower.py: GraphML with directions", guide("lower.py", os.path.join(scratch, "directed.graphml"), *ends), (
-        0, "value 30\nKöln -> Bonn, West: 30 of 0 to 30\nBonn, West -> Köln: 0 of 0 to 4\n", ""))
-    for text, expected in (
-            (GRAPHML.format(7.5), "edge 2, capacity: '7.5' isn't a whole number from 0; decimals want a smaller unit, the "
-                                  "same in all rows"),
-            (GRAPHML.format(""), "edge 2, capacity: nothing stands here"),
-            (GRAPHML.format(7).replace('target="n0"', 'target="n2"'), "edge 2, to: 'n2' isn't a node"),
-            (GRAPHML.format(7).replace('"capacity"', '"weight"'), "no edge has the attribute 'capacity'")):
-        write(scratch, "links.graphml", text)
-        checks.equal(f"table.py: GraphML, {expected}", guide("table.py", path, *ends), (
-            1, "", f"table.py: links.graphml: {expected}\n"))
-    for text, expected in (("<graphml/>", "links.graphml has no edge of GraphML"),
-                           ("from,to", "links.graphml isn't GraphML: syntax error: line 1, column 0")):
-        write(scratch, "links.graphml", text)
-        checks.equal(f"table.py: {text}", guide("table.py", path, *ends), (1, "", f"table.py: {expected}\n"))
-
-
-def refused_tables(checks, scratch, guide):
-    """Tables that the scripts of the guide refuse."""
-    write(scratch, "latin.csv", "from,to,capacity\nA,B,1\n")
-    with open(os.path.join(scratch, "latin.csv"), "ab") as file:
-        file.write("Köln,B,2\n".encode("latin-1"))
-    write(scratch, "quote.csv", 'from,to,capacity\nA,B,1\n"A,B,2\n')
-    write(scratch, "latin_1.csv", "from,to,capacity\nA,B,1\n")
-    write(scratch, "limit.csv", "from,to,low,high\nA,B,1,2\n")
-    write(scratch, "low.csv", "from,to,low,high\nA,B,3,2\n")
-    write(scratch, "out.csv", "from,to,capacity\nA,B,1\nB,A (out),1\n")
-    write(scratch, "limits.csv", "site,capacity\nA,1\n")
-    write(scratch, "many.csv", f"from,to,capacity\nA,B,{2 ** 64 - 1}\nA,B,inf\n")
-    for words, expected in (
-            ("latin A B", "latin.csv: row 3 isn't UTF-8; save the table as 'CSV UTF-8'"),
-            ("quote A B", "quote.csv: row 3 isn't a row of a table: unexpected end of data"),
-            ("table Ann B", "'Ann' isn't in table.csv"),
-            ("latin_1 A A,A", "'A,A' names a node twice, or none"),
-            ("many A B", f"many.csv: the capacities make {2 ** 64 - 1} together, which leaves none for inf, since the "
-                         f"greatest is {2 ** 64 - 1}"),
-            ("low A B", "low.csv: row 2, column low: 3 is greater than high, which is 2"),
-            ("limit A A", "'A' is a source and a sink"),
-            ("out A B", "limits.csv: row 2, column site: 'A (out)' is the name of another site"),
-            ("limit A B", "limit.csv: row 1: the column capacity isn't among from, to, low, high"),
-            ("none A B", "[Errno 2] No such file or directory: 'none.csv'")):
-        name, *ends = words.split()
-        script = "lower.py" if words in ("low A B", "limit A A") else "table.py"
-        sites = ["--sites", os.path.join(scratch, "limits.csv")] if name == "out" else []
-        found = guide(script, *sites, os.path.join(scratch, f"{name}.csv"), *ends)
-        checks.equal(f"{script} {words}", found, (1, "", f"{script}: {expected}\n"))
-
-
-def refused_places(checks, guide):
-    """Places that aren't in the picture, or are marked as both."""
-    spot = os.path.join(EXAMPLES, "guide", "spot.pgm")
-    for objects, background, expected in (
-            ("8,0", "0,0", "column 8, row 0: the picture has the columns 0 to 7 and the rows 0 to 5"),
-            ("0,6", "0,0", "column 0, row 6: the picture has the columns 0 to 7 and the rows 0 to 5"),
-            ("3,2 0,0", "0,0", "column 0, row 0: marked as object and as background"),
-            ("3;2", "0,0", "'3;2' isn't COLUMN,ROW")):
-        found = guide("picture.py", "problem", spot, objects, background)
-        checks.equal(f"picture.py: {objects}", found, (1, "", f"picture.py: {expected}\n"))
-
-
-def endings(checks, scratch):
-    """A script whose output nobody reads, and one that is interrupted, end without a traceback."""
-    write(scratch, "long.csv", "from,to,capacity\n" + "".join(f"N{row},N{row + 1},{row}\n" for row in range(30_000)))
-    words = [sys.executable, "-B", "examples/guide/table.py", os.path.join(scratch, "long.csv"), "N0", "N9"]
-    reader, writer = os.pipe()
-    os.close(reader)
-    done = subprocess.run(words, stdout=writer, stderr=subprocess.PIPE, text=True, check=False, cwd=ROOT)
-    os.close(writer)
-    checks.equal("table.py: a closed pipe", (done.returncode, done.stderr), (1, ""))
-    waiting = [sys.executable, "-B", "examples/guide/names.py", os.path.join(scratch, "long.csv")]
-    with subprocess.Popen(waiting, stdin=subprocess.PIPE, stdout=subprocess.PIPE, stderr=subprocess.PIPE, text=True,
-                          cwd=ROOT) as names:
-        names.stdin.write("s 1\n")
-        names.stdin.flush()
-        time.sleep(0.7)
-        names.send_signal(signal.SIGINT)
-        _, complaint = names.communicate()
-    checks.equal("names.py: an interrupt", (names.returncode, complaint), (-signal.SIGINT, ""))
 
 
 def common_module(checks, flow):

@@ -19,6 +19,7 @@ import sys
 import tempfile
 from itertools import combinations
 
+import example_guide as guide
 import example_pictures as pictures
 import example_places
 import example_tables as tables
@@ -49,6 +50,15 @@ BY_HAND = {
                    "the loss of Skerry to Holme and Skerry to Kelby cuts off Skerry",
                    "the loss of Dunmore to Marsh and Garth to Priory cuts off Marsh, Ness, Orford, Priory, Quay"),
 }
+
+
+CHECKS = (
+    tables.small_limits, tables.first_rosters, tables.large_roster, tables.days_in_a_column, tables.units_of_roads,
+    tables.small_chain, tables.crowded_hub, tables.new_links, tables.large_network, tables.complaints, guide.failures,
+    guide.limited_flows, guide.guide_scripts, guide.endings, example_places.places_of_results,
+    example_places.packaged_pages, pictures.png_files, pictures.segmentation_options, pictures.painted_strokes,
+    pictures.refused_strokes)
+"""What is tried beside the data that ships, each in a scratch folder of its own."""
 
 
 def blocks(name, language):
@@ -260,15 +270,8 @@ def main():
             elif networkx:
                 segmentation_by_networkx(checks, flow, scratch)
             small[name](checks, flow, os.path.join(folder, f"small {name}"))
-        for check in (tables.small_limits, tables.units_of_roads, tables.first_rosters, tables.large_roster, tables.days_in_a_column, tables.small_chain, tables.crowded_hub,
-                      tables.new_links, tables.large_network, tables.complaints, tables.failures, tables.limited_flows, tables.guide_scripts, example_places.places_of_results,
-                      example_places.packaged_pages):
+        for check in CHECKS:
             check(checks, flow, os.path.join(folder, check.__name__))
-        tables.endings(checks, os.path.join(folder, "endings"))
-        pictures.png_files(checks, folder)
-        pictures.segmentation_options(checks, flow, os.path.join(folder, "options"))
-        pictures.painted_strokes(checks, flow, os.path.join(folder, "painted"))
-        pictures.refused_strokes(checks, flow, os.path.join(folder, "strokes"))
     tables.common_module(checks, flow)
     tables.copies(checks, flow)
     for name, module in (("networkx", "networkx"), ("scipy", "scipy"), ("pixels", "numpy")):

@@ -3,8 +3,8 @@
 
 Usage: failures.py [--both-ways] TABLE SOURCE[,SOURCE ..] SINK[,SINK ..]
 
-TABLE is a CSV or GraphML file as table.py reads it. What is printed is the greatest value; then each link whose failure lowers
-it, and each site but the sources and sinks, with the value that is left; and how many don't matter.
+TABLE is a CSV or GraphML file as table.py reads it. What is printed is the greatest value; then each link, and each
+site but the sources and sinks, whose failure lowers it, with the value that is left; and how many can fail alone.
 """
 
 import argparse

@@ -3,9 +3,9 @@
 
 Usage: lower.py [--least] TABLE SOURCE[,SOURCE ..] SINK[,SINK ..]
 
-TABLE is a CSV or GraphML file with the columns from, to, low and high: the least and the most that flows from one end to the
-other. What is printed is the value and the flow of each row. Where no flow keeps the limits, a set of nodes is printed
-into which more must come than can leave it, or the other way round.
+TABLE is a CSV or GraphML file with the columns from, to, low and high: the least and the most that flows from one end
+to the other. What is printed is the value and the flow of each row. Where no flow keeps the limits, a set of nodes is
+printed into which more must come than can leave it, or the other way round.
 """
 
 import argparse

@@ -4,12 +4,12 @@
 Usage: table.py [--both-ways] [--unit] [--sites SITES] TABLE SOURCE[,SOURCE ..] SINK[,SINK ..] > PROBLEM
 
 TABLE is a CSV file with the columns from, to and capacity, or a GraphML file (.graphml) whose edges have the attribute
-capacity; an edge without a direction becomes two arcs. A capacity is a whole number, or `inf`: one more than all
-the others together, which no cut pays where it needn't. With --both-ways a link can be used in both directions: it
-becomes two arcs. With --unit the capacity of each link is 1, and none need stand there. SITES is a CSV file with the columns site and capacity: no
-more than that passes through the site, which becomes two nodes with an arc between them. A name with a comma stands in
-double quotes, in a table as among the sources and sinks. The problem's comments keep the names, and names.py puts them
-back into what flow prints.
+capacity; an edge without a direction becomes two arcs. A capacity is a whole number, or `inf`: one more than all the
+others together, which no cut pays where it needn't. With --both-ways a link can be used in both directions: it becomes
+two arcs. With --unit the capacity of each link is 1, whatever stands there. SITES is a CSV file with the columns site
+and capacity: no more than that passes through the site, which becomes two nodes with an arc between them. A name with a
+comma stands in double quotes, in a table as among the sources and sinks. The problem's comments keep the names, and
+names.py puts them back into what flow prints.
 """
 
 import argparse

@@ -3,8 +3,8 @@
 
     python3 examples/scheduling/schedule.py [--flow PROGRAM] [--data FOLDER] [--out FOLDER]
 
-It reads people.csv and shifts.csv, writes the problem, runs `flow`, draws the roster and writes it as a table. README.md
-tells the model.
+It reads people.csv and shifts.csv, writes the problem, runs `flow`, draws the roster and writes it as a table.
+README.md tells the model.
 
 Many rosters may fill equally many places, and which of them `flow solve` prints is open. So the roster that is
 drawn is the first of the best ones: pair by pair of shift and person in the order of the files, a pair is kept

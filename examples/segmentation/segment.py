@@ -54,8 +54,8 @@ def factor_of(path, picture, neighbours, may_shrink):
     if may_shrink or fits(width, height):
         return next(factor for factor in range(1, width + height) if fits(-(-width // factor), -(-height // factor)))
     across = next(across for across in range(width, 0, -1) if fits(across, max(1, height * across // width)))
-    raise Refused(f"{path}: {width} by {height} pixels make more than the {MOST_ARCS:,} arcs that flow takes; a picture "
-                  f"of {across} by {max(1, height * across // width)} fits, and --shrink cuts this one smaller")
+    raise Refused(f"{path}: {width} by {height} pixels make more than the {MOST_ARCS:,} arcs that flow takes; a "
+                  f"picture of {across} by {max(1, height * across // width)} fits, and --shrink cuts this one smaller")
 
 
 def link_count(width, height, neighbours):
@@ -278,8 +278,8 @@ def run(example):
               ("by colour alone", cut_out(asked.picture, by_colour))]
     lines = [f"by colour alone: {told(by_colour, asked.truth)}"]
     if asked.factor > 1:
-        lines.insert(0, f"too large for flow, so cut at {asked.small.width} by {asked.small.height} pixels, each of them "
-                        f"{asked.factor} by {asked.factor} of the picture's")
+        lines.insert(0, f"too large for flow, so cut at {asked.small.width} by {asked.small.height} pixels, each of "
+                        f"them {asked.factor} by {asked.factor} of the picture's")
     for neighbours in asked.neighbours:
         mask, words = asked.cut(example, neighbours)
         lines += [words, f"  {told(mask, asked.truth)}"]
@@ -293,8 +293,8 @@ def run(example):
 
 def add_options(parser):
     parser.add_argument("--outline", metavar="NUMBER", type=positive, default=OUTLINE,
-                        help="how much an outline costs, beside colours that don't suit: more leaves fewer pieces, less "
-                             f"finer ones; else {OUTLINE}")
+                        help="how much an outline costs, beside colours that don't suit: more leaves fewer pieces, "
+                             f"less finer ones; else {OUTLINE}")
     parser.add_argument("--neighbours", type=int, choices=sorted(NEIGHBOURS),
                         help="cut with so many neighbours of a pixel alone; else with either number")
     parser.add_argument("--marked-only", action="store_true", help="drop the pieces of the object that have no stroke")

@@ -127,7 +127,7 @@ def some_best_roster(flow, week, problem, least):
     arcs = [(src, dst, low, high) for (src, dst, high), low in zip(problem.arcs, least)]
     units, side = limits.feasible(flow, arcs, problem.sources, problem.sinks)
     if units is None:
-        names = [problem.name(number) for number in side if number in range(1, len(problem.names) + 1)]
+        names = [problem.name(number) for number in side if isinstance(number, int)]
         people = [person for person in week.most if ("week", person) in names]
         can = sum(high for src, dst, _, high in arcs if src in side and dst not in side)
         raise script.Refused(f"people.csv: no roster gives everybody the least: {', '.join(people)} have to work "

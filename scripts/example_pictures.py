@@ -2,6 +2,7 @@
 
 import os
 import struct
+import sys
 import zlib
 
 from example_checks import EXAMPLES, content, example, own_data, png, python, write
@@ -91,6 +92,21 @@ def segmentation_options(checks, flow, scratch):
         "    96 of 192 pixels are object"], f"segment.py: {os.path.join(scratch, 'out')} has no picture.png\n"))
     for words in (("--outline", "0"), ("--outline", "nan"), ("--neighbours", "6")):
         checks.equal(f"segmentation: {words} is refused", cut("--data", one, *words)[:2], (2, []))
+
+
+def shrunk_strokes(checks, *_):
+    """Marks of squares of 2 by 2: a square with both kinds isn't marked, and either kind has to have one."""
+    sys.path.insert(0, os.path.join(EXAMPLES, "segmentation"))
+    import strokes
+    marks = {"object": [(0, 0), (2, 3), (4, 4)], "background": [(1, 1), (7, 7)]}
+    checks.equal("segmentation: shrunk strokes", strokes.shrunk(marks, 2),
+                 {"object": [(1, 1), (2, 2)], "background": [(3, 3)]})
+    try:
+        strokes.shrunk({"object": [(0, 0), (2, 3)], "background": [(1, 1)]}, 2)
+        said = ""
+    except strokes.Refused as failure:
+        said = str(failure)
+    checks.equal("segmentation: no strokes left", said, "no square of 2 by 2 pixels is marked as background alone")
 
 
 FILTERED = (

@@ -57,7 +57,7 @@ CHECKS = (
     tables.small_chain, tables.crowded_hub, tables.new_links, tables.large_network, tables.complaints, guide.failures,
     guide.limited_flows, guide.guide_scripts, guide.endings, example_places.places_of_results,
     example_places.packaged_pages, pictures.png_files, pictures.segmentation_options, pictures.painted_strokes,
-    pictures.refused_strokes)
+    pictures.refused_strokes, pictures.shrunk_strokes)
 """What is tried beside the data that ships, each in a scratch folder of its own."""
 
 

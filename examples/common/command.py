@@ -30,7 +30,8 @@ class Example:
         self.progress = script.Progress()
 
     def each(self):
-        """The runs of the folders that the data lies in: this one, or one for each with a folder for its results."""
+        """The runs of the folders that the data lies in: this one, or for each folder one that has a folder for its
+        results, and doesn't say how far it is."""
         if len(self.words.data) == 1:
             return [self]
         names = [os.path.basename(os.path.abspath(folder)) for folder in self.words.data]
@@ -40,6 +41,7 @@ class Example:
         runs = [copy.copy(self) for _ in names]
         for run_, folder, name in zip(runs, self.words.data, names):
             run_.data, run_.out = folder, os.path.join(self.out, name)
+            run_.progress = script.Progress(shown=False)
         return runs
 
     def input(self, name):

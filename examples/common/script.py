@@ -27,10 +27,10 @@ def run(main):
 
 
 class Progress:
-    """A line on standard error that says how far a script is, where that is a terminal."""
+    """A line on standard error that says how far a script is, where that is a terminal and it is to be shown."""
 
-    def __init__(self):
-        self.shown = sys.stderr.isatty()
+    def __init__(self, shown=True):
+        self.shown = shown and sys.stderr.isatty()
         self.width = 0
 
     def say(self, words):

@@ -317,10 +317,14 @@ def main():
         return 0
     status = 0
     with ProcessPoolExecutor(min(len(runs), os.cpu_count())) as pool:
-        for one, lines in [(one, pool.submit(run, one)) for one in runs]:
+        for place, (one, answer) in enumerate([(one, pool.submit(run, one)) for one in runs], start=1):
+            example.progress.say(f"picture {place} of {len(runs)}")
             try:
-                print("\n".join([f"{one.data}:", *("  " + line for line in lines.result())]), flush=True)
+                lines = [f"{one.data}:", *("  " + line for line in answer.result())]
+                example.progress.say("")
+                print("\n".join(lines), flush=True)
             except (Refused, FlowFailed, OSError) as failure:
+                example.progress.say("")
                 print(f"segment.py: {failure}", file=sys.stderr, flush=True)
                 status = 1
     return status

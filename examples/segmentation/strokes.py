@@ -91,5 +91,8 @@ def read(example, picture):
 def shrunk(marks, factor):
     """The marks of a picture with squares of pixels as one. A square that both kinds of strokes touch isn't marked."""
     squares = {what: {(x // factor, y // factor) for x, y in pixels} for what, pixels in marks.items()}
-    both = squares[OBJECT] & squares[BACKGROUND]
-    return {what: sorted(found - both) for what, found in squares.items()}
+    alone = {what: found - squares[other] for (what, found), other in zip(squares.items(), (BACKGROUND, OBJECT))}
+    for what, found in alone.items():
+        if not found:
+            raise Refused(f"no square of {factor} by {factor} pixels is marked as {what} alone")
+    return {what: sorted(found) for what, found in alone.items()}

@@ -43,6 +43,7 @@ for example in segmentation/segment scheduling/schedule roads/roads redundancy/r
   name=${example%/*}
   said=$(chroot --userspec=nobody: "$root" env PATH=/usr/bin:/bin HOME="$home" LC_ALL=C.UTF-8 \
     python3 "/usr/share/doc/flow/examples/$example.py" | tail -n 1)
+  said=${said%%,*}
   same "the example $name" "${said%/*}" "drawn: $home/flow/out/$name"
 done
 rm -r "$root$home"

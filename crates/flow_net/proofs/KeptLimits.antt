@@ -17,7 +17,7 @@ arcs-map n f arcs keeps h =
     All-map (IsArcWithin n) f arcs (All-weaker (IsArcWithin n) (λ a. IsArcWithin n (f a)) keeps arcs h)
 
 -- and so it keeps the network's
-IsNet-map : (net : Net) (f : Arc → Arc) → IsNet net
+pub IsNet-map : (net : Net) (f : Arc → Arc) → IsNet net
     → ((a : Arc) → IsArcWithin net.nodes a → IsArcWithin net.nodes (f a)) → IsNet (record net { arcs = map f net.arcs })
 IsNet-map net f h keeps = let same = length-map net.arcs f in let most = h.arcs_most in record {
   nodes_least = h.nodes_least;

@@ -11,7 +11,9 @@ pub mod ZeroFlows
 pub mod MaxFlows
 pub mod Connections
 pub mod Upgrades
-pub mod GrowthLemmas
+pub mod Complements
+pub mod ForestLemmas
+pub mod NodeCounts
 pub mod Arrangements
 pub mod ArrangementLaws
 pub mod ArrangedCounts

@@ -13,6 +13,6 @@ pub mod LeastCuts
 pub mod Residual
 pub mod Paths
 pub mod Laws
-pub mod Orders
+pub mod Forests
 pub mod Arrangements
 pub mod Namings

@@ -1,5 +1,5 @@
 //! The laws of maximum flows and minimum cuts. Each is the contract of a function that computes nothing.
-ghost use Rattle.flow_net.specs.Orders.{ConnectivityByGrowth, SameEitherWay};
+ghost use Rattle.flow_net.specs.Forests.{GrowingForests, ConnectivityByForests, BalancedSets, EvenSets};
 ghost use Rattle.flow_net.specs.Arrangements.{SameArranged};
 ghost use Rattle.flow_net.specs.Laws.{WeakDuality, ClosedCut, MaxFlowMinCut, LeastSourceSide, LeastSinkSide};
 ghost use Rattle.flow_net.specs.Laws.{AugmentingPath, PairByFlow, ConnectivityByPairs, UndirectedByBothWays};
@@ -45,20 +45,31 @@ pub fn connectivity_by_pairs()
     ensures { ConnectivityByPairs }
 {}
 
-/// The connectivity is the least of the connectivities between a node and all those before it in an order, both ways,
-/// over every node but the first.
-pub fn connectivity_by_growth()
-    ensures { ConnectivityByGrowth }
-{}
-
-/// In a network both ways the connectivity of a pair is the same either way.
-pub fn same_either_way()
-    ensures { SameEitherWay }
-{}
-
 /// The undirected connectivity is the directed one of the network both ways, with the terminals and without.
 pub fn undirected_by_both_ways()
     ensures { UndirectedByBothWays }
+{}
+
+/// Forests that have no arc in common grow from one node, along arcs that none of them has and by flows. Each of them
+/// brings one more arc into each set without that node, if fewer than k enter it.
+pub fn growing_forests()
+    ensures { GrowingForests }
+{}
+
+/// Where as many arcs leave each node as enter it, as many leave each set of nodes as enter it.
+pub fn balanced_sets()
+    ensures { BalancedSets }
+{}
+
+/// Where an even number of arcs has exactly one end at each node, an even number has exactly one end in each set of
+/// nodes (Euler 1736).
+pub fn even_sets()
+    ensures { EvenSets }
+{}
+
+/// If k such forests are done and a set that is neither empty nor all has k arcs, then k is the connectivity.
+pub fn connectivity_by_forests()
+    ensures { ConnectivityByForests }
 {}
 
 /// More capacity on one arc alone raises the greatest value just where the arc begins in the least source side and ends

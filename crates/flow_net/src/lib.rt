@@ -25,6 +25,3 @@ pub use naming::{is_scattered, name_nodes};
 pub use networks::{Arc, Network, OutOfMemory};
 pub use problems::Problem;
 pub use tables::FlowTable;
-
-#[cfg(test)]
-mod tests;

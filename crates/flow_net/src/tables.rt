@@ -1,6 +1,5 @@
 //! Tables of flows, and counted access to the residual network.
 ghost use Rattle.std.specs.Prelude.{◌≡◌, ◌+◌, ◌*◌, ◌<◌, ◌≤◌, length, replicate, IfOk};
-ghost use Rattle.std.specs.List.{swap};
 ghost use Rattle.flow_net.specs.Nets.{Net, IsNode};
 ghost use Rattle.flow_net.specs.Flows.{Fits};
 ghost use Rattle.flow_net.specs.Residual.{Table, head_of, residual, pushed};
@@ -93,17 +92,6 @@ impl FlowTable {
         } else {
             self.flows[i] -= amount;
         }
-    }
-
-    /// The flows on two arcs change places, as their arcs do by [`Network::exchange`]. The count stays.
-    #[inline(always)]
-    pub fn exchange(&mut self, i: u32, j: u32)
-        requires first { i < length self.old.flows }
-        requires second { j < length self.old.flows }
-        ensures flows { self.new.flows ≡ swap self.old.flows i j }
-        ensures steps { self.new.steps ≡ self.old.steps }
-    {
-        self.flows.swap(i as usize, j as usize);
     }
 
     /// Sets each flow to 0. The count stays.

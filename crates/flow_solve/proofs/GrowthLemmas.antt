@@ -1,4 +1,0 @@
-pub mod Growing
-pub mod SeenCells
-pub mod Prefixes
-pub mod Degrees

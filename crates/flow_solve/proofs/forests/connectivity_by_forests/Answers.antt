@@ -1,0 +1,22 @@
+-- `connectivity_by_forests`: forests one way where that is enough, and else both ways.
+use Rattle.std.proofs.Common.{arith}
+use Rattle.flow_solve.proofs.ForestLemmas.Taken.{connected_once, connected_twice}
+use Rattle.flow_solve.proofs.forests.connectivity_by_forests.Goals as goal
+
+pub are_even-is_even-requires-clause-balanced : goal.are_even-is_even-requires-clause-balanced
+are_even-is_even-requires-clause-balanced c =
+    c.has_balanced_degrees-is_balanced.ensures.balanced c.if-is_balanced.true
+
+pub returns-then-is_balanced-2-clause-connectivity : goal.returns-then-is_balanced-2-clause-connectivity
+returns-then-is_balanced-2-clause-connectivity c =
+    let r = c.in_ok-forth.ensures in
+    connected_once c.args.net.now c.hub-root.result c.in_ok-forth.forth.value r.reached
+    (c.has_balanced_degrees-is_balanced.ensures.balanced c.if-is_balanced-2.true) r.above
+
+-- what was shown one way holds of a lesser number too
+pub returns-clause-connectivity : goal.returns-clause-connectivity
+returns-clause-connectivity c =
+    let r = c.in_ok-forth.ensures in
+    let s = c.in_ok-back.ensures in
+    connected_twice c.args.net.now c.hub-root.result c.in_ok-back.back.value s.reached
+    (λ Y v n i o. omega (arith, r.above Y v n i o, s.fewer)) s.above

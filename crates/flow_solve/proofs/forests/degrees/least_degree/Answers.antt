@@ -1,0 +1,29 @@
+-- The least degree is reached by the set of one node, or of all the others, and is at most the degree of each node.
+use Rattle.std.proofs.Common.{◌-◌, arith}
+use Rattle.std.proofs.Math.Nat.{min-le_left}
+use Rattle.flow_solve.proofs.ForestLemmas.Degrees.{degree_at, out_proper, into_proper}
+use Rattle.flow_net.proofs.Complements.{lesser_proper}
+use Rattle.flow_solve.proofs.forests.degrees.least_degree.Goals as goal
+
+pub returns-clause-reached : goal.returns-clause-reached
+returns-clause-reached c =
+    let o = c.least_of-leaving.ensures.found in
+    let i = c.least_of-entering.ensures.found in
+    let n = c.nodes-n.ensures.is_net in
+    lesser_proper c.args.net.now c.least_of-leaving.result c.least_of-entering.result c.min.result c.min.ensures
+    (out_proper c.args.net.now c.count_degrees.new.out c.count_degrees.new.into o.0 c.least_of-leaving.result n
+    (omega (arith, o.1)) c.count_degrees.ensures o.2)
+    (into_proper c.args.net.now c.count_degrees.new.out c.count_degrees.new.into i.0 c.least_of-entering.result n
+    (omega (arith, i.1)) c.count_degrees.ensures i.2)
+
+pub returns-clause-least : goal.returns-clause-least
+returns-clause-least c = λ v at.
+    let low = at.0 in let high = at.1 in
+    let here = c.least_of-leaving.ensures.least (v - 1) (omega arith) in
+    omega (
+      arith,
+      here,
+      degree_at c.args.net.now v c.count_degrees.new.out c.count_degrees.new.into at c.count_degrees.ensures,
+      c.min.ensures,
+      min-le_left c.least_of-leaving.result c.least_of-entering.result,
+    )

@@ -1,0 +1,87 @@
+-- `join_others`: a node that as many arcs part from the forest is joined to it, and the forest grows on.
+use Rattle.std.proofs.Common.{◌≡◌, ◌≤◌, ◌-◌, ◌∙◌, ℕ, List, length, replicate, set, sym, ap, subst, true, arith}
+use Rattle.std.proofs.lemmas.Bool.{eqb-true}
+use Rattle.flow_net.specs.NodeSets.{just}
+use Rattle.flow_net.specs.Flows.{IsFeasible}
+use Rattle.flow_net.proofs.ZeroFlows.{zeros_feasible}
+use Rattle.flow_solve.specs.declared.forests.growing.TheConstants.{DONE}
+use Rattle.flow_solve.specs.Forests.{IsForest, done_in}
+use Rattle.flow_solve.proofs.ForestLemmas.Joined.{raised_below, balanced_more}
+use Rattle.flow_solve.proofs.ForestLemmas.Taken.{forest_joined, mark_kept, mark_new}
+use Rattle.flow_solve.proofs.forests.join_others.Goals as goal
+
+pub loop-front-init : goal.loop-front-init
+loop-front-init c =
+    let net = c.args.ground.net.now in
+    let t = done_in c.args.state.now in
+    let zeros : c.clear.new.self.flows ≡ replicate (length net.arcs) 0 =
+    c.clear.ensures.flows ∙ ap (λ k. replicate k 0) c.requires.fits.count in
+    record {
+      fits = c.clear.ensures.still_fits net c.requires.fits;
+      stand = c.requires.stand;
+      root = c.requires.done;
+      balanced = subst (λ (z : List ℕ). IsFeasible net t t z) (sym zeros) (zeros_feasible net t t);
+      reached = c.requires.reached;
+      fewer = omega arith;
+      forest = λ k f. f;
+      paid = record {
+        never_lowered = omega (arith, c.clear.ensures.steps);
+        left = omega arith;
+        steps = omega (arith, c.clear.ensures.steps);
+      };
+    }
+
+-- the forest as it is when the node is joined
+pub grow-front-requires : goal.grow-front-requires
+grow-front-requires c =
+    let j = c.loop-front.invariant in
+    record {
+      stand = record {
+        packed = j.stand.packed;
+        root = j.stand.root;
+        taken_size = j.stand.taken_size;
+        state_size = omega (arith, c.reach-front.auto.state, c.raise.auto.state, j.stand.state_size);
+        begun = j.stand.begun;
+      };
+    }
+
+pub loop-front-preserved : goal.loop-front-preserved
+loop-front-preserved c =
+    let ground = c.args.ground in
+    let net = ground.net.now in
+    let j = c.loop-front.invariant in
+    let r = c.in_ok-least.ensures in
+    let w = c.next_node-front.result.node in
+    let old = c.loop-front.state in
+    let kept = c.raise.new.state in
+    let g = c.grow-front.ensures.grown in
+    let joined : c.reach-front.new.state ≡ set kept (w - 1) DONE = c.reach-front.ensures.reached in
+    let low = r.node.0 in let high = r.node.1 in
+    let room : w ≤ length kept = omega (arith, c.raise.auto.state, j.stand.state_size) in
+    let here : (v : ℕ) → done_in old v ≡ true → done_in c.grow-front.new.state v ≡ true =
+    λ v h. g.more v (subst (λ (z : List ℕ). done_in z v ≡ true) (sym joined)
+    (mark_kept DONE kept w v low room (r.done v ∙ h))) in
+    let node : done_in c.grow-front.new.state w ≡ true =
+    g.more w (subst (λ (z : List ℕ). done_in z w ≡ true) (sym joined) (mark_new DONE kept w low room)) in
+    record {
+      fits = r.fits;
+      stand = g.stand;
+      root = here ground.root j.root;
+      balanced = balanced_more net (just w) (done_in old) (done_in c.grow-front.new.state) c.raise.new.flow.flows
+          r.raised.feasible (λ v h. ap (done_in c.grow-front.new.state) (eqb-true v w h) ∙ node) here;
+      reached = r.reached;
+      fewer = omega (arith, j.fewer, r.fewer);
+      forest = λ k f.
+          g.forest c.in_ok-least.least.value k
+          (subst (λ (z : List ℕ). IsForest ground c.in_ok-least.least.value k c.loop-front.halves c.loop-front.taken z)
+          (sym joined)
+          (forest_joined ground c.in_ok-least.least.value c.loop-front.least.value k w c.loop-front.halves
+          c.loop-front.taken old kept r.node room r.done
+          (raised_below ground.direction net w (done_in old) c.raise.new.flow.flows c.in_ok-least.least.value
+          j.stand.packed.limits c.requires.unit r.raised) r.fewer (j.forest k f)));
+      paid = record {
+        never_lowered = omega (arith, j.paid.never_lowered, r.paid.never_lowered);
+        left = omega (arith, j.paid.left, r.paid.left);
+        steps = omega (arith, j.paid.steps, r.paid.steps);
+      };
+    }

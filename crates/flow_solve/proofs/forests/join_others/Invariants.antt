@@ -1,0 +1,22 @@
+-- `join_others`: the forest has come to more nodes, the flow is balanced at the others, and its steps are paid.
+use Rattle.std.proofs.Common.{◌≡◌, ℕ, ◌-◌, ◌≤◌, true}
+use Rattle.flow_net.specs.Flows.{Fits, IsFeasible}
+use Rattle.flow_solve.specs.Forests.{IsForest, IsReached, IsStand, done_in}
+use Rattle.flow_solve.specs.Steps.{PaysSteps}
+use Rattle.flow_solve.proofs.forests.join_others.Given as goal
+
+abbrev pub invariant-loop-front : goal.invariant-loop-front
+invariant-loop-front l = record {
+  fits : Fits l.ground.net.now l.flow.flows;
+  stand : IsStand l.ground l.halves l.taken l.state;
+  root : done_in l.state l.ground.root ≡ true;
+  balanced : IsFeasible l.ground.net.now (done_in l.state) (done_in l.state) l.flow.flows;
+  reached : IsReached l.ground.net.now l.least.value;
+  fewer : l.least.value ≤ l.fn.least.value;
+  forest : (c : ℕ) → IsForest l.ground l.fn.least.value c l.fn.halves l.fn.taken l.fn.state
+      → IsForest l.ground l.least.value c l.halves l.taken l.state;
+  paid : PaysSteps l.fn.flow l.fn.least.left l.flow l.least.left;
+}
+
+abbrev pub decreases-loop-front : goal.decreases-loop-front
+decreases-loop-front l = l.nodes - l.front.count

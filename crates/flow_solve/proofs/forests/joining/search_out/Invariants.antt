@@ -1,0 +1,16 @@
+-- `search_out`: the forest has come to the same nodes, and the looks are paid.
+use Rattle.std.proofs.Common.{◌-◌}
+use Rattle.flow_net.specs.Flows.{Fits}
+use Rattle.flow_solve.specs.Forests.{KeepsDone}
+use Rattle.flow_solve.specs.Steps.{PaysLooks}
+use Rattle.flow_solve.proofs.forests.joining.search_out.Given as goal
+
+abbrev pub invariant-loop-search : goal.invariant-loop-search
+invariant-loop-search l = record {
+  fits : Fits l.ground.net.now l.flow.flows;
+  done : KeepsDone l.fn.state l.state;
+  looks : PaysLooks l.fn.flow l.fn.left l.flow l.search.left;
+}
+
+abbrev pub decreases-loop-search : goal.decreases-loop-search
+decreases-loop-search l = l.nodes - l.search.at

@@ -1,0 +1,267 @@
+//! Edge connectivity by disjoint forests from one root.
+//!
+//! A forest grows from the root in depth, over arcs that no forest before it has. A node that it doesn't come to is
+//! joined by a flow: from the nodes that the forest has come to, as much as the least number so far, or the least
+//! number falls to what the flow is worth; then the forest grows on from that node. So each forest brings one more arc
+//! into each set of nodes without the root, if not as many as the least number enter it already; and when there are as
+//! many forests, that number is the connectivity, as far as sets without the root are concerned. A set with the root is
+//! left by the arcs that enter the other nodes: the forests grow in the network with each arc turned round as well,
+//! unless as many arcs leave each node as enter it.
+//!
+//! The flow is kept from node to node: one that has been joined needs no conservation, so the flow stays feasible, and
+//! at the next node its value is 0. Which way a forest grows, which node is joined next and how a path is found is
+//! hint: nothing is proved of it but that it stays within the cells. What is found is tested as it is used: each
+//! half-arc of a path when a unit is pushed over it, each half-arc that leaves the nodes that a search has seen when no
+//! more can be raised, and at the end of a forest whether it has all nodes. All looks and pushes are counted against a
+//! number that the caller sets; where it is used up, or a test fails, the answer is none.
+//!
+//! With `n` nodes the `5·n` cells in front of the packed half-arcs are, in this order:
+//!
+//! | Cells | What they hold |
+//! |---|---|
+//! | `n` | for each node up to which place its half-arcs are taken by forests |
+//! | `n` | whether the forest has come to a node, and whether a search has seen it |
+//! | `n` | where a forest goes on at a node that it has come to; for another the half-arc by which a search came |
+//! | `n` | the nodes that the forest goes back to; the queue of a search |
+//! | `n` | the nodes near which the next one is looked for |
+ghost use Rattle.std.specs.Prelude.{◌≡◌, ℕ, Bool, ◌+◌, ◌*◌, ◌≤◌, ◌<◌, ◌-◌, IfSome, IsTrue, if◌then◌else◌, length};
+ghost use Rattle.std.specs.List.{All};
+ghost use Rattle.flow_net.specs.Nets.{IsNode};
+ghost use Rattle.flow_net.specs.Flows.{Fits};
+ghost use Rattle.flow_net.specs.Connectivity.{leaving, IsProper};
+ghost use Rattle.flow_net.specs.LeastCuts.{IsConnectivity};
+ghost use Rattle.flow_solve.specs.residual.Packs.{IsPacked};
+ghost use Rattle.flow_solve.specs.Bounds.{work_cells};
+ghost use Rattle.flow_solve.specs.Forests.{AreAbove, IsEulerian, IsForest, IsGrove, IsReached, IsStand, PaysIfAny};
+ghost use Rattle.flow_solve.specs.Forests.{done_in};
+
+pub(crate) mod degrees;
+mod growing;
+mod joining;
+
+use crate::residual::half_arcs::Direction;
+use crate::residual::packing::pack;
+use degrees::{are_even, has_balanced_degrees};
+use flow_net::{FlowTable, Network};
+use growing::{DONE, Front, begin, grow, is_whole, next_node, reach};
+use joining::{Budgeted, raise};
+
+/// Where forests grow.
+#[derive(Clone, Copy)]
+pub(crate) struct Ground<'a> {
+    /// The network.
+    pub net: &'a Network,
+    /// For each node the place of its first half-arc, and at the end that of the first self-loop.
+    pub first: &'a [u32],
+    /// The node from which each forest grows.
+    pub root: u32,
+    /// Which way a search goes from a node to those that a forest has come to. Backwards, the forests grow along arcs;
+    /// forwards, against them.
+    pub direction: Direction,
+}
+
+/// Joins the nodes that a forest hasn't come to, one after the other, and lets the forest grow on from each, as long as
+/// the least number is greater than that of the forests before it. Answers the least number afterwards, or nothing
+/// where looks and pushes are used up or a test fails.
+fn join_others(
+    ground: Ground<'_>,
+    halves: &mut [u32],
+    taken: &mut [u32],
+    state: &mut [u32],
+    hints: &mut [u32],
+    flow: &mut FlowTable,
+    front: Front,
+    count: u64,
+    least: Budgeted,
+) -> Option<Budgeted>
+    requires fits { Fits ground.net.now flow.old.flows }
+    requires unit { All (λ a. a.cap ≡ 1) ground.net.now.arcs }
+    requires stand { IsStand ground halves.old taken.old state.old }
+    requires done { IsTrue (done_in state.old ground.root) }
+    requires reached { IsReached ground.net.now least.value }
+    ensures fits { Fits ground.entry.net.now flow.new.flows }
+    ensures stand { IfSome result (λ _. IsStand ground.entry halves.new taken.new state.new) }
+    ensures forest { IfSome result (λ r. (c : ℕ) → IsForest ground.entry least.value c halves.old taken.old state.old
+        → IsForest ground.entry r.value c halves.new taken.new state.new) }
+    ensures reached { IfSome result (λ r. IsReached ground.entry.net.now r.value) }
+    ensures fewer { IfSome result (λ r. r.value ≤ least.value) }
+    ensures paid { PaysIfAny flow.old least.left flow.new result }
+{
+    let nodes = ground.net.nodes();
+    if front.count >= nodes {
+        return Some(least);
+    }
+    flow.clear();
+    let mut front = front;
+    let mut least = least;
+    while front.count < nodes && least.value > count {
+        front = next_node(ground, halves, state, hints, front);
+        least = raise(ground, halves, state, hints, flow, front.node, least)?;
+        front = reach(ground, state, hints, front);
+        front = grow(ground, halves, taken, state, hints, front);
+    }
+    Some(least)
+}
+
+/// Lets one more forest grow to all nodes, if it is needed. Answers the least number afterwards, which may be no
+/// greater than that of the forests before this one: then it wasn't needed. Answers nothing where looks and pushes are
+/// used up or a test fails.
+fn grow_forest(
+    ground: Ground<'_>,
+    halves: &mut [u32],
+    taken: &mut [u32],
+    state: &mut [u32],
+    hints: &mut [u32],
+    flow: &mut FlowTable,
+    count: u64,
+    least: Budgeted,
+) -> Option<Budgeted>
+    requires fits { Fits ground.net.now flow.old.flows }
+    requires unit { All (λ a. a.cap ≡ 1) ground.net.now.arcs }
+    requires stand { IsStand ground halves.old taken.old state.old }
+    requires reached { IsReached ground.net.now least.value }
+    ensures fits { Fits ground.entry.net.now flow.new.flows }
+    ensures stand { IfSome result (λ _. IsStand ground.entry halves.new taken.new state.new) }
+    ensures kept { IfSome result (λ r. IsGrove ground.entry least.value count halves.old taken.old
+        → IsGrove ground.entry r.value count halves.new taken.new) }
+    ensures grove { IfSome result (λ r. count < r.value → IsGrove ground.entry least.value count halves.old taken.old
+        → IsGrove ground.entry r.value (count + 1) halves.new taken.new) }
+    ensures reached { IfSome result (λ r. IsReached ground.entry.net.now r.value) }
+    ensures fewer { IfSome result (λ r. r.value ≤ least.value) }
+    ensures paid { PaysIfAny flow.old least.left flow.new result }
+{
+    let front = begin(ground, state, hints);
+    let front = grow(ground, halves, taken, state, hints, front);
+    let least = join_others(
+        ground, halves, taken, state, hints, flow, front, count, least,
+    )?;
+    if least.value <= count {
+        return Some(least);
+    }
+    if !is_whole(state) {
+        return None;
+    }
+    Some(least)
+}
+
+/// How many forests show that a number is the least: one less where all sets have even numbers.
+fn forests_for(least: u64, is_even: bool) -> u64
+    ensures few { result ≤ least }
+    ensures all { result ≡ least - (if is_even then 1 else 0) }
+{
+    if is_even {
+        least.saturating_sub(1)
+    } else {
+        least
+    }
+}
+
+/// Lets as many forests grow as there have to be. `least` holds the least number so far and how many looks and pushes
+/// are left; the answer is the same afterwards, or nothing where they are used up or a test fails.
+fn run_pass(
+    ground: Ground<'_>,
+    halves: &mut [u32],
+    cells: &mut [u32],
+    flow: &mut FlowTable,
+    is_even: bool,
+    least: Budgeted,
+) -> Option<Budgeted>
+    requires fits { Fits ground.net.now flow.old.flows }
+    requires unit { All (λ a. a.cap ≡ 1) ground.net.now.arcs }
+    requires packed { IsPacked ground.net.now ground.first.now halves.old }
+    requires root { IsNode ground.net.now ground.root }
+    requires cells { length cells.old ≡ 5 * ground.net.now.nodes }
+    requires even { IsTrue is_even → IsEulerian ground.net.now }
+    requires reached { IsReached ground.net.now least.value }
+    ensures fits { Fits ground.entry.net.now flow.new.flows }
+    ensures packed { IfSome result (λ _. IsPacked ground.entry.net.now ground.entry.first.now halves.new) }
+    ensures above { IfSome result (λ r. AreAbove ground.entry r.value) }
+    ensures reached { IfSome result (λ r. IsReached ground.entry.net.now r.value) }
+    ensures fewer { IfSome result (λ r. r.value ≤ least.value) }
+    ensures paid { PaysIfAny flow.old least.left flow.new result }
+{
+    let n = ground.net.nodes() as usize;
+    let (taken, rest) = cells.split_at_mut(n);
+    let (state, hints) = rest.split_at_mut(n);
+    taken.copy_from_slice(&ground.first[..n]);
+    let mut least = least;
+    let mut count = 0;
+    while count < forests_for(least.value, is_even) {
+        least = grow_forest(ground, halves, taken, state, hints, flow, count, least)?;
+        if least.value <= count {
+            return Some(least);
+        }
+        count += 1;
+    }
+    Some(least)
+}
+
+/// A node that the most half-arcs leave.
+fn hub(net: &Network, first: &[u32]) -> u32
+    requires size { length first.now ≡ net.now.nodes + 1 }
+    ensures { IsNode net.now result }
+{
+    let mut best = 0;
+    let mut most = 0;
+    for node in 0..net.nodes() {
+        let count = first[node as usize + 1].saturating_sub(first[node as usize]);
+        if count > most {
+            best = node;
+            most = count;
+        }
+    }
+    best + 1
+}
+
+/// The edge connectivity of a network in which every capacity is 1, where a set of nodes is known that `least` arcs
+/// leave and that is neither empty nor all. It takes at most `budget` looks and pushes, and answers nothing where these
+/// don't suffice or a test fails.
+///
+/// That it answers at all is tested, and not promised: a body that always answers nothing meets this contract. Whoever
+/// calls it needs another way to the number, as `connectivity` of `flow_tools` has, and so is right either way.
+///
+/// It takes no memory: it works in the first [`work_len`](crate::work_len) cells of `work`.
+pub fn connectivity_by_forests(
+    net: &Network,
+    least: u64,
+    flow: &mut FlowTable,
+    work: &mut [u32],
+    budget: u64,
+) -> Option<u64>
+    requires fits { Fits net.now flow.old.flows }
+    requires unit { All (λ a. a.cap ≡ 1) net.now.arcs }
+    requires reached { (X : ℕ → Bool) × IsProper net.now X × (leaving net.now X ≡ least) }
+    requires cells { length work.old ≡ work_cells net.now }
+    ensures connectivity { IfSome result (λ k. IsConnectivity net.now k) }
+    ensures never_lowered { flow.old.steps ≤ flow.new.steps }
+    ensures steps { flow.new.steps ≤ flow.old.steps + budget }
+    ensures still_fits { Fits net.now flow.new.flows }
+{
+    let n = net.nodes() as usize;
+    let m = net.len() as usize;
+    let (cells, rest) = work.split_at_mut(5 * n);
+    let (first, rest) = rest.split_at_mut(n + 1);
+    let (halves, _) = rest.split_at_mut(2 * m);
+    pack(net, first, halves);
+    let is_balanced = has_balanced_degrees(net, cells);
+    let is_even = is_balanced && are_even(net, cells);
+    let root = hub(net, first);
+    let first: &[u32] = first;
+    let mut ground = Ground {
+        net,
+        first,
+        root,
+        direction: Direction::Backwards,
+    };
+    let start = Budgeted {
+        value: least,
+        left: budget,
+    };
+    let forth = run_pass(ground, halves, cells, flow, is_even, start)?;
+    if is_balanced {
+        return Some(forth.value);
+    }
+    ground.direction = Direction::Forwards;
+    let back = run_pass(ground, halves, cells, flow, false, forth)?;
+    Some(back.value)
+}

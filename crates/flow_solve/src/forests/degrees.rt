@@ -1,0 +1,107 @@
+//! How many arcs leave and enter each node. The connectivity is no more than the least of these numbers.
+//!
+//! Where as many arcs leave each node as enter it, forests one way are enough. Such a network is Eulerian if
+//! it is connected. Networks both ways are balanced, with their arcs in any order, and directed rings.
+ghost use Rattle.std.specs.Prelude.{◌≡◌, ℕ, ◌-◌, ◌*◌, ◌≤◌, ◌<◌, Bool, IsTrue, length, slice_index};
+ghost use Rattle.flow_net.specs.Nets.{IsNode};
+ghost use Rattle.flow_net.specs.NodeSets.{just};
+ghost use Rattle.flow_net.specs.Connectivity.{leaving, IsProper};
+ghost use Rattle.flow_net.specs.Forests.{IsEitherWay};
+ghost use Rattle.flow_solve.specs.Forests.{AreDegrees, AreOpposite, IsEulerian};
+
+use flow_net::Network;
+
+/// Counts the arcs that leave and that enter each node, self-loops left out, in one pass over the arcs.
+fn count_degrees(net: &Network, out: &mut [u32], into: &mut [u32])
+    requires out { length out.old ≡ net.now.nodes }
+    requires into { length into.old ≡ net.now.nodes }
+    ensures { AreDegrees net.now.nodes net.now.arcs out.new into.new }
+{
+    // Brings the network's limits, `IsNet`, into the proof.
+    let _ = net.nodes();
+    out.fill(0);
+    into.fill(0);
+    for i in 0..net.len() {
+        let arc = net.arc(i);
+        if arc.src != arc.dst {
+            out[arc.src as usize - 1] += 1;
+            into[arc.dst as usize - 1] += 1;
+        }
+    }
+}
+
+/// The least of some numbers, of which there is at least one.
+fn least_of(numbers: &[u32]) -> u32
+    requires { 0 < length numbers.now }
+    ensures found { (i : ℕ) × (i < length numbers.now) × (slice_index numbers.now i ≡ result) }
+    ensures least { (i : ℕ) → i < length numbers.now → result ≤ slice_index numbers.now i }
+{
+    let mut least = numbers[0];
+    for number in numbers {
+        if *number < least {
+            least = *number;
+        }
+    }
+    least
+}
+
+/// The least number of arcs that leave a node, or that enter one: the connectivity is no greater.
+pub fn least_degree(net: &Network, cells: &mut [u32]) -> u64
+    requires cells { 2 * net.now.nodes ≤ length cells.old }
+    ensures reached { (X : ℕ → Bool) × IsProper net.now X × (leaving net.now X ≡ result) }
+    ensures least { (v : ℕ) → IsNode net.now v → result ≤ leaving net.now (just v) }
+{
+    let n = net.nodes() as usize;
+    let (counts, _rest) = cells.split_at_mut(2 * n);
+    let (out, into) = counts.split_at_mut(n);
+    count_degrees(net, out, into);
+    let leaving = least_of(out);
+    let entering = least_of(into);
+    leaving.min(entering) as u64
+}
+
+/// Whether as many arcs leave each node as enter it: as many then leave each set of nodes as enter it. It works in the
+/// first cells of `degrees`, two for each node.
+pub(crate) fn has_balanced_degrees(net: &Network, degrees: &mut [u32]) -> bool
+    requires cells { 2 * net.now.nodes ≤ length degrees.old }
+    ensures balanced { IsTrue result → IsEitherWay net.now }
+    ensures leaving { (v : ℕ) → IsNode net.now v → slice_index degrees.new (v - 1) ≡ leaving net.now (just v) }
+{
+    let n = net.nodes() as usize;
+    let (leaving, rest) = degrees.split_at_mut(n);
+    let (entering, _) = rest.split_at_mut(n);
+    count_degrees(net, leaving, entering);
+    let (leaving, entering): (&[u32], &[u32]) = (leaving, entering);
+    leaving == entering
+}
+
+/// Whether the second half of the arcs are those of the first turned round, in their order.
+fn goes_both_ways(net: &Network) -> bool
+    ensures { IsTrue result → AreOpposite net.now.arcs }
+{
+    let half = net.len() / 2;
+    for i in 0..half {
+        let there = net.arc(i);
+        let back = net.arc(half + i);
+        if there.src != back.dst || there.dst != back.src {
+            return false;
+        }
+    }
+    net.len() % 2 == 0
+}
+
+/// Whether an even number of arcs leaves each set of nodes, as the degrees show it in a network both ways. The first
+/// cells have the number of arcs that leave each node.
+pub(crate) fn are_even(net: &Network, degrees: &[u32]) -> bool
+    requires cells { net.now.nodes ≤ length degrees.now }
+    requires leaving { (v : ℕ) → IsNode net.now v → slice_index degrees.now (v - 1) ≡ leaving net.now (just v) }
+    requires balanced { IsEitherWay net.now }
+    ensures { IsTrue result → IsEulerian net.now }
+{
+    for node in 0..net.nodes() {
+        if degrees[node as usize] % 2 == 1 {
+            return false;
+        }
+    }
+    goes_both_ways(net)
+}

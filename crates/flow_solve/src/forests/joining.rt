@@ -1,0 +1,340 @@
+//! A flow between a node and those that a forest has come to.
+ghost use Rattle.std.specs.Prelude.{◌≡◌, ℕ, ◌+◌, ◌-◌, ◌*◌, ◌<◌, ◌≤◌, IfSome, IsTrue, IsFalse, MatchOption, length};
+ghost use Rattle.std.specs.Prelude.{slice_index};
+ghost use Rattle.std.specs.List.{All};
+ghost use Rattle.flow_net.specs.Nets.{IsNode};
+ghost use Rattle.flow_net.specs.Limits.{IsNet};
+ghost use Rattle.flow_net.specs.Flows.{Fits, IsFeasible};
+ghost use Rattle.flow_solve.specs.residual.HalfArcs.{IsClosedFor};
+ghost use Rattle.flow_solve.specs.residual.Packs.{IsPacked};
+ghost use Rattle.flow_solve.specs.Forests.{IsBelow, IsPassed, IsRaised, IsReached, KeepsDone, Pays, PaysIfAny};
+ghost use Rattle.flow_solve.specs.Forests.{done_in, seen_in};
+ghost use Rattle.flow_solve.specs.Steps.{OnlyLooks, PaysLooks};
+
+use crate::forests::Ground;
+use crate::forests::growing::DONE;
+use crate::residual::cells::{get, put};
+use crate::residual::half_arcs::{cross, far, head, near};
+use flow_net::FlowTable;
+
+/// In the cell of a node that a search has seen, and that the forest hasn't come to.
+pub(crate) const SEEN: u32 = 2;
+
+/// A number, and how many looks and pushes are left.
+#[derive(Clone, Copy)]
+pub(crate) struct Budgeted {
+    pub value: u64,
+    pub left: u64,
+}
+
+/// How far a search has come.
+#[derive(Clone, Copy)]
+struct Search {
+    /// The place in its queue of the node whose half-arcs come next.
+    at: u32,
+    /// How many nodes it has seen: the end of its queue.
+    tail: u32,
+    /// The last half-arc of the path that it has found.
+    found: Option<u32>,
+    /// How many looks and pushes are left.
+    left: u64,
+}
+
+/// Looks at a half-arc of a node that the search has seen, if it leads to one that isn't seen. The search sees that
+/// node, or has found a path if the forest has come to it.
+fn search_over(
+    ground: Ground<'_>,
+    state: &mut [u32],
+    hints: &mut [u32],
+    flow: &mut FlowTable,
+    search: Search,
+    half: u32,
+) -> Search
+    requires limits { IsNet ground.net.now }
+    requires fits { Fits ground.net.now flow.old.flows }
+    requires size { length state.old ≡ ground.net.now.nodes }
+    requires half { half < 2 * length ground.net.now.arcs }
+    ensures done { KeepsDone state.old state.new }
+    ensures next { result.at ≡ search.at }
+    ensures looks { PaysLooks flow.old search.left flow.new result.left }
+{
+    let net = ground.net;
+    let mut next = search;
+    let place = head(net, half) as usize - 1;
+    let cell = state[place];
+    if cell == SEEN || search.left == 0 {
+        return next;
+    }
+    next.left -= 1;
+    let over = cross(ground.direction, half);
+    let (_, room) = flow.look(net, over);
+    if room == 0 {
+        return next;
+    }
+    if cell == DONE {
+        next.found = Some(over);
+        return next;
+    }
+    state[place] = SEEN;
+    put(hints, place, over);
+    put(
+        hints,
+        net.nodes() as usize + search.tail as usize,
+        place as u32 + 1,
+    );
+    next.tail = search.tail.saturating_add(1);
+    next
+}
+
+/// Looks at the half-arcs of the next node that the search has seen, until it has found a path.
+fn search_from(
+    ground: Ground<'_>,
+    halves: &[u32],
+    state: &mut [u32],
+    hints: &mut [u32],
+    flow: &mut FlowTable,
+    search: Search,
+) -> Search
+    requires fits { Fits ground.net.now flow.old.flows }
+    requires packed { IsPacked ground.net.now ground.first.now halves.now }
+    requires size { length state.old ≡ ground.net.now.nodes }
+    requires next { search.at < ground.net.now.nodes }
+    ensures done { KeepsDone state.old state.new }
+    ensures next { result.at ≡ search.at + 1 }
+    ensures looks { PaysLooks flow.old search.left flow.new result.left }
+{
+    let first = ground.first;
+    let nodes = ground.net.nodes() as usize;
+    let mut next = search;
+    next.at += 1;
+    let node = get(hints, nodes + search.at as usize) as usize;
+    if node == 0 || node > nodes {
+        return next;
+    }
+    for spot in first[node - 1]..first[node] {
+        if next.found.is_some() {
+            return next;
+        }
+        next = search_over(ground, state, hints, flow, next, halves[spot as usize]);
+    }
+    next
+}
+
+/// Searches from a node until it comes to one that the forest has come to.
+fn search_out(
+    ground: Ground<'_>,
+    halves: &[u32],
+    state: &mut [u32],
+    hints: &mut [u32],
+    flow: &mut FlowTable,
+    node: u32,
+    left: u64,
+) -> Search
+    requires fits { Fits ground.net.now flow.old.flows }
+    requires packed { IsPacked ground.net.now ground.first.now halves.now }
+    requires size { length state.old ≡ ground.net.now.nodes }
+    requires node { IsNode ground.net.now node }
+    requires apart { IsFalse (done_in state.old node) }
+    ensures done { KeepsDone state.old state.new }
+    ensures looks { PaysLooks flow.old left flow.new result.left }
+{
+    let nodes = ground.net.nodes();
+    state[node as usize - 1] = SEEN;
+    put(hints, nodes as usize, node);
+    let mut search = Search {
+        at: 0,
+        tail: 1,
+        found: None,
+        left,
+    };
+    while search.at < search.tail && search.at < nodes && search.found.is_none() {
+        search = search_from(ground, halves, state, hints, flow, search);
+    }
+    search
+}
+
+/// Makes the node at a place unseen, if a search has seen it.
+fn unsee(state: &mut [u32], place: usize)
+    ensures { KeepsDone state.old state.new }
+{
+    if place >= state.len() {
+        return;
+    }
+    if state[place] != SEEN {
+        return;
+    }
+    state[place] = 0;
+}
+
+/// Makes the nodes that a search has seen unseen.
+fn forget(nodes: u32, state: &mut [u32], hints: &[u32], tail: u32)
+    ensures { KeepsDone state.old state.new }
+{
+    for at in 0..tail {
+        let node = get(hints, nodes as usize + at as usize);
+        unsee(state, node.wrapping_sub(1) as usize);
+    }
+}
+
+/// Pushes a unit along the path that a search has found from a node, from its last half-arc back. Answers how many
+/// looks and pushes are left, or nothing where these are used up or the path doesn't lead on.
+fn send(
+    ground: Ground<'_>,
+    state: &[u32],
+    hints: &[u32],
+    flow: &mut FlowTable,
+    node: u32,
+    last: u32,
+    left: u64,
+) -> Option<u64>
+    requires fits { Fits ground.net.now flow.old.flows }
+    requires size { length state.now ≡ ground.net.now.nodes }
+    requires node { IsNode ground.net.now node }
+    requires apart { IsFalse (done_in state.now node) }
+    ensures fits { Fits ground.entry.net.now flow.new.flows }
+    ensures raised { IfSome result (λ _. (value : ℕ)
+        → IsRaised ground.entry.direction ground.entry.net.now node (done_in state.now) flow.old.flows value
+        → IsRaised ground.entry.direction ground.entry.net.now node (done_in state.now) flow.new.flows (value + 1)) }
+    ensures paid { Pays flow.old left flow.new result }
+{
+    let net = ground.net;
+    if last >= 2 * net.len() {
+        return None;
+    }
+    let mut at = far(net, ground.direction, last);
+    let mut half = last;
+    let mut left = left;
+    if state[at as usize - 1] != DONE {
+        return None;
+    }
+    while at != node {
+        if left < 2 || half >= 2 * net.len() || far(net, ground.direction, half) != at {
+            return None;
+        }
+        let (_, room) = flow.look(net, half);
+        if room == 0 {
+            return None;
+        }
+        flow.push(net, half, 1);
+        left -= 2;
+        at = near(net, ground.direction, half);
+        half = get(hints, at as usize - 1);
+    }
+    Some(left)
+}
+
+/// Whether nothing remains on the half-arcs that lead from a node, if it is seen, to nodes that aren't. Answers how
+/// many looks are left, or none if it isn't so.
+fn is_closed_at(
+    ground: Ground<'_>,
+    halves: &[u32],
+    state: &[u32],
+    flow: &mut FlowTable,
+    node: u32,
+    left: u64,
+) -> Option<u64>
+    requires fits { Fits ground.net.now flow.old.flows }
+    requires packed { IsPacked ground.net.now ground.first.now halves.now }
+    requires size { length state.now ≡ ground.net.now.nodes }
+    requires node { IsNode ground.net.now node }
+    ensures passed { IfSome result (λ _. slice_index state.now (node - 1) ≡ SEEN
+        → IsPassed ground.entry flow.old.flows state.now node) }
+    ensures looks { MatchOption result (OnlyLooks flow.old flow.new left) (λ r. PaysLooks flow.old left flow.new r) }
+{
+    let Ground { net, first, .. } = ground;
+    let mut left = left;
+    if state[node as usize - 1] != SEEN {
+        return Some(left);
+    }
+    for spot in first[node as usize - 1]..first[node as usize] {
+        let half = halves[spot as usize];
+        if state[head(net, half) as usize - 1] != SEEN {
+            if left == 0 {
+                return None;
+            }
+            left -= 1;
+            let (_, room) = flow.look(net, cross(ground.direction, half));
+            if room > 0 {
+                return None;
+            }
+        }
+    }
+    Some(left)
+}
+
+/// Tests that nothing remains on the half-arcs that lead out of the nodes that are seen. Answers how many looks are
+/// left, or none if it isn't so.
+fn is_closed(
+    ground: Ground<'_>,
+    halves: &[u32],
+    state: &[u32],
+    flow: &mut FlowTable,
+    left: u64,
+) -> Option<u64>
+    requires fits { Fits ground.net.now flow.old.flows }
+    requires packed { IsPacked ground.net.now ground.first.now halves.now }
+    requires size { length state.now ≡ ground.net.now.nodes }
+    ensures closed { IfSome result
+        (λ _. IsClosedFor ground.entry.direction ground.entry.net.now flow.old.flows (seen_in state.now)) }
+    ensures looks { MatchOption result (OnlyLooks flow.old flow.new left) (λ r. PaysLooks flow.old left flow.new r) }
+{
+    let mut left = left;
+    for node in 1..ground.net.nodes() + 1 {
+        left = is_closed_at(ground, halves, state, flow, node, left)?;
+    }
+    Some(left)
+}
+
+/// Raises the flow between a node and those that the forest has come to, which has the value 0, until it is worth what
+/// is wanted or no more can be raised. Answers what it is worth, or nothing where looks and pushes are used up or a
+/// test fails.
+pub(crate) fn raise(
+    ground: Ground<'_>,
+    halves: &[u32],
+    state: &mut [u32],
+    hints: &mut [u32],
+    flow: &mut FlowTable,
+    node: u32,
+    wanted: Budgeted,
+) -> Option<Budgeted>
+    requires fits { Fits ground.net.now flow.old.flows }
+    requires unit { All (λ a. a.cap ≡ 1) ground.net.now.arcs }
+    requires packed { IsPacked ground.net.now ground.first.now halves.now }
+    requires size { length state.old ≡ ground.net.now.nodes }
+    requires root { IsNode ground.net.now ground.root }
+    requires done { IsTrue (done_in state.old ground.root) }
+    requires balanced { IsFeasible ground.net.now (done_in state.old) (done_in state.old) flow.old.flows }
+    requires reached { IsReached ground.net.now wanted.value }
+    ensures fits { Fits ground.entry.net.now flow.new.flows }
+    ensures node { IfSome result (λ _. IsNode ground.entry.net.now node) }
+    ensures done { KeepsDone state.old state.new }
+    ensures raised { IfSome result (λ r. IsRaised ground.entry.direction ground.entry.net.now node (done_in state.old)
+        flow.new.flows r.value) }
+    ensures reached { IfSome result (λ r. IsReached ground.entry.net.now r.value) }
+    ensures fewer { IfSome result (λ r. r.value ≤ wanted.value) }
+    ensures paid { PaysIfAny flow.old wanted.left flow.new result }
+{
+    let nodes = ground.net.nodes();
+    if node == 0 || node > nodes || state[node as usize - 1] == DONE {
+        return None;
+    }
+    let mut sent = Budgeted {
+        value: 0,
+        left: wanted.left,
+    };
+    while sent.value < wanted.value {
+        let search = search_out(ground, halves, state, hints, flow, node, sent.left);
+        let Some(last) = search.found else {
+            if state[node as usize - 1] != SEEN {
+                return None;
+            }
+            sent.left = is_closed(ground, halves, state, flow, search.left)?;
+            forget(nodes, state, hints, search.tail);
+            return Some(sent);
+        };
+        sent.left = send(ground, state, hints, flow, node, last, search.left)?;
+        sent.value += 1;
+        forget(nodes, state, hints, search.tail);
+    }
+    Some(sent)
+}

@@ -4,11 +4,10 @@
 //! All that can leave the sources does. Then a search backwards from the sinks gives the nodes their levels
 //! (`levelling`), and the farthest level with excess is emptied first, node by node, over half-arcs that lead exactly
 //! one level nearer. A node that is stuck is lifted at once to one more than the nearest node that it leads to, and
-//! goes on (`discharging`). A level from which the last node was lifted away becomes the *ceiling*: nothing there or
-//! farther leads to a sink any more, and what comes there waits for the next search. A wave ends when no excess below
-//! the ceiling is left, or after so many half-arcs that a new search is worth its cost; of a hub's half-arcs only a few
-//! count. Every other node passes its half-arcs from the last to the first, by turns in waves, lest excess drift to one
-//! side.
+//! goes on (`discharging`). The *ceiling* stands some levels above the farthest excess and comes down with it: what the
+//! sweep has left behind and lifts to the ceiling is mostly where nothing leads on, and waits for the next search. A
+//! wave ends when no excess below the ceiling is left, or after so many half-arcs that a new search is worth its cost.
+//! Every other node passes its half-arcs from the last to the first, by turns in waves, lest excess drift to one side.
 //!
 //! In the end the same waves bring home to the sources what no sink takes. A push is held to what a look has shown to
 //! remain; nothing else is claimed of levels, lists and excess: at the end the table is settled (`settling`).
@@ -28,12 +27,11 @@ mod settling;
 use crate::levels::spending::spend;
 use crate::residual::half_arcs::head;
 use crate::residual::packing::Packed;
-use crate::residual::searching::FAR;
 use crate::task::Task;
 use discharging::discharge;
-use excess::{Wave, at_rest, book, level_cell, set_levels, take_listed};
+use excess::{BARRED, UNSEEN, Wave, book, level_of, set_levels, take_listed};
 use flow_net::FlowTable;
-use levelling::{BARRED, search_levels};
+use levelling::search_levels;
 use settling::settle;
 
 /// Sends as much over a half-arc of a source as remains there and as can be booked: nothing to a source, and to a sink
@@ -45,7 +43,7 @@ fn release(packed: Packed<'_>, flow: &mut FlowTable, cells: &mut [u32], half: u3
     ensures steps { TakesSteps flow.old flow.new 2 }
 {
     let node = head(packed.net, half);
-    let level = cells[level_cell(node)];
+    let level = level_of(cells, node);
     if level == BARRED {
         return;
     }
@@ -66,10 +64,11 @@ fn drain(packed: Packed<'_>, flow: &mut FlowTable, cells: &mut [u32], wave: &mut
 {
     let begin = packed.first[node as usize - 1];
     let end = packed.first[node as usize];
-    if spend(&mut wave.left, 2 * u64::from(end - begin)) {
-        for spot in begin..end {
-            release(packed, flow, cells, packed.halves[spot as usize]);
+    for spot in begin..end {
+        if !spend(&mut wave.left, 2) {
+            return;
         }
+        release(packed, flow, cells, packed.halves[spot as usize]);
     }
 }
 
@@ -80,8 +79,8 @@ fn supply(task: Task<'_>, flow: &mut FlowTable, cells: &mut [u32], wave: &mut Wa
     ensures sent { Sends task.entry.packed flow.old wave.old flow.new wave.new }
 {
     let n = task.packed.net.nodes() as usize;
-    cells[..n].fill(FAR);
-    cells[2 * n..4 * n].fill(0);
+    cells[..n].fill(UNSEEN);
+    cells[3 * n..].fill(0);
     set_levels(cells, task.s, BARRED);
     set_levels(cells, task.t, 0);
     for node in task.s {
@@ -95,13 +94,29 @@ fn sweep(packed: Packed<'_>, flow: &mut FlowTable, cells: &mut [u32], wave: &mut
     ensures sent { Sends packed.entry flow.old wave.old flow.new wave.new }
 {
     let nodes = packed.net.nodes();
-    'turns: while wave.farthest > 0 && wave.fuel > 0 && spend(&mut wave.left, 1) {
+    'turns: while wave.farthest > 0 && wave.left > wave.floor && spend(&mut wave.left, 1) {
         let node = take_listed(cells, nodes, wave.farthest);
         if 1 <= node && node <= nodes {
             discharge(packed, flow, cells, wave, node);
         } else {
             wave.farthest = wave.farthest.saturating_sub(1);
+            let ceiling = wave.farthest.saturating_add(wave.reach);
+            wave.ceiling = wave.ceiling.min(ceiling);
         }
+    }
+}
+
+/// How many levels the ceiling stands above the farthest excess at least. With half as many there are more searches, to
+/// much the same effect; with twice as many, frames, layers and netlists pass a third more half-arcs.
+const LEAST_REACH: u32 = 16;
+
+/// The next wave's reach: twice as far where the last one took less than its search, so that chains of dead ends don't
+/// take a search for each few levels; and half as far otherwise.
+fn next_reach(reach: u32, searched: u64, swept: u64) -> u32 {
+    if swept < searched {
+        reach.saturating_mul(2)
+    } else {
+        (reach / 2).max(LEAST_REACH)
     }
 }
 
@@ -112,8 +127,23 @@ fn send(task: Task<'_>, flow: &mut FlowTable, cells: &mut [u32], wave: &mut Wave
     requires barred { All (IsNode task.packed.net.now) task.s.now }
     ensures sent { Sends task.entry.packed flow.old wave.old flow.new wave.new }
 {
+    let mut before = wave.left;
     'waves: while search_levels(task, flow, cells, wave) {
+        let begun = wave.left;
         sweep(task.packed, flow, cells, wave);
+        wave.reach = next_reach(wave.reach, before - begun, begun - wave.left);
+        before = wave.left;
+    }
+}
+
+/// Waves before the first one, which may do so much.
+fn at_rest(allowance: u64) -> Wave
+    ensures { result.left ≡ allowance }
+{
+    Wave {
+        left: allowance,
+        reach: LEAST_REACH,
+        ..Wave::default()
     }
 }
 

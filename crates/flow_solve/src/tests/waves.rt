@@ -147,6 +147,26 @@ const WAYS: &[Ways] = &[
         value: 2 * MOST,
     },
     Ways {
+        name: "a row of all nodes in which less and less goes on, so that excess comes home from each",
+        arcs: &[
+            (1, 2, 21),
+            (2, 3, 20),
+            (3, 4, 18),
+            (4, 5, 17),
+            (5, 6, 16),
+            (6, 7, 14),
+            (7, 8, 13),
+            (8, 9, 9),
+            (9, 10, 8),
+            (10, 11, 6),
+            (11, 12, 4),
+        ],
+        terminals: &[1, 12],
+        k: 1,
+        reached: 4,
+        value: 4,
+    },
+    Ways {
         name: "nothing that leads to the sink",
         arcs: &[(2, 1, 3), (3, 6, 2), (1, 4, 8)],
         terminals: &[1, 6],
@@ -364,4 +384,31 @@ fn waves_fill_roads(rt: HostRuntime) {
         let terminals = [SIDE * 5 + 1, SIDE * 12 + 1, SIDE * 5, SIDE * 12];
         assert!(&rt; waves_reach_all(rt.alloc(), &net, &terminals, 2));
     }
+}
+
+/// How many nodes each of the two chains has.
+const CHAIN: u32 = 60;
+
+/// Adds two chains with rungs between them, from node 1 to node 2, by which each augmenting path is longer than the one
+/// before (Cherkassky and Goldberg 1997). Answers whether all arcs were added.
+#[must_use]
+fn add_growing_paths(net: &mut Network) -> bool {
+    let mut is_added = add(net, 1, 3, u64::from(CHAIN));
+    for i in 0..CHAIN {
+        let (node, other) = (3 + i, 3 + CHAIN + i);
+        let rest = u64::from(CHAIN - 1 - i);
+        if i + 1 < CHAIN {
+            is_added = is_added && add(net, node, node + 1, rest);
+            is_added = is_added && add(net, other, other + 1, u64::from(i + 1));
+        }
+        is_added = is_added && add(net, node, 2 + 2 * CHAIN - i, 1);
+    }
+    is_added && add(net, 2 + 2 * CHAIN, 2, u64::from(CHAIN))
+}
+
+#[test]
+fn waves_fill_growing_paths(rt: HostRuntime) {
+    let mut net = Network::new(rt.alloc(), 2 + 2 * CHAIN);
+    assert!(&rt; add_growing_paths(&mut net));
+    assert!(&rt; waves_reach_all(rt.alloc(), &net, &[1, 2], 1));
 }

@@ -1,36 +1,28 @@
 //! The search that gives the nodes their levels: backwards from the roots, no farther than excess may be lifted.
-ghost use Rattle.std.specs.Prelude.{◌≡◌, ◌+◌, ◌*◌, ◌<◌, ◌≤◌, true, length};
+ghost use Rattle.std.specs.Prelude.{◌≡◌, ◌*◌, ◌<◌, ◌≤◌, true, length};
 ghost use Rattle.std.specs.List.{All};
 ghost use Rattle.flow_net.specs.Nets.{IsNode};
 ghost use Rattle.flow_solve.specs.levels.Waves.{IsWaving};
 ghost use Rattle.flow_solve.specs.Steps.{PaysLooks};
 
-use super::excess::{Wave, count_cell, excess_of, level_cell, list_excess, queue_cell, set_levels};
+use super::excess::{
+    BARRED, UNSEEN, Wave, excess_of, level_of, list_excess, queue_cell, set_level, set_levels,
+};
 use crate::levels::spending::spend;
 use crate::residual::cells::{get, put};
 use crate::residual::half_arcs::{head, twin};
 use crate::residual::packing::Packed;
-use crate::residual::searching::FAR;
 use crate::task::Task;
 use flow_net::FlowTable;
 
-/// Stands for the level of a node that takes no part.
-pub(super) const BARRED: u32 = FAR - 1;
+/// How many times the number of arcs a wave may take before the next search: some times what a search does, since in a
+/// wave that goes on for long most nodes are lifted where nothing leads on.
+const FUEL: u64 = 16;
 
-/// How many levels beyond the farthest excess a wave may lift.
-const SLACK: u32 = 2;
-
-/// How many times the number of arcs a wave passes half-arcs before the next search; of what a node passes at once, few
-/// count.
-const FUEL: u64 = 4;
-
-/// Takes their levels from all nodes, and their nodes from all levels. Answers how many nodes have excess.
-fn unlevel(cells: &mut [u32], nodes: u32) -> u32
-    requires { length cells.old ≡ 5 * nodes }
+/// How many nodes have excess.
+fn count_excess(cells: &[u32], nodes: u32) -> u32
+    requires { length cells.now ≡ 5 * nodes }
 {
-    let n = nodes as usize;
-    cells[..n].fill(FAR);
-    cells[4 * n..].fill(0);
     let mut count = 0u32;
     for place in 0..nodes {
         if excess_of(cells, nodes, place + 1) > 0 {
@@ -40,32 +32,18 @@ fn unlevel(cells: &mut [u32], nodes: u32) -> u32
     count
 }
 
-/// Gives a node its level, counts it there, and puts it in the queue.
+/// Gives a node its level, and puts it in the queue.
 fn enter_level(cells: &mut [u32], nodes: u32, wave: &mut Wave, node: u32, level: u32)
     requires { 1 ≤ node }
     ensures left { wave.new.left ≡ wave.old.left }
 {
-    put(cells, level_cell(node), level);
+    set_level(cells, node, level, 0);
     put(cells, queue_cell(nodes, wave.queued), node);
     wave.queued = wave.queued.saturating_add(1);
-    let count = get(cells, count_cell(nodes, level)).saturating_add(1);
-    put(cells, count_cell(nodes, level), count);
 }
 
-/// Gives an unseen node its level, and counts it among those with excess if it has any.
-fn level_unseen(cells: &mut [u32], nodes: u32, wave: &mut Wave, node: u32, level: u32)
-    requires size { length cells.old ≡ 5 * nodes }
-    requires node { (1 ≤ node) × (node ≤ nodes) }
-    ensures left { wave.new.left ≡ wave.old.left }
-{
-    enter_level(cells, nodes, wave, node, level);
-    if excess_of(cells, nodes, node) > 0 {
-        wave.seen = wave.seen.saturating_add(1);
-        wave.farthest = level;
-    }
-}
-
-/// Goes on from a node: gives a level to the unseen nodes next to it from which something remains.
+/// Goes on from a node: gives a level to the unseen nodes next to it from which something remains, and counts those
+/// with excess.
 fn scan(packed: Packed<'_>, flow: &mut FlowTable, cells: &mut [u32], wave: &mut Wave, node: u32)
     requires waving { IsWaving packed flow.old cells.old }
     requires node { IsNode packed.net.now node }
@@ -74,30 +52,25 @@ fn scan(packed: Packed<'_>, flow: &mut FlowTable, cells: &mut [u32], wave: &mut 
     let begin = packed.first[node as usize - 1];
     let end = packed.first[node as usize];
     let nodes = packed.net.nodes();
-    let level = cells[level_cell(node)].saturating_add(1);
+    let level = level_of(cells, node).saturating_add(1);
     if !spend(&mut wave.left, u64::from(end - begin)) {
         return;
     }
     for spot in begin..end {
         let half = packed.halves[spot as usize];
         let next = head(packed.net, half);
-        if cells[level_cell(next)] == FAR {
-            let (_, room) = flow.look(packed.net, twin(half));
-            if room > 0 {
-                level_unseen(cells, nodes, wave, next, level);
+        if level_of(cells, next) == UNSEEN && flow.look(packed.net, twin(half)).1 > 0 {
+            enter_level(cells, nodes, wave, next, level);
+            if excess_of(cells, nodes, next) > 0 {
+                wave.seen = wave.seen.saturating_add(1);
+                wave.farthest = level;
             }
         }
     }
 }
 
-/// Whether a search goes on from a level: below half the number of nodes, and while it looks out for excess or for the
-/// levels to which nodes may be lifted.
-fn goes_on(wave: Wave, nodes: u32, level: u32) -> bool {
-    level.saturating_add(1) < nodes / 2
-        && (wave.seen < wave.wanted || level <= wave.farthest.saturating_add(SLACK))
-}
-
-/// Goes on from the nodes in the queue, in the order in which they came into it.
+/// Goes on from the nodes in the queue, in the order in which they came into it, while it looks out for excess or for
+/// the levels to which nodes may be lifted.
 fn scan_all(packed: Packed<'_>, flow: &mut FlowTable, cells: &mut [u32], wave: &mut Wave)
     requires waving { IsWaving packed flow.old cells.old }
     ensures paid { PaysLooks flow.old wave.old.left flow.new wave.new.left }
@@ -111,7 +84,11 @@ fn scan_all(packed: Packed<'_>, flow: &mut FlowTable, cells: &mut [u32], wave: &
             return;
         }
         let node = get(cells, queue_cell(nodes, place));
-        if node < 1 || nodes < node || !goes_on(*wave, nodes, cells[level_cell(node)]) {
+        if node < 1 || nodes < node {
+            return;
+        }
+        let most = wave.farthest.saturating_add(wave.reach);
+        if wave.seen >= wave.wanted && level_of(cells, node) >= most {
             return;
         }
         scan(packed, flow, cells, wave, node);
@@ -124,8 +101,8 @@ fn list_all(cells: &mut [u32], nodes: u32, wave: &mut Wave)
     ensures left { wave.new.left ≡ wave.old.left }
 {
     for place in 0..nodes {
-        let level = cells[place as usize];
-        if level < nodes / 2 && excess_of(cells, nodes, place + 1) > 0 {
+        let level = level_of(cells, place + 1);
+        if level < BARRED && excess_of(cells, nodes, place + 1) > 0 {
             list_excess(cells, nodes, wave, place + 1, level);
         }
     }
@@ -148,21 +125,27 @@ pub(super) fn search_levels(
 {
     let packed = task.packed;
     let nodes = packed.net.nodes();
+    let n = nodes as usize;
     if !spend(&mut wave.left, u64::from(nodes)) {
         return false;
     }
     wave.queued = 0;
     wave.seen = 0;
     wave.farthest = 0;
-    wave.wanted = unlevel(cells, nodes).saturating_sub(wave.lost);
+    wave.wanted = count_excess(cells, nodes).saturating_sub(wave.lost);
+    if wave.wanted == 0 {
+        return false;
+    }
+    cells[..n].fill(UNSEEN);
+    cells[2 * n..3 * n].fill(0);
     set_levels(cells, task.s, BARRED);
     for node in task.t {
         enter_level(cells, nodes, wave, *node, 0);
     }
     scan_all(packed, flow, cells, wave);
-    wave.ceiling = wave.farthest.saturating_add(SLACK + 2).min(nodes / 2);
-    wave.fuel = FUEL * u64::from(packed.net.len());
-    wave.turn ^= 1;
     list_all(cells, nodes, wave);
+    wave.ceiling = wave.farthest.saturating_add(wave.reach).min(nodes - 1);
+    wave.floor = wave.left.saturating_sub(FUEL * u64::from(packed.net.len()));
+    wave.turn ^= 1;
     wave.seen > 0
 }

@@ -1,5 +1,5 @@
 -- `discharge`: what was sent and looked at is paid, and each turn takes something off what may still be done.
-use Rattle.flow_net.specs.Nets.{IsNode}
+use Rattle.std.proofs.Common.{◌≡◌}
 use Rattle.flow_solve.specs.levels.Waves.{IsWaving}
 use Rattle.flow_solve.specs.Steps.{PaysSteps}
 use Rattle.flow_solve.proofs.levels.waves.discharging.discharge.Given as goal
@@ -7,7 +7,7 @@ use Rattle.flow_solve.proofs.levels.waves.discharging.discharge.Given as goal
 abbrev pub invariant-turns : goal.invariant-turns
 invariant-turns l = record {
   waving : IsWaving l.packed l.flow l.cells;
-  node : IsNode l.packed.net.now l.sender.node;
+  node : l.sender.node ≡ l.node;
   paid : PaysSteps l.fn.flow l.fn.wave.left l.flow l.wave.left;
 }
 

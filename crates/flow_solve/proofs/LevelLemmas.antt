@@ -4,6 +4,7 @@ pub mod Descents
 pub mod Bounds
 pub mod Distances
 pub mod LeastOnPath
+pub mod NearSends
 pub mod PushesAhead
 pub mod Ranks
 pub mod Walks

@@ -1,5 +1,5 @@
 mod ResidualLemmas
 mod SideLemmas
 mod LevelLemmas
-pub mod GrowthLemmas
+pub mod ForestLemmas
 pub mod Raises

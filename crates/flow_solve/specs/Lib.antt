@@ -5,4 +5,4 @@ pub mod Solving
 pub mod Task
 pub mod Sides
 pub mod levels
-pub mod Growth
+pub mod Forests

@@ -1,9 +1,9 @@
-//! The method by levels (Dinitz 1970), in four stages that work on one flow: short paths, then search trees, then waves
+//! The method by levels (Dinitz 1970), in four stages that work on one flow: near sends, then search trees, then waves
 //! of excess where the trees don't finish, then phases.
 //!
-//! 1. **Short paths** (`short_paths`), from a source over one node or two to a sink, looked for from the side that
-//!    fewer half-arcs leave. No tree is there yet that a push could break, so they cost no repair. Assignments get most
-//!    of their flow so, and so does a network with an arc from each node to every later one.
+//! 1. **Near sends** (`near_sends`): what can leave a source goes to sinks over one node or two. No tree is there yet
+//!    that a push could break, so they cost no repair. Assignments get most of their flow so, and so does a network
+//!    with an arc from each node to every later one.
 //! 2. **Two trees** (`trees`, `chains`, `orphans`, `forest`). Search trees grow from the sources and from the sinks
 //!    (Boykov and Kolmogorov 2004), from one *active* node after another. Each node in a tree has a *parent*, the
 //!    half-arc that leads towards its root, a *label*, which tells how far that was when it was last looked at, and a
@@ -19,10 +19,11 @@
 //!    that can leave the sources does, and each node sends what it has received, its *excess*, on to nodes that a
 //!    search has found a level nearer to the sinks, the farthest level first (after Karzanov 1974). A node that is
 //!    stuck is *lifted* to one more than the nearest level that it leads to, which is the relabelling of Goldberg and
-//!    Tarjan (1988); a level that is left empty by that bounds the wave, and searches are made anew from time to time
-//!    (Cherkassky and Goldberg 1997). In the end what no sink takes goes home by waves to the sources, and the table is
-//!    settled: it stays if a feasible flow stands there, and is cleared otherwise. So thousands of paths that share
-//!    most of their half-arcs cost one search and one sweep. That serves where ways are long: roads, frames, layers.
+//!    Tarjan (1988), as far as a *ceiling* that comes down with the farthest excess; what is lifted to it waits for the
+//!    next search, and searches are made anew from time to time (Cherkassky and Goldberg 1997). In the end what no sink
+//!    takes goes home by waves to the sources, and the table is settled: it stays if a feasible flow stands there, and
+//!    is cleared otherwise. So thousands of paths that share most of their half-arcs cost one search and one sweep.
+//!    That serves where ways are long: roads, frames, layers, netlists, chains.
 //! 4. **Phases** (`phases`, `walking`). A search backwards from the sinks ranks the nodes, walks from the sources along
 //!    falling ranks block all shortest paths, and the distance from the sources to the sinks grows by each phase
 //!    (Dinitz 1970). They go on from whatever feasible flow they find, and their last search, which sees no source,
@@ -34,16 +35,20 @@
 //! a source to a sink isn't kept. Of waves no more is claimed than what their end tests. A stage may leave wherever it
 //! is.
 //!
-//! What short paths and trees take is counted off an allowance of 64 steps for each arc, and what the waves take off
+//! What near sends and trees take is counted off an allowance of 128 steps for each arc, and what the waves take off
 //! the rest of `n²·m`, at most 1024 steps for each arc in each direction; a half-arc that is passed by without a look,
 //! or a node that is walked over, counts as a step too. The phases take at most `3·n²·m` from any feasible flow, so
 //! that all stay within `4·n²·m` for each network.
 //!
-//! In a dense network the phases follow the short paths. The trees grow no farther than until the nearest source and sink are found to be far apart,
-//! since then much flow goes far, and paths one by one bring little. There the waves begin.
-ghost use Rattle.std.specs.Prelude.{◌+◌, ◌*◌, ◌≤◌, length};
+//! In a dense network the phases follow the near sends. The trees grow no farther than until the nearest source and
+//! sink are found to be far apart, since then much flow goes far, and paths one by one bring little. There the waves
+//! begin.
+ghost use Rattle.std.specs.Prelude.{◌≡◌, ◌+◌, ◌*◌, ◌≤◌, length};
 ghost use Rattle.flow_solve.specs.Bounds.{levels_bound};
+ghost use Rattle.flow_solve.specs.Task.{HasFlow, IsTask};
+ghost use Rattle.flow_solve.specs.Steps.{TakesSteps};
 
+pub(crate) mod near_sends;
 pub(crate) mod phases;
 mod spending;
 pub(crate) mod trees;
@@ -54,6 +59,7 @@ use crate::method::Method;
 use crate::solving::{Raise, solve};
 use crate::task::Task;
 use flow_net::{FlowTable, Network};
+use near_sends::{Sent, send_near};
 use phases::run_phases;
 use trees::grow_trees;
 use waves::send_waves;
@@ -67,7 +73,7 @@ fn is_dense(net: &Network) -> bool {
 }
 
 /// How many times the number of arcs the first stages may take, in steps and in half-arcs that they pass by.
-const OPENING_SHARE: u64 = 64;
+const OPENING_SHARE: u64 = 128;
 
 /// How much the first stages may take.
 pub(crate) fn allowance(net: &Network) -> u64
@@ -81,20 +87,32 @@ pub(crate) fn allowance(net: &Network) -> u64
 /// its table.
 const REST_SHARE: u64 = 2 * 1024 + 1;
 
-/// How much the next stage may take of what is left of `n²·m`, in 64 bits; nothing in a dense network.
+/// How much the waves may take of what is left of `n²·m`, in 64 bits.
 fn share_of_rest(net: &Network, given: u64) -> u64
     requires { given ≤ net.now.nodes * net.now.nodes * length net.now.arcs }
     ensures { result + given ≤ net.now.nodes * net.now.nodes * length net.now.arcs }
 {
-    if is_dense(net) {
-        return 0;
-    }
     let n = u64::from(net.nodes());
     let m = u64::from(net.len());
     (n * n)
         .saturating_mul(m)
         .saturating_sub(given)
         .min(REST_SHARE * m)
+}
+
+/// Raises a flow by the stages that repair what they have built: search trees, and waves where these don't finish.
+fn repair(task: Task<'_>, flow: &mut FlowTable, cells: &mut [u32], sent: Sent, share: u64) -> u128
+    requires task { IsTask task }
+    requires cells { length cells.old ≡ 5 * task.packed.net.now.nodes }
+    requires flow { HasFlow task flow.old.flows sent.value }
+    ensures flow { HasFlow task.entry flow.new.flows result }
+    ensures steps { TakesSteps flow.old flow.new (sent.left + share) }
+{
+    let reached = grow_trees(task, flow, cells, sent.value, sent.left);
+    if reached.is_finished {
+        return reached.value;
+    }
+    send_waves(task, flow, cells, reached.value, share)
 }
 
 /// Augments along shortest paths, level by level, in phases: a search backwards from the sinks ranks the nodes, the
@@ -108,12 +126,12 @@ impl Raise for Levels {
     fn raise(task: Task<'_>, flow: &mut FlowTable, cells: &mut [u32], value: u128) -> u128 {
         let net = task.packed.net;
         let given = allowance(net);
-        let reached = grow_trees(task, flow, cells, value, given);
-        let value = if reached.is_finished {
-            reached.value
+        let sent = send_near(task, flow, cells, value, given);
+        let value = if is_dense(net) {
+            sent.value
         } else {
             let share = share_of_rest(net, given);
-            send_waves(task, flow, cells, reached.value, share)
+            repair(task, flow, cells, sent, share)
         };
         run_phases(task, flow, cells, value)
     }

@@ -11,7 +11,7 @@
 //! of these is a counted step; the ends of arcs it may read freely.
 //!
 //! No call takes memory: all work is done in the first [`work_len`] cells of a slice that the caller lends. One call
-//! may give up: [`connectivity_by_growth`] answers nothing where the steps that it may take don't suffice. No contract
+//! may give up: [`connectivity_by_forests`] answers nothing where the steps that it may take don't suffice. No contract
 //! says that it ever succeeds; callers go another way then.
 //!
 //! With `n` nodes and `m` arcs these cells are, in this order:
@@ -24,7 +24,7 @@
 //! | `1` | spare |
 #![tactic(auto)]
 
-mod growth;
+mod forests;
 mod levels;
 mod method;
 mod paths;
@@ -33,7 +33,8 @@ mod sides;
 mod solving;
 mod task;
 
-pub use growth::connectivity_by_growth;
+pub use forests::connectivity_by_forests;
+pub use forests::degrees::least_degree;
 pub use levels::Levels;
 pub use method::{Method, work_len};
 pub use paths::Paths;

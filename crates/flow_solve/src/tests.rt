@@ -8,9 +8,9 @@ ghost use Rattle.flow_solve.specs.Bounds.{work_cells};
 ghost use Rattle.flow_solve.specs.Solving.{IsFlow};
 ghost use Rattle.flow_solve.specs.Task.{HasFlow, IsTask};
 
-mod growth;
+mod forests;
 mod known;
-mod short_paths;
+mod near_sends;
 mod trees;
 mod waves;
 

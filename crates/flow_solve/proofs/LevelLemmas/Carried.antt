@@ -14,7 +14,8 @@ use Rattle.flow_solve.specs.declared.residual.half_arcs.Direction.{Direction}
 use Rattle.flow_solve.specs.declared.residual.half_arcs.Direction.TheVariants.{Forwards, Backwards}
 use Rattle.flow_solve.specs.Solving.{IsFlow}
 use Rattle.flow_solve.specs.residual.HalfArcs.{twin_of}
-use Rattle.flow_solve.specs.levels.Trees.{supplied_by, IsCarried, IsSupplied}
+use Rattle.flow_solve.specs.levels.Carrying.{IsCarried}
+use Rattle.flow_solve.specs.levels.Trees.{supplied_by, IsSupplied}
 use Rattle.flow_solve.proofs.Raises.{value_most, capacities_fit}
 use Rattle.flow_solve.proofs.ResidualLemmas.Crossings.{tail_twin, head_twin}
 use Rattle.flow_solve.proofs.ResidualLemmas.Routes.{sink_no_source}

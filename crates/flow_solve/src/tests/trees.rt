@@ -1,8 +1,7 @@
-//! Search trees: what they alone reach by hand, on an image, beside a hub, and on random networks, where they are left,
-//! and that none is grown in a dense network.
+//! Search trees: what they alone reach by hand, on an image, beside a hub, and on random networks, and where they are
+//! left.
 ghost use Rattle.std.specs.Prelude.{◌≤◌};
 
-use super::short_paths::Short;
 use super::*;
 use crate::levels::allowance;
 use crate::levels::trees::{Reached, grow_trees};
@@ -210,7 +209,7 @@ fn trees_are_tired_of_a_hub(rt: HostRuntime) {
 
 /// Adds arcs between any two of some nodes: self-loops, parallel and opposite arcs, small capacities and the largest.
 #[must_use]
-fn add_random_arcs(net: &mut Network, random: &mut Random) -> bool {
+pub(super) fn add_random_arcs(net: &mut Network, random: &mut Random) -> bool {
     for _ in 0..random.below(90) {
         let src = random_node(random, net.nodes());
         let dst = random_node(random, net.nodes());
@@ -258,27 +257,4 @@ fn trees_with_no_allowance(rt: HostRuntime) {
     let net = network(rt.alloc(), 6, &[(1, 2, 3), (2, 6, 2)]).expect(&rt, "memory");
     let reached = grow(rt.alloc(), &net, &[1, 6], 1, 0).expect(&rt, "good terminals");
     assert_eq!(&rt; (reached.value, reached.is_finished), (0, false));
-}
-
-/// How many nodes the dense network has, with an arc from each to every later one.
-const MANY: u32 = 80;
-
-/// No tree is grown in a dense network, whatever there would be to gain.
-#[test]
-fn short_paths_alone_in_a_dense_network(rt: HostRuntime) {
-    let mut random = Random { state: 1990 };
-    let mut net = Network::new(rt.alloc(), MANY);
-    for i in 1..MANY {
-        for j in i + 1..=MANY {
-            assert!(&rt; add(&mut net, i, j, 1 + random.below(1000)));
-        }
-    }
-    let most = allowance(&net);
-    let short = stages(rt.alloc(), &net, &[1, MANY], 1, &Short(most));
-    let (reached, greatest, other) = short.expect(&rt, "good terminals");
-    let trees = stages(rt.alloc(), &net, &[1, MANY], 1, &Trees(most));
-    let (grown, raised, _) = trees.expect(&rt, "good terminals");
-    assert_eq!(&rt; (greatest, raised), (other, other));
-    assert_eq!(&rt; reached, grown);
-    assert!(&rt; reached < greatest && greatest < reached.saturating_mul(2));
 }

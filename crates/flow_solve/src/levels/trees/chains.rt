@@ -10,8 +10,8 @@ ghost use Rattle.flow_net.specs.Nets.{IsNode};
 ghost use Rattle.flow_net.specs.NodeSets.{one_of};
 ghost use Rattle.flow_net.specs.Flows.{Fits};
 ghost use Rattle.flow_solve.specs.residual.Packs.{IsPacked};
-ghost use Rattle.flow_solve.specs.Task.{HasFlow, IsTask};
-ghost use Rattle.flow_solve.specs.levels.Trees.{supplied_by, AreGrowing, IsForest, IsSupplied, KeepsFlow};
+ghost use Rattle.flow_solve.specs.Task.{HasFlow, IsTask, KeepsFlow};
+ghost use Rattle.flow_solve.specs.levels.Trees.{supplied_by, AreGrowing, IsForest, IsSupplied};
 ghost use Rattle.flow_solve.specs.Steps.{PaysLooks, PaysSteps, TakesSteps};
 
 use crate::levels::spending::spend;
@@ -210,7 +210,8 @@ pub(crate) fn augment_over(
 ) -> u64
     requires growing { AreGrowing task flow.old grown.old cells.old }
     requires half { half < 2 * length task.packed.net.now.arcs }
-    ensures { KeepsFlow task.entry flow.old grown.old.trees.left flow.new grown.new }
+    ensures { KeepsFlow task.entry flow.old grown.old.trees.left flow.new grown.new.value
+        grown.new.trees.left }
 {
     let packed = task.packed;
     let trees = &mut grown.trees;

@@ -3,8 +3,9 @@
 //! What these cells hold is a hint: nothing is claimed of it, and what a path needs is tested as flow is pushed along
 //! it. A cell that doesn't exist reads as 0, and a write to it is dropped. Nodes count from 1.
 //!
-//! In the first `4·n` cells of a stage, with `n` nodes, each node's four stand side by side: its *label*, the half-arc
-//! to its parent, its *stamp*, which is counted in augmentations, and the next active node.
+//! In the first `4·n` of the `5·n` cells of a stage, with `n` nodes, each node's four stand side by side: its *label*,
+//! the half-arc to its parent, its *stamp*, which is counted in augmentations, and its parent, so that a walk reads no
+//! arc. Behind them stands for each node the next active one.
 ghost use Rattle.std.specs.Prelude.{◌≡◌, ◌+◌, ◌-◌, ◌*◌, ◌≤◌, IsTrue, IsFalse, slice_index};
 
 use crate::residual::cells::{END, get, put};
@@ -38,6 +39,8 @@ pub(crate) struct Trees {
     pub active: Queue,
     /// The orphans of both.
     pub orphans: Queue,
+    /// The number of nodes.
+    pub nodes: u32,
     /// One more than the number of augmentations.
     pub time: u32,
     /// What may still be done: steps, half-arcs that are passed by, and nodes that are walked over.
@@ -83,13 +86,21 @@ pub(crate) fn stamp_cell(node: u32) -> usize
     4 * node as usize - 2
 }
 
-/// Where the active node after an active node stands: `END` behind the last. A node that isn't active has 0 there.
+/// Where a node's parent stands, that the half-arc leads to.
 #[inline(always)]
-pub(crate) fn next_active_cell(node: u32) -> usize
+pub(crate) fn above_cell(node: u32) -> usize
     requires { 1 ≤ node }
     ensures { result ≡ 4 * node - 1 }
 {
     4 * node as usize - 1
+}
+
+/// Where the active node after an active node stands: `END` behind the last. A node that isn't active has 0 there.
+#[inline(always)]
+pub(crate) fn next_active_cell(trees: &Trees, node: u32) -> usize
+    requires { 1 ≤ node }
+{
+    4 * trees.nodes as usize + node as usize - 1
 }
 
 /// Which way the tree of a label grows: that of the sources along half-arcs, that of the sinks against them.
@@ -106,14 +117,14 @@ pub(crate) fn activate(trees: &mut Trees, cells: &mut [u32], node: u32)
     requires node { 1 ≤ node }
     ensures left { trees.new.left ≡ trees.old.left }
 {
-    if get(cells, next_active_cell(node)) != 0 {
+    if get(cells, next_active_cell(trees, node)) != 0 {
         return;
     }
-    put(cells, next_active_cell(node), END);
+    put(cells, next_active_cell(trees, node), END);
     if trees.active.last == 0 {
         trees.active.first = node;
     } else {
-        put(cells, next_active_cell(trees.active.last), node);
+        put(cells, next_active_cell(trees, trees.active.last), node);
     }
     trees.active.last = node;
 }
@@ -126,11 +137,11 @@ pub(crate) fn next_active(trees: &mut Trees, cells: &mut [u32]) -> u32
     if node < 1 || node == END {
         return node;
     }
-    trees.active.first = get(cells, next_active_cell(node));
+    trees.active.first = get(cells, next_active_cell(trees, node));
     if trees.active.first == END {
         trees.active.last = 0;
     }
-    put(cells, next_active_cell(node), 0);
+    put(cells, next_active_cell(trees, node), 0);
     node
 }
 

@@ -1,17 +1,16 @@
 //! Orphans: nodes of two search trees whose half-arc to their parent was filled, and their adoption by the nearest node
 //! whose own parents lead to a root (Boykov and Kolmogorov 2004, and so are the stamps).
-ghost use Rattle.std.specs.Prelude.{◌≡◌, ◌+◌, ◌<◌, ◌≤◌, ◌*◌, length};
+ghost use Rattle.std.specs.Prelude.{◌≡◌, ◌+◌, ◌<◌, ◌≤◌, ◌*◌, IsTrue, length};
 ghost use Rattle.flow_net.specs.Nets.{IsNode};
 ghost use Rattle.flow_net.specs.Flows.{Fits};
-ghost use Rattle.flow_solve.specs.residual.Packs.{IsPacked};
 ghost use Rattle.flow_solve.specs.levels.Trees.{IsForest};
 ghost use Rattle.flow_solve.specs.Steps.{OnlyLooks, PaysLooks};
 
 use crate::levels::spending::spend;
 use crate::levels::trees::chains::supply_half;
 use crate::levels::trees::forest::{
-    LEAST_CHILD, NO_PARENT, Trees, abandon_last, activate, direction_of, is_tired, label_cell,
-    next_active_cell, next_orphan, parent_cell, stamp_cell,
+    LEAST_CHILD, NO_PARENT, Trees, abandon_last, above_cell, activate, direction_of, is_tired,
+    label_cell, next_active_cell, next_orphan, parent_cell, stamp_cell,
 };
 use crate::residual::cells::{END, get};
 use crate::residual::half_arcs::{head, twin};
@@ -19,54 +18,58 @@ use crate::residual::packing::Packed;
 use crate::residual::searching::FAR;
 use flow_net::FlowTable;
 
+/// Whether there are cells for a node.
+#[inline(always)]
+fn is_within(cells: &[u32], node: u32) -> bool
+    ensures { IsTrue result → (1 ≤ node) × (4 * node ≤ length cells.now) }
+{
+    1 <= node && 4 * node as usize <= cells.len()
+}
+
 /// Walks over the parents of a node to a root, or to a node that is known at this time to lead to one. Answers one more
 /// than the node's distance from the root, or `FAR` where the walk ends at an orphan or no more may be done.
-fn walk_to_root(packed: Packed<'_>, trees: &mut Trees, cells: &[u32], node: u32) -> u32
-    requires packed { IsPacked packed.net.now packed.first.now packed.halves.now }
-    requires size { 4 * packed.net.now.nodes ≤ length cells.now }
-    requires node { IsNode packed.net.now node }
+fn walk_to_root(trees: &mut Trees, cells: &[u32], node: u32) -> u32
+    requires least { 1 ≤ node }
+    requires most { 4 * node ≤ length cells.now }
     ensures left { trees.new.left ≤ trees.old.left }
 {
     let mut node = node;
     let mut walked: u32 = 0;
     'chain: loop {
-        let half = cells[parent_cell(node)];
-        if half == NO_PARENT {
+        if cells[parent_cell(node)] == NO_PARENT {
             return FAR;
         }
         let label = cells[label_cell(node)];
         if label < LEAST_CHILD || cells[stamp_cell(node)] == trees.time {
             return walked.saturating_add(label / 2);
         }
-        if half as usize >= packed.halves.len() || !spend(&mut trees.left, 1) {
+        node = cells[above_cell(node)];
+        if !is_within(cells, node) || !spend(&mut trees.left, 1) {
             return FAR;
         }
         walked = walked.saturating_add(1);
-        node = head(packed.net, half);
     }
 }
 
 /// Gives the nodes that such a walk went over the labels for their distances, and the time.
-fn mark_walk(packed: Packed<'_>, cells: &mut [u32], node: u32, distance: u32, time: u32)
-    requires packed { IsPacked packed.net.now packed.first.now packed.halves.now }
-    requires size { 4 * packed.net.now.nodes ≤ length cells.old }
-    requires node { IsNode packed.net.now node }
+fn mark_walk(cells: &mut [u32], node: u32, distance: u32, time: u32)
+    requires least { 1 ≤ node }
+    requires most { 4 * node ≤ length cells.old }
 {
     let mut node = node;
     let side = cells[label_cell(node)] % 2;
     let mut label = distance.saturating_mul(2).saturating_add(side);
     'walk: for _ in 0..distance {
-        let half = cells[parent_cell(node)];
         if cells[stamp_cell(node)] == time {
             return;
         }
         cells[label_cell(node)] = label;
         cells[stamp_cell(node)] = time;
-        if half as usize >= packed.halves.len() {
+        node = cells[above_cell(node)];
+        if !is_within(cells, node) {
             return;
         }
         label = label.saturating_sub(2);
-        node = head(packed.net, half);
     }
 }
 
@@ -99,9 +102,9 @@ fn offer(
     if room == 0 {
         return FAR;
     }
-    let distance = walk_to_root(packed, trees, cells, node);
+    let distance = walk_to_root(trees, cells, node);
     if distance != FAR {
-        mark_walk(packed, cells, node, distance, trees.time);
+        mark_walk(cells, node, distance, trees.time);
     }
     distance
 }
@@ -131,12 +134,14 @@ fn find_parent(
     }
     let mut nearest = FAR;
     let mut parent = NO_PARENT;
+    let mut above = 0;
     for spot in begin..end {
         let half = packed.halves[spot as usize];
         let distance = offer(packed, flow, trees, cells, own, half, nearest);
         if distance < nearest {
             nearest = distance;
             parent = half;
+            above = head(packed.net, half);
         }
     }
     if parent == NO_PARENT || nearest > (own / 2).saturating_add(MOST_DETOUR - 1) {
@@ -144,6 +149,7 @@ fn find_parent(
     }
     cells[label_cell(node)] = nearest.saturating_mul(2).saturating_add(2 + own % 2);
     cells[parent_cell(node)] = parent;
+    cells[above_cell(node)] = above;
     cells[stamp_cell(node)] = trees.time;
     true
 }
@@ -171,7 +177,7 @@ fn part(
     if label >= LEAST_CHILD && get(cells, parent_cell(node)) == twin(half) {
         abandon_last(trees, cells, node);
     }
-    if get(cells, next_active_cell(node)) == 0 {
+    if get(cells, next_active_cell(trees, node)) == 0 {
         let (_, room) = flow.look(packed.net, supply_half(direction_of(own), half));
         if room > 0 {
             activate(trees, cells, node);

@@ -2,7 +2,7 @@
 -- tree, and in the end to a root of the other.
 use Rattle.std.proofs.Common.{◌≡◌, ◌≢◌, ℕ, List, ◌≤◌, ◌∙◌, sym, ap, subst, arith}
 use Rattle.flow_net.specs.Residual.{tail_of, head_of, residual, pushed}
-use Rattle.flow_solve.specs.levels.Trees.{IsCarried}
+use Rattle.flow_solve.specs.levels.Carrying.{IsCarried}
 use Rattle.flow_solve.proofs.LevelLemmas.Carried.{carried_over, carried_on, carried_before, flow_carried}
 use Rattle.flow_solve.proofs.levels.trees.chains.push_through.Goals as goal
 

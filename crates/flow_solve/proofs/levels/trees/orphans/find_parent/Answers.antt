@@ -10,3 +10,12 @@ offer-distance-requires-clause-half c =
     let own = c.requires.forest.packed.holds (c.args.node - 1) c.loop-spot.spot (omega (arith, c.requires.node)) (omega arith)
     (omega (arith, next, c.loop-spot-test.true)) in
     own.0
+
+pub head-above-requires : goal.head-above-requires
+head-above-requires c =
+    let first = c.args.packed.first.now in
+    let next : get_or first (c.args.node - 1 + 1) 0 ≡ get_or first c.args.node 0 =
+    ap (λ v. get_or first v 0) (omega (arith, c.requires.node)) in
+    let own = c.requires.forest.packed.holds (c.args.node - 1) c.loop-spot.spot (omega (arith, c.requires.node)) (omega arith)
+    (omega (arith, next, c.loop-spot-test.true)) in
+    own.0

@@ -1,11 +1,11 @@
--- `walk_to_root`: the walk goes over nodes of the network, each of which takes one off what the trees may still do.
-use Rattle.std.proofs.Common.{◌≤◌}
-use Rattle.flow_net.specs.Nets.{IsNode}
+-- `walk_to_root`: each node of the walk has cells, and takes one off what the trees may still do.
+use Rattle.std.proofs.Common.{◌*◌, ◌≤◌, length}
 use Rattle.flow_solve.proofs.levels.trees.orphans.walk_to_root.Given as goal
 
 abbrev pub invariant-chain : goal.invariant-chain
 invariant-chain l = record {
-  node : IsNode l.packed.net.now l.node;
+  least : 1 ≤ l.node;
+  most : 4 * l.node ≤ length l.cells;
   left : l.trees.left ≤ l.fn.trees.left;
 }
 

@@ -1,20 +1,17 @@
-//! Short paths: what they alone reach on an assignment, by hand, on random networks, and where they are left.
+//! Near sends: what they alone reach on an assignment, by hand, in a dense network, on random networks, and where they
+//! are left.
+use super::trees::add_random_arcs;
 use super::*;
 use crate::levels::allowance;
-use crate::levels::trees::begin;
-use crate::levels::trees::chains::Grown;
-use crate::levels::trees::short_paths::augment_short_paths;
+use crate::levels::near_sends::send_near;
 
-/// Short paths alone, and how much they may take.
+/// Near sends alone, and how much they may take.
 #[derive(Drop)]
-pub(super) struct Short(pub(super) u64);
+pub(super) struct Near(pub(super) u64);
 
-impl Stage for Short {
+impl Stage for Near {
     fn run(&self, task: Task<'_>, flow: &mut FlowTable, cells: &mut [u32]) -> u128 {
-        let trees = begin(task, cells, self.0);
-        let mut grown = Grown { trees, value: 0 };
-        augment_short_paths(task, flow, &mut grown, cells);
-        grown.value
+        send_near(task, flow, cells, 0, self.0).value
     }
 }
 
@@ -40,30 +37,64 @@ fn add_workers(net: &mut Network, random: &mut Random) -> bool {
     true
 }
 
-/// No contract tells whether short paths bring anything.
+/// No contract tells whether near sends bring anything.
 #[test]
-fn short_paths_fill_most_of_an_assignment(rt: HostRuntime) {
+fn near_sends_fill_most_of_an_assignment(rt: HostRuntime) {
     let mut random = Random { state: 1955 };
     let mut net = Network::new(rt.alloc(), 2 + 2 * WORKERS);
     assert!(&rt; add_workers(&mut net, &mut random));
-    let short = Short(allowance(&net));
-    let answer = stages(rt.alloc(), &net, &[1, 2], 1, &short);
+    let near = Near(allowance(&net));
+    let answer = stages(rt.alloc(), &net, &[1, 2], 1, &near);
     let (reached, greatest, other) = answer.expect(&rt, "good terminals");
     assert_eq!(&rt; greatest, other);
     assert!(&rt; 90 < greatest && reached <= greatest);
     assert!(&rt; greatest.saturating_mul(4) < reached.saturating_mul(5));
 }
 
-/// Arcs, what short paths reach on them from node 1 to node 6, and the greatest value.
-const SHORT: &[(&[(u32, u32, u64)], u128, u128)] = &[
+/// How many nodes the dense network has, with an arc from each to every later one.
+const MANY: u32 = 80;
+
+/// In a dense network more than half of the flow goes over one node or two.
+#[test]
+fn near_sends_fill_half_of_a_dense_network(rt: HostRuntime) {
+    let mut random = Random { state: 1990 };
+    let mut net = Network::new(rt.alloc(), MANY);
+    for i in 1..MANY {
+        for j in i + 1..=MANY {
+            assert!(&rt; add(&mut net, i, j, 1 + random.below(1000)));
+        }
+    }
+    let near = Near(allowance(&net));
+    let answer = stages(rt.alloc(), &net, &[1, MANY], 1, &near);
+    let (reached, greatest, other) = answer.expect(&rt, "good terminals");
+    assert_eq!(&rt; greatest, other);
+    assert!(&rt; reached < greatest && greatest < reached.saturating_mul(2));
+}
+
+/// Arcs, what near sends reach on them from node 1 to node 6, and the greatest value.
+const NEAR: &[(&[(u32, u32, u64)], u128, u128)] = &[
     // Over one node, and then over two.
     (&[(1, 2, 5), (2, 6, 2), (2, 3, 9), (3, 6, 2)], 4, 4),
     (&[(1, 2, 1), (2, 6, 5), (1, 3, 4), (3, 2, 4)], 5, 5),
-    // Node 2 comes first, which can take but 1 of the 5 from the source: the path over node 3 still ends by it.
+    // Node 2 comes first, which can take but 1 of the 5 from the source: what comes over node 3 still ends by it.
     (
         &[(1, 3, 4), (3, 2, 4), (1, 2, 1), (2, 6, 5), (4, 6, 1)],
         5,
         5,
+    ),
+    // Over two nodes to each of three.
+    (
+        &[
+            (1, 2, 9),
+            (2, 3, 2),
+            (2, 4, 3),
+            (2, 5, 4),
+            (3, 6, 3),
+            (4, 6, 3),
+            (5, 6, 3),
+        ],
+        8,
+        8,
     ),
     // The arc from the source to the sink is left to the trees, and so is a path over three nodes.
     (
@@ -71,63 +102,41 @@ const SHORT: &[(&[(u32, u32, u64)], u128, u128)] = &[
         0,
         8,
     ),
-    // Node 2 takes node 4, the only one that node 3 leads to.
-    (
-        &[
-            (1, 3, 1),
-            (1, 2, 1),
-            (2, 5, 1),
-            (2, 4, 1),
-            (3, 4, 1),
-            (4, 6, 1),
-            (5, 6, 1),
-        ],
-        1,
-        2,
-    ),
-    // The same backwards, found from the sink, which fewer arcs enter than leave the source: node 2 takes node 4, the
-    // only one that leads to node 3.
-    (
-        &[
-            (3, 6, 1),
-            (2, 6, 1),
-            (5, 2, 1),
-            (4, 2, 1),
-            (4, 3, 1),
-            (1, 4, 1),
-            (1, 5, 1),
-            (1, 4, 1),
-        ],
-        1,
-        2,
-    ),
+    // What leaves the sink, or enters the source, doesn't count.
+    (&[(1, 6, 7), (6, 2, 5), (2, 6, 5), (2, 1, 5)], 0, 7),
     // Against the arcs nothing goes.
     (
         &[(2, 1, 1), (6, 2, 1), (1, 3, 1), (4, 3, 1), (4, 6, 1)],
         0,
         0,
     ),
+    // Of two opposite arcs each is one of its own.
+    (
+        &[(1, 2, 4), (3, 2, 5), (2, 3, 1), (3, 6, 4), (6, 3, 2)],
+        1,
+        1,
+    ),
 ];
 
 #[test]
-fn short_paths_by_hand(rt: HostRuntime) {
-    for (arcs, reached, greatest) in SHORT {
+fn near_sends_by_hand(rt: HostRuntime) {
+    for (arcs, reached, greatest) in NEAR {
         let net = network(rt.alloc(), 6, arcs).expect(&rt, "memory");
         assert_eq!(&rt;
-            stages(rt.alloc(), &net, &[1, 6], 1, &Short(1000)),
+            stages(rt.alloc(), &net, &[1, 6], 1, &Near(1000)),
             Some((*reached, *greatest, *greatest))
         );
     }
 }
 
 #[test]
-fn short_paths_that_are_left(rt: HostRuntime) {
-    let (arcs, value, _) = SHORT[0];
+fn near_sends_that_are_left(rt: HostRuntime) {
+    let (arcs, value, _) = NEAR[0];
     let net = network(rt.alloc(), 6, arcs).expect(&rt, "memory");
     let mut before = 0u128;
     let mut between = 0u32;
     for allowance in 0u64..100 {
-        let answer = stages(rt.alloc(), &net, &[1, 6], 1, &Short(allowance));
+        let answer = stages(rt.alloc(), &net, &[1, 6], 1, &Near(allowance));
         let (reached, greatest, other) = answer.expect(&rt, "good terminals");
         assert!(&rt; before <= reached && reached <= value);
         assert_eq!(&rt; (greatest, other), (value, value));
@@ -141,14 +150,14 @@ fn short_paths_that_are_left(rt: HostRuntime) {
 }
 
 #[test]
-fn short_paths_on_random_networks(rt: HostRuntime) {
+fn near_sends_on_random_networks(rt: HostRuntime) {
     let mut random = Random { state: 1957 };
     let mut tried = 0u32;
     let mut between = 0u32;
-    for _ in 0..3000 {
-        let nodes = 2 + random.below(5) as u32;
+    for _ in 0..6000 {
+        let nodes = 2 + random.below(12) as u32;
         let mut net = Network::new(rt.alloc(), nodes);
-        assert!(&rt; add_arcs(&mut net, &mut random));
+        assert!(&rt; add_random_arcs(&mut net, &mut random));
         let terminals = four_nodes(&mut random, nodes);
         let k = 1 + random.below(2) as usize;
         let end = k + 1 + random.below(2) as usize;
@@ -156,8 +165,8 @@ fn short_paths_on_random_networks(rt: HostRuntime) {
         if !may_be_terminals(&net, terminals, k) {
             continue;
         }
-        let short = Short(random.below(200));
-        let answer = stages(rt.alloc(), &net, terminals, k, &short);
+        let near = Near(random.below(200));
+        let answer = stages(rt.alloc(), &net, terminals, k, &near);
         let (reached, greatest, other) = answer.expect(&rt, "a small network, and memory");
         assert!(&rt; reached <= greatest);
         assert_eq!(&rt; greatest, other);
@@ -166,6 +175,6 @@ fn short_paths_on_random_networks(rt: HostRuntime) {
             between = between.wrapping_add(1);
         }
     }
-    assert!(&rt; tried > 1000);
+    assert!(&rt; tried > 2000);
     assert!(&rt; between > 20);
 }

@@ -1,0 +1,51 @@
+-- `send_over_one`: the amount goes over the first half-arc and the last one of its node.
+use Rattle.std.proofs.Common.{◌≡◌, ℕ, ◌+◌, ◌-◌, sym, subst, arith, rules}
+use Rattle.std.specs.Prelude.{slice_index}
+use Rattle.flow_net.specs.Residual.{tail_of, head_of}
+use Rattle.flow_solve.specs.Task.{HasFlow}
+use Rattle.flow_solve.specs.levels.Carrying.{IsCarried}
+use Rattle.flow_solve.proofs.LevelLemmas.Carried.{flow_fits, flow_same}
+use Rattle.flow_solve.proofs.LevelLemmas.NearSends.{sent_over_one}
+use Rattle.flow_solve.proofs.levels.near_sends.send_over_one.Goals as goal
+
+pub overflow_add-sent : goal.overflow_add-sent
+overflow_add-sent c =
+    let task = c.args.task in let net = task.packed.net.now in let s = task.s.now in let t = task.t.now in
+    let d = c.fit_last-amount.result in let k = c.args.sent.now.value in let first = c.args.first in
+    let place = c.head-node.result - 1 in let end = slice_index c.args.last.now place in
+    let node = c.head-node.ensures.node in
+    let leads = c.requires.sending.last.ends place (omega arith) (omega arith) in
+    let on : tail_of net end ≡ head_of net first = omega (arith, leads.from, c.head-node.ensures.head) in
+    let before = flow_same net s t c.args.flow.now.flows c.fit_last-amount.new.flow.flows k
+    c.fit_last-amount.ensures.looks.flows c.requires.sending.flow in
+    let now = sent_over_one d k c.requires.sending.task.terminals before (tail_of net first) (head_of net first)
+    (head_of net end) c.carry.new.flow.flows c.carry-2.new.flow.flows c.requires.first.source leads.sink
+    c.carry.ensures.carried
+    (subst (λ v. IsCarried net d v (head_of net end) c.carry.new.flow.flows c.carry-2.new.flow.flows) on
+    c.carry-2.ensures.carried) in
+    omega (
+      arith,
+      flow_fits net s t c.carry-2.new.flow.flows (k + d) c.requires.sending.task.packed.limits
+          c.requires.sending.task.terminals now,
+      c.from.ensures,
+    )
+
+pub returns-clause-flow : goal.returns-clause-flow
+returns-clause-flow c =
+    let task = c.args.task in let net = task.packed.net.now in let s = task.s.now in let t = task.t.now in
+    let d = c.fit_last-amount.result in let k = c.args.sent.now.value in let first = c.args.first in
+    let place = c.head-node.result - 1 in let end = slice_index c.args.last.now place in
+    let node = c.head-node.ensures.node in
+    let leads = c.requires.sending.last.ends place (omega arith) (omega arith) in
+    let on : tail_of net end ≡ head_of net first = omega (arith, leads.from, c.head-node.ensures.head) in
+    let before = flow_same net s t c.args.flow.now.flows c.fit_last-amount.new.flow.flows k
+    c.fit_last-amount.ensures.looks.flows c.requires.sending.flow in
+    let now = sent_over_one d k c.requires.sending.task.terminals before (tail_of net first) (head_of net first)
+    (head_of net end) c.carry.new.flow.flows c.carry-2.new.flow.flows c.requires.first.source leads.sink
+    c.carry.ensures.carried
+    (subst (λ v. IsCarried net d v (head_of net end) c.carry.new.flow.flows c.carry-2.new.flow.flows) on
+    c.carry-2.ensures.carried) in
+    record {
+      flow = subst (λ (v : ℕ). HasFlow task c.carry-2.new.flow.flows (k + v)) (sym c.from.ensures) now;
+      paid = search rules;
+    }

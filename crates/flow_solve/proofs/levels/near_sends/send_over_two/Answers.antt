@@ -1,0 +1,71 @@
+-- `send_over_two`: the amount goes over three half-arcs of three arcs, so that each has its room when it comes to it.
+use Rattle.std.proofs.Common.{◌≡◌, ◌≢◌, ℕ, List, ◌+◌, ◌-◌, ◌/◌, ◌∙◌, sym, ap, subst, arith, rules}
+use Rattle.std.specs.Prelude.{slice_index}
+use Rattle.flow_net.specs.Residual.{tail_of, head_of, residual}
+use Rattle.flow_solve.specs.Task.{HasFlow}
+use Rattle.flow_solve.specs.levels.Carrying.{IsCarried}
+use Rattle.flow_solve.proofs.LevelLemmas.Carried.{flow_fits, flow_same}
+use Rattle.flow_solve.proofs.LevelLemmas.NearSends.{sent_over_two}
+use Rattle.flow_solve.proofs.levels.near_sends.send_over_two.Goals as goal
+
+pub carry-requires-3-clause-room : goal.carry-requires-3-clause-room
+carry-requires-3-clause-room c =
+    let end = slice_index c.args.last.now (c.head-node.result - 1) in
+    let apart = c.are_apart.ensures c.if-not-are_apart.false in
+    let behind : end / 2 ≢ c.args.between / 2 = λ e. apart.1 (sym e) in
+    let beside : end / 2 ≢ c.args.first / 2 = λ e. apart.2 (sym e) in
+    let second = c.carry-2.ensures.others end behind in let one = c.carry.ensures.others end beside in
+    let kept = ap (λ (xs : List ℕ). residual c.args.task.packed.net.now xs end) c.fit_last-amount.ensures.looks.flows in
+    omega (arith, second, one, kept, c.fit_last-amount.ensures.room)
+
+pub overflow_add-sent : goal.overflow_add-sent
+overflow_add-sent c =
+    let task = c.args.task in let net = task.packed.net.now in let s = task.s.now in let t = task.t.now in
+    let d = c.fit_last-amount.result in let k = c.args.sent.now.value in
+    let first = c.args.first in let between = c.args.between in
+    let place = c.head-node.result - 1 in let end = slice_index c.args.last.now place in
+    let node = c.head-node.ensures.node in
+    let leads = c.requires.sending.last.ends place (omega arith) (omega arith) in
+    let on : tail_of net end ≡ head_of net between = omega (arith, leads.from, c.head-node.ensures.head) in
+    let before = flow_same net s t c.args.flow.now.flows c.fit_last-amount.new.flow.flows k
+    (c.fit_last-amount.ensures.looks.flows ∙ c.look-room.ensures.flows) c.requires.sending.flow in
+    let xs = c.carry.new.flow.flows in let ys = c.carry-2.new.flow.flows in let zs = c.carry-3.new.flow.flows in
+    let now = sent_over_two d k c.requires.sending.task.terminals before (tail_of net first) (head_of net first)
+    (head_of net between) (head_of net end) xs ys zs c.requires.first.source leads.sink c.carry.ensures.carried
+    (subst (λ v. IsCarried net d v (head_of net between) xs ys) c.requires.on c.carry-2.ensures.carried)
+    (subst (λ v. IsCarried net d v (head_of net end) ys zs) on c.carry-3.ensures.carried) in
+    omega (
+      arith,
+      flow_fits net s t zs (k + d) c.requires.sending.task.packed.limits c.requires.sending.task.terminals now,
+      c.from.ensures,
+    )
+
+pub returns-clause-flow : goal.returns-clause-flow
+returns-clause-flow c =
+    let task = c.args.task in let net = task.packed.net.now in let s = task.s.now in let t = task.t.now in
+    let d = c.fit_last-amount.result in let k = c.args.sent.now.value in
+    let first = c.args.first in let between = c.args.between in
+    let place = c.head-node.result - 1 in let end = slice_index c.args.last.now place in
+    let node = c.head-node.ensures.node in
+    let leads = c.requires.sending.last.ends place (omega arith) (omega arith) in
+    let on : tail_of net end ≡ head_of net between = omega (arith, leads.from, c.head-node.ensures.head) in
+    let before = flow_same net s t c.args.flow.now.flows c.fit_last-amount.new.flow.flows k
+    (c.fit_last-amount.ensures.looks.flows ∙ c.look-room.ensures.flows) c.requires.sending.flow in
+    let xs = c.carry.new.flow.flows in let ys = c.carry-2.new.flow.flows in let zs = c.carry-3.new.flow.flows in
+    let now = sent_over_two d k c.requires.sending.task.terminals before (tail_of net first) (head_of net first)
+    (head_of net between) (head_of net end) xs ys zs c.requires.first.source leads.sink c.carry.ensures.carried
+    (subst (λ v. IsCarried net d v (head_of net between) xs ys) c.requires.on c.carry-2.ensures.carried)
+    (subst (λ v. IsCarried net d v (head_of net end) ys zs) on c.carry-3.ensures.carried) in
+    record {
+      flow = subst (λ (v : ℕ). HasFlow task zs (k + v)) (sym c.from.ensures) now;
+      paid = search rules;
+    }
+
+pub returns-clause-room : goal.returns-clause-room
+returns-clause-room c =
+    let apart = c.are_apart.ensures c.if-not-are_apart.false in
+    let third = c.carry-3.ensures.others c.args.first apart.2 in
+    let second = c.carry-2.ensures.others c.args.first apart.0 in
+    let kept = ap (λ (xs : List ℕ). residual c.args.task.packed.net.now xs c.args.first)
+    (c.fit_last-amount.ensures.looks.flows ∙ c.look-room.ensures.flows) in
+    omega (arith, second, third, kept, c.carry.ensures.room, c.requires.most)

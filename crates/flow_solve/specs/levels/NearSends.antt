@@ -1,0 +1,32 @@
+-- Near sends: the half-arcs that they begin and end with.
+use Rattle.std.specs.Prelude.{◌≡◌, ◌≢◌, ℕ, ◌+◌, ◌*◌, ◌<◌, IsTrue, List, length, slice_index}
+use Rattle.flow_net.specs.Nets.{Net}
+use Rattle.flow_net.specs.NodeSets.{one_of}
+use Rattle.flow_net.specs.Residual.{Table, tail_of, head_of}
+use Rattle.flow_solve.specs.declared.levels.near_sends.Sent.{Sent}
+use Rattle.flow_solve.specs.declared.task.Task.{Task}
+use Rattle.flow_solve.specs.Task.{HasFlow, IsTask}
+
+-- a half-arc that leads from a source to another node
+pub record IsFirst (task : Task) (h : ℕ) : Type 0 where
+  pub within : h < 2 * length task.packed.net.now.arcs
+  pub source : IsTrue (one_of task.s.now (tail_of task.packed.net.now h))
+  pub apart : tail_of task.packed.net.now h ≢ head_of task.packed.net.now h
+
+-- one that leads from a node to a sink
+pub record LeadsToSink (net : Net) (t : List ℕ) (v h : ℕ) : Type 0 where
+  pub from : tail_of net h ≡ v
+  pub sink : IsTrue (one_of t (head_of net h))
+  pub apart : tail_of net h ≢ head_of net h
+
+-- Each half-arc that stands at the place of a node leads from there to a sink.
+pub record AreLast (net : Net) (t last : List ℕ) : Type 0 where
+  pub size : length last ≡ net.nodes
+  pub ends : (p : ℕ) → p < net.nodes → slice_index last p < 2 * length net.arcs
+      → LeadsToSink net t (p + 1) (slice_index last p)
+
+-- a task, a flow of some value, and last half-arcs
+pub record IsSending (job : Task) (table : Table) (sent : Sent) (cells : List ℕ) : Type 0 where
+  pub task : IsTask job
+  pub flow : HasFlow job table.flows sent.value
+  pub last : AreLast job.packed.net.now job.t.now cells

@@ -1,0 +1,268 @@
+//! Near sends, before the trees grow: what can leave a source goes to sinks over one node or two, by pushes. No tree is
+//! there yet that a push could break, so what they bring costs no repair. Assignments get most of their flow so.
+//!
+//! At each node next to a sink stands its *last half-arc*, one that leads there, until it is filled. The half-arcs of
+//! the sources are gone over one by one: what remains on one is sent on over the last half-arc of its node, and then
+//! over the half-arcs to nodes that have one, until nothing of it is left.
+ghost use Rattle.std.specs.Prelude.{◌≡◌, ◌≢◌, ℕ, ◌+◌, ◌-◌, ◌*◌, ◌/◌, ◌<◌, ◌≤◌, IsTrue, length, slice_index};
+ghost use Rattle.std.specs.List.{All};
+ghost use Rattle.flow_net.specs.Nets.{IsNode};
+ghost use Rattle.flow_net.specs.NodeSets.{one_of};
+ghost use Rattle.flow_net.specs.Flows.{Fits};
+ghost use Rattle.flow_net.specs.Residual.{tail_of, head_of, residual};
+ghost use Rattle.flow_solve.specs.residual.Packs.{IsPacked};
+ghost use Rattle.flow_solve.specs.Task.{HasFlow, IsTask, KeepsFlow};
+ghost use Rattle.flow_solve.specs.Steps.{OnlyLooks, TakesSteps};
+ghost use Rattle.flow_solve.specs.levels.Carrying.{IsCarried};
+ghost use Rattle.flow_solve.specs.levels.NearSends.{AreLast, IsFirst, IsSending};
+
+use crate::levels::spending::spend;
+use crate::residual::half_arcs::{head, twin};
+use crate::residual::packing::Packed;
+use crate::task::Task;
+use flow_net::{FlowTable, Network};
+
+/// Stands for the last half-arc of a node that has none, or none any more.
+const NO_LAST: u32 = u32::MAX;
+
+/// Stands for that of a terminal: nothing is sent on over it.
+const BARRED: u32 = u32::MAX - 1;
+
+/// A flow's value, and what may still be done.
+#[derive(Clone, Copy)]
+pub(crate) struct Sent {
+    /// The value.
+    pub value: u128,
+    /// How many steps may still be taken, and half-arcs passed by.
+    pub left: u64,
+}
+
+/// Sets the last half-arcs of the nodes next to a sink.
+fn set_next_to(packed: Packed<'_>, last: &mut [u32], t: &[u32], sink: u32)
+    requires packed { IsPacked packed.net.now packed.first.now packed.halves.now }
+    requires sink { IsNode packed.net.now sink }
+    requires is_sink { IsTrue (one_of t.now sink) }
+    requires last { AreLast packed.net.now t.now last.old }
+    ensures { AreLast packed.entry.net.now t.now last.new }
+{
+    for spot in packed.first[sink as usize - 1]..packed.first[sink as usize] {
+        let half = packed.halves[spot as usize];
+        // Against an arc nothing remains before anything was sent.
+        if half % 2 == 1 {
+            last[head(packed.net, half) as usize - 1] = twin(half);
+        }
+    }
+}
+
+/// Sets the last half-arcs of terminals.
+fn bar(last: &mut [u32], terminals: &[u32])
+    requires terminals { All (λ v. (1 ≤ v) × (v ≤ length last.old)) terminals.now }
+    ensures { (p : ℕ) → slice_index last.new p ≢ BARRED → slice_index last.new p ≡ slice_index last.old p }
+{
+    for node in terminals {
+        last[*node as usize - 1] = BARRED;
+    }
+}
+
+/// Sets the last half-arcs of all nodes.
+fn set_last(task: Task<'_>, last: &mut [u32])
+    requires task { IsTask task }
+    requires size { length last.old ≡ task.packed.net.now.nodes }
+    ensures { AreLast task.entry.packed.net.now task.entry.t.now last.new }
+{
+    last.fill(NO_LAST);
+    for sink in task.t {
+        set_next_to(task.packed, last, task.t, *sink);
+    }
+    bar(last, task.s);
+    bar(last, task.t);
+}
+
+/// Pushes an amount over a half-arc that is no self-loop: it is carried from the one end to the other, and on the other
+/// arcs as much remains as before.
+fn carry(net: &Network, flow: &mut FlowTable, half: u32, amount: u64)
+    requires fits { Fits net.now flow.old.flows }
+    requires half { half < 2 * length net.now.arcs }
+    requires apart { tail_of net.now half ≢ head_of net.now half }
+    requires room { amount ≤ residual net.now flow.old.flows half }
+    ensures carried { IsCarried net.now amount (tail_of net.now half) (head_of net.now half) flow.old.flows
+        flow.new.flows }
+    ensures room { amount + residual net.now flow.new.flows half ≡ residual net.now flow.old.flows half }
+    ensures others { (g : ℕ) → g / 2 ≢ half / 2
+        → residual net.now flow.new.flows g ≡ residual net.now flow.old.flows g }
+    ensures steps { TakesSteps flow.old flow.new 1 }
+{
+    flow.push(net, half, amount);
+}
+
+/// How much of an amount remains on the last half-arc of a node, which is forgotten where that will fill it.
+fn fit_last(task: Task<'_>, flow: &mut FlowTable, last: &mut [u32], node: u32, most: u64) -> u64
+    requires task { IsTask task }
+    requires fits { Fits task.packed.net.now flow.old.flows }
+    requires last { AreLast task.packed.net.now task.t.now last.old }
+    requires node { IsNode task.packed.net.now node }
+    requires some { slice_index last.old (node - 1) < 2 * length task.packed.net.now.arcs }
+    ensures last { AreLast task.entry.packed.net.now task.entry.t.now last.new }
+    ensures most { result ≤ most }
+    ensures room { result ≤ residual task.entry.packed.net.now flow.old.flows (slice_index last.old (node - 1)) }
+    ensures looks { OnlyLooks flow.old flow.new 1 }
+{
+    let place = node as usize - 1;
+    let (_, room) = flow.look(task.packed.net, last[place]);
+    if room <= most {
+        last[place] = NO_LAST;
+    }
+    room.min(most)
+}
+
+/// Sends on over the last half-arc of a node, at most so much, what comes there over a source's half-arc. Answers how
+/// much that is.
+fn send_over_one(
+    task: Task<'_>,
+    flow: &mut FlowTable,
+    sent: &mut Sent,
+    last: &mut [u32],
+    first: u32,
+    most: u64,
+) -> u64
+    requires sending { IsSending task flow.old sent.old last.old }
+    requires first { IsFirst task first }
+    requires most { most ≤ residual task.packed.net.now flow.old.flows first }
+    ensures flow { KeepsFlow task.entry flow.old sent.old.left flow.new sent.new.value sent.new.left }
+    ensures last { AreLast task.entry.packed.net.now task.entry.t.now last.new }
+    ensures sent { result ≤ most }
+    ensures room { most ≤ result + residual task.entry.packed.net.now flow.new.flows first }
+{
+    let packed = task.packed;
+    let node = head(packed.net, first);
+    let end = last[node as usize - 1];
+    if end as usize >= packed.halves.len() || first / 2 == end / 2 || !spend(&mut sent.left, 3) {
+        return 0;
+    }
+    let amount = fit_last(task, flow, last, node, most);
+    carry(packed.net, flow, first, amount);
+    carry(packed.net, flow, end, amount);
+    sent.value += u128::from(amount);
+    amount
+}
+
+/// Whether no two of three half-arcs are of one arc.
+fn are_apart(first: u32, between: u32, end: u32) -> bool
+    ensures { IsTrue result → (first / 2 ≢ between / 2) × (between / 2 ≢ end / 2) × (first / 2 ≢ end / 2) }
+{
+    first / 2 != between / 2 && between / 2 != end / 2 && first / 2 != end / 2
+}
+
+/// Sends on over a half-arc and then the last half-arc of the node that it leads to, at most so much, what comes over a
+/// source's half-arc to the node that it leaves. Answers how much that is.
+fn send_over_two(
+    task: Task<'_>,
+    flow: &mut FlowTable,
+    sent: &mut Sent,
+    last: &mut [u32],
+    first: u32,
+    between: u32,
+    most: u64,
+) -> u64
+    requires sending { IsSending task flow.old sent.old last.old }
+    requires first { IsFirst task first }
+    requires between { between < 2 * length task.packed.net.now.arcs }
+    requires on { tail_of task.packed.net.now between ≡ head_of task.packed.net.now first }
+    requires apart { tail_of task.packed.net.now between ≢ head_of task.packed.net.now between }
+    requires most { most ≤ residual task.packed.net.now flow.old.flows first }
+    ensures flow { KeepsFlow task.entry flow.old (sent.old.left + 1) flow.new sent.new.value sent.new.left }
+    ensures left { sent.new.left ≤ sent.old.left }
+    ensures last { AreLast task.entry.packed.net.now task.entry.t.now last.new }
+    ensures sent { result ≤ most }
+    ensures room { most ≤ result + residual task.entry.packed.net.now flow.new.flows first }
+{
+    let packed = task.packed;
+    let node = head(packed.net, between);
+    let end = last[node as usize - 1];
+    if end as usize >= packed.halves.len() {
+        return 0;
+    }
+    let (_, room) = flow.look(packed.net, between);
+    if room == 0 || !are_apart(first, between, end) || !spend(&mut sent.left, 4) {
+        return 0;
+    }
+    let amount = fit_last(task, flow, last, node, room.min(most));
+    carry(packed.net, flow, first, amount);
+    carry(packed.net, flow, between, amount);
+    carry(packed.net, flow, end, amount);
+    sent.value += u128::from(amount);
+    amount
+}
+
+/// Sends what remains on a source's half-arc over one node and over two.
+fn send_over(task: Task<'_>, flow: &mut FlowTable, sent: &mut Sent, last: &mut [u32], first: u32)
+    requires sending { IsSending task flow.old sent.old last.old }
+    requires first { IsFirst task first }
+    ensures flow { KeepsFlow task.entry flow.old (sent.old.left + 1) flow.new sent.new.value sent.new.left }
+    ensures left { sent.new.left ≤ sent.old.left }
+    ensures last { AreLast task.entry.packed.net.now task.entry.t.now last.new }
+{
+    let packed = task.packed;
+    let (_, mut room) = flow.look(packed.net, first);
+    let node = head(packed.net, first);
+    if room == 0 || last[node as usize - 1] == BARRED {
+        return;
+    }
+    room -= send_over_one(task, flow, sent, last, first, room);
+    let begin = packed.first[node as usize - 1];
+    let end = packed.first[node as usize];
+    if room == 0 || !spend(&mut sent.left, u64::from(end - begin)) {
+        return;
+    }
+    for spot in begin..end {
+        let between = packed.halves[spot as usize];
+        room -= send_over_two(task, flow, sent, last, first, between, room);
+        if room == 0 {
+            return;
+        }
+    }
+}
+
+/// Sends what can leave a source.
+fn send_from(task: Task<'_>, flow: &mut FlowTable, sent: &mut Sent, last: &mut [u32], source: u32)
+    requires sending { IsSending task flow.old sent.old last.old }
+    requires source { IsNode task.packed.net.now source }
+    requires is_source { IsTrue (one_of task.s.now source) }
+    ensures flow { KeepsFlow task.entry flow.old sent.old.left flow.new sent.new.value sent.new.left }
+    ensures last { AreLast task.entry.packed.net.now task.entry.t.now last.new }
+{
+    let packed = task.packed;
+    let begin = packed.first[source as usize - 1];
+    let end = packed.first[source as usize];
+    if spend(&mut sent.left, u64::from(end - begin)) {
+        for spot in begin..end {
+            send_over(task, flow, sent, last, packed.halves[spot as usize]);
+        }
+    }
+}
+
+/// Sends what can leave the sources to sinks over one node and over two, and takes no more steps than are allowed.
+/// Answers what the flow is worth then, and what may still be done.
+pub(crate) fn send_near(
+    task: Task<'_>,
+    flow: &mut FlowTable,
+    cells: &mut [u32],
+    value: u128,
+    allowance: u64,
+) -> Sent
+    requires task { IsTask task }
+    requires size { task.packed.net.now.nodes ≤ length cells.old }
+    requires flow { HasFlow task flow.old.flows value }
+    ensures { KeepsFlow task.entry flow.old allowance flow.new result.value result.left }
+{
+    let (last, _) = cells.split_at_mut(task.packed.net.nodes() as usize);
+    set_last(task, last);
+    let mut sent = Sent {
+        value,
+        left: allowance,
+    };
+    for source in task.s {
+        send_from(task, flow, &mut sent, last, *source);
+    }
+    sent
+}

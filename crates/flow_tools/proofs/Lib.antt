@@ -1,3 +1,4 @@
 -- What other crates cite.
 pub use Rattle.flow_tools.proofs.streams.SendLemmas
 pub use Rattle.flow_tools.proofs.streams.StreamParts
+pub use Rattle.flow_tools.proofs.connecting.ConnectAnswers

@@ -10,7 +10,6 @@ ghost use Rattle.flow_tools.specs.checking.Verdicts.{IsVerdict, IsWithinCapaciti
 ghost use Rattle.flow_tools.specs.checking.FirstFaults.{IsSumsVerdict};
 ghost use Rattle.flow_tools.specs.checking.ArcShares.{Carries, HasLessValue};
 
-pub(crate) mod answers;
 mod node_flows;
 mod sharing;
 

@@ -1,4 +1,4 @@
-//! Edge connectivity, by flows where every capacity is 1.
+//! Edge connectivity, by disjoint forests and by flows where every capacity is 1.
 ghost use Rattle.std.specs.Prelude.{◌≡◌, ◌≢◌, ℕ, ◌+◌, ◌-◌, ◌*◌, ◌≤◌, ◌<◌, Bool, true, false, List, length, drop};
 ghost use Rattle.std.specs.Prelude.{slice_index};
 ghost use Rattle.std.specs.List.{All};
@@ -10,17 +10,12 @@ ghost use Rattle.flow_net.specs.Flows.{Fits};
 ghost use Rattle.flow_net.specs.Connectivity.{leaving, IsProper};
 ghost use Rattle.flow_net.specs.LeastCuts.{IsConnectivity, IsPairConnectivity};
 ghost use Rattle.flow_solve.specs.Bounds.{work_cells};
-ghost use Rattle.flow_tools.specs.connecting.Degrees.{next_node};
+ghost use Rattle.flow_tools.specs.connecting.Counts.{next_node};
 
 pub(crate) mod answers;
-mod circulations;
-mod components;
-pub(crate) mod degrees;
-pub(crate) mod links;
 
-use degrees::least_degree;
 use flow_net::{FlowTable, Network};
-use flow_solve::{Method, connectivity_by_growth, work_len};
+use flow_solve::{Method, connectivity_by_forests, least_degree, work_len};
 
 /// The least number of arcs that leave a set with the nodes of `s` inside and those of `t` outside, by one solve.
 fn pair_value<M: Method>(
@@ -82,9 +77,9 @@ fn least_around<M: Method>(
     least
 }
 
-/// The connectivity, in cells that are all its own: by terminals that grow along an order of the nodes, within the
-/// steps of one solve, or else by a solve for each node. Of two nodes, a set that counts holds one alone, so the least
-/// degree is the answer.
+/// The connectivity, in cells that are all its own: by disjoint forests from one root, within the steps of one solve,
+/// or else by a solve for each node. Of two nodes, a set that counts holds one alone, so the least degree is the
+/// answer.
 fn least_cut<M: Method>(net: &Network, flow: &mut FlowTable, cells: &mut [u32]) -> u64
     requires fits { Fits net.now flow.old.flows }
     requires unit { All (λ a. a.cap ≡ 1) net.now.arcs }
@@ -103,7 +98,7 @@ fn least_cut<M: Method>(net: &Network, flow: &mut FlowTable, cells: &mut [u32]) 
         return least;
     }
     let spare = M::spare_steps(net);
-    match connectivity_by_growth(net, least, flow, cells, spare) {
+    match connectivity_by_forests(net, least, flow, cells, spare) {
         Some(connectivity) => connectivity,
         None => least_around::<M>(net, flow, cells, least),
     }
@@ -115,9 +110,9 @@ fn least_cut<M: Method>(net: &Network, flow: &mut FlowTable, cells: &mut [u32]) 
 /// [`Network::both_ways`].
 ///
 /// It takes no memory: it works in the first [`work_len`] cells of `work`, and the table holds some flow afterwards.
-/// With `pair` it takes one solve. Without it the flow between each node and those before it in an order is raised,
-/// from one node to the next, only as far as the answer can still fall; where that takes the steps of a solve and isn't
-/// done, a solve for each node follows.
+/// With `pair` it takes one solve. Without it disjoint forests grow from one node, and where one of them doesn't come
+/// to a node, a flow between the node and those it has come to is raised as far as the answer can still fall; where
+/// that takes the steps of a solve and isn't done, a solve for each node follows.
 pub fn connectivity<M: Method>(
     net: &Network,
     pair: bool,

@@ -17,20 +17,20 @@ mod cells;
 mod checking;
 mod connecting;
 mod laws;
+mod networks;
 mod running;
 mod solving;
 mod streams;
 
 pub use checking::check;
+pub use connecting::answers::connect;
 pub use connecting::connectivity;
-pub use connecting::links::connectivity_by_links;
 pub use laws::{greatest_is_least, printed_cut_is_minimum, solved_is_optimal};
+pub use networks::FlowNetwork;
 pub use running::jobs::{Job, Stop};
 pub use running::run;
 pub use running::texts::run_on_texts;
+pub use solving::answers::{MinimumCut, Side, Solved, cut, solve, solve_value};
 pub use streams::counted::Counted;
 pub use streams::sending::put_all;
 pub use streams::{Failed, Input, Output, memory};
-
-#[cfg(test)]
-mod tests;

@@ -4,17 +4,15 @@ ghost use Rattle.flow_tools.specs.running.AnswerExits.{IsTold, Runs};
 ghost use Rattle.flow_tools.specs.running.Exits.{EndsWith, ending};
 ghost use Rattle.flow_tools.specs.streams.Streams.{over};
 
+pub(crate) mod answers;
 pub(crate) mod jobs;
 mod readers;
 pub(crate) mod reading;
 pub(crate) mod texts;
 
-use crate::checking::answers::answer_check;
-use crate::connecting::answers::answer_connect;
-use crate::solving::answers::{answer_cut, answer_solve};
 use crate::streams::sending::put_all;
 use crate::streams::{Input, Output};
-use flow_solve::Levels;
+use answers::{find_answer, put_answer, status_of_answer};
 use flow_text::{ProblemReader, fault_line};
 use jobs::{Job, Stop};
 use reading::{Role, read_all};
@@ -59,7 +57,7 @@ pub fn run<I: Input, J: Input, O: Output, E: Output>(
     }
 }
 
-/// Reads the problem, and puts the answer to it.
+/// Reads the problem, finds the answer to it, and puts that.
 fn answer<I: Input, J: Input, O: Output>(
     alloc: Global,
     job: Job,
@@ -76,15 +74,13 @@ fn answer<I: Input, J: Input, O: Output>(
         Ok(problem) => problem,
         Err(stop) => return Err(stop),
     };
-    match job {
-        Job::Solve { value_only } => answer_solve::<Levels, O>(alloc, problem, value_only, out),
-        Job::Cut { arcs, sink } => answer_cut::<Levels, O>(alloc, problem, arcs, sink, out),
-        Job::Connect { undirected, pair } => {
-            answer_connect::<Levels, O>(alloc, problem, undirected, pair, out)
-        }
-        Job::Check { feasible_only } => {
-            answer_check(alloc, &problem, feasible_only, solution, out)
-        }
+    let answer = match find_answer(alloc, job, problem, solution) {
+        Ok(answer) => answer,
+        Err(stop) => return Err(stop),
+    };
+    match put_answer(out, &answer) {
+        Ok(()) => Ok(status_of_answer(&answer)),
+        Err(_) => Err(Stop::WriteFailed),
     }
 }
 

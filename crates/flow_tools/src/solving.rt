@@ -1,6 +1,6 @@
-//! The answers of `solve` and `cut`.
+//! Greatest flows and minimum cuts, and their texts.
 
 pub(crate) mod answers;
 pub(crate) mod arranging;
 mod gathering;
-mod printing;
+pub(crate) mod printing;

@@ -2,7 +2,6 @@
 use Rattle.std.proofs.Common.{◌≡◌, ◌≢◌, ℕ, zero, suc, ◌+◌, ◌-◌, ◌*◌, ◌≤◌, ◌<◌, Bool, true, false, cond}
 use Rattle.std.proofs.Common.{eqb, List, [], ◌∷◌, refl, ◌∙◌, sym, ap, subst, inl, inr, eq-eqb, arith}
 use Rattle.std.specs.List.{AllByRecursion, count_by}
-use Rattle.std.specs.Prelude.{slice_index}
 use Rattle.std.proofs.lemmas.Bool.{cases_Bool, cases_eq, cases_lt, false≢true, ne_eqb}
 use Rattle.std.proofs.lemmas.List.Sums.{sum_by-cons}
 use Rattle.std.proofs.lemmas.List.Elements.{recursion_from_All}
@@ -11,11 +10,10 @@ use Rattle.flow_net.specs.Nets.{Net, IsNode}
 use Rattle.flow_net.specs.Limits.{IsNet, IsArcWithin}
 use Rattle.flow_net.specs.NodeSets.{just}
 use Rattle.flow_net.specs.Cuts.{leaves}
-use Rattle.flow_net.specs.Arcs.{enters}
 use Rattle.flow_net.specs.Connectivity.{leaving, IsProper}
 use Rattle.flow_net.specs.LeastCuts.{IsConnectivity, IsPairConnectivity}
 use Rattle.flow_net.proofs.Connections.{cut_of_two}
-use Rattle.flow_tools.specs.connecting.Degrees.{next_node, IsBelowNext}
+use Rattle.flow_tools.specs.connecting.Counts.{next_node, IsBelowNext}
 
 -- between a node inside a set and a later one outside there is one inside whose next is outside
 first_out : (X : ℕ → Bool) (a d : ℕ) → X a ≡ true → X (a + d) ≡ false

@@ -13,7 +13,7 @@ use Rattle.flow_net.proofs.Connections.{undirected, undirected_pair, connectivit
 use Rattle.flow_net.proofs.ArrangementLaws.{named_cut, unnamed_cut}
 use Rattle.flow_net.proofs.ArrangedCounts.{leaving_agrees, crossing_agrees, least_restored}
 use Rattle.flow_net.proofs.ArrangedCounts.{named_proper, unnamed_proper}
-use Rattle.flow_tools.specs.connecting.Degrees.{counted}
+use Rattle.flow_tools.specs.connecting.Counts.{counted}
 use Rattle.flow_tools.specs.declared.solving.arranging.Lists.{Lists}
 use Rattle.flow_tools.specs.running.Answers.{IsSeparating}
 use Rattle.flow_tools.specs.solving.ArrangedProblems.{IsArrangedBy, IsSameOrArranged}

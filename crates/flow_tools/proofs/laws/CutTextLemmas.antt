@@ -2,8 +2,9 @@
 -- minimum cut is: so it is a minimum cut.
 use Rattle.std.proofs.Common.{true≢false, ◌≡◌, ℕ, Bool, true, false, not, List, refl, sym, subst, ◌∙◌, inl, inr, arith}
 use Rattle.std.proofs.lemmas.Bool.{cases_Bool}
-use Rattle.flow_net.specs.Nets.{Net, IsNode}
-use Rattle.flow_net.specs.Limits.{IsNet}
+use Rattle.flow_net.specs.Nets.{Net, Instance, IsNode}
+use Rattle.flow_net.specs.Limits.{IsNet, AreTerminals}
+use Rattle.flow_net.specs.MarkedNodes.{marked}
 use Rattle.flow_net.specs.NodeSets.{one_of}
 use Rattle.flow_net.specs.Flows.{IsFeasible, HasValue}
 use Rattle.flow_net.specs.Cuts.{IsCut, capacity, IsMinimumCut}
@@ -16,7 +17,8 @@ use Rattle.flow_net.proofs.NodeLists.{terminals_apart}
 use Rattle.flow_net.proofs.Zips.{head_is_node, tail_is_node}
 use Rattle.flow_text.proofs.AcceptedLemmas.{accepted_problem}
 use Rattle.flow_tools.specs.running.Answers.{IsNearest}
-use Rattle.flow_tools.specs.laws.CutTexts.{GreatestIsLeast, PrintedCutIsMinimum}
+use Rattle.flow_tools.specs.laws.CutTexts.{GreatestIsLeast, IsValueOf, PrintedCutIsMinimum}
+use Rattle.flow_tools.specs.solving.Solutions.{IsMarkedCut}
 
 turned : (b c : Bool) → (b ≡ true → c ≡ true) → c ≡ false → b ≡ false
 turned true c f e = absurd (true≢false (sym (f refl) ∙ e))
@@ -88,11 +90,27 @@ greatest_least b p value said g =
           (terminals_apart p.net p.sources p.sinks within.1.terminals) g;
     }
 
+module _ (p : Instance) (r : IsNet p.net) (q : AreTerminals p.net p.sources p.sinks) (value : ℕ)
+    (v : IsValueOf p value) where
+  -- a nearest set is a minimum cut of the greatest value
+  pub nearest_is_minimum : (side : Bool) (X : ℕ → Bool) → IsNearest p.net (one_of p.sources) (one_of p.sinks) side X
+      → IsMinimumCut p.net (one_of p.sources) (one_of p.sinks) X × (capacity p.net X ≡ value)
+  nearest_is_minimum side X near =
+      let here = v.greatest.reached in
+      nearest_minimum p.net (one_of p.sources) (one_of p.sinks) value here.0 r here.1 here.2 v.least
+      (λ u i. node_among p.net p.sources u q.sources_within i) (λ u i. node_among p.net p.sinks u q.sinks_within i)
+      side X near
+
 pub printed_minimum : PrintedCutIsMinimum
 printed_minimum b p arcs sink text said cut =
     let within = accepted_problem b p said in
-    let here = cut.greatest.reached in
-    nearest_minimum p.net (one_of p.sources) (one_of p.sinks) cut.value here.0 within.0 here.1 here.2
-    (greatest_least b p cut.value said cut.greatest).least
-    (λ v i. node_among p.net p.sources v within.1.terminals.sources_within i)
-    (λ v i. node_among p.net p.sinks v within.1.terminals.sinks_within i) (not sink) cut.X cut.nearest
+    nearest_is_minimum p within.0 within.1.terminals cut.value (greatest_least b p cut.value said cut.greatest)
+    (not sink) cut.X cut.nearest
+
+-- the marks of a nearest set are those of a minimum cut
+pub marked_cut : (p : Instance) (sink : Bool) (value : ℕ) (side : List Bool) → IsNet p.net
+    → AreTerminals p.net p.sources p.sinks → IsValueOf p value
+    → IsNearest p.net (one_of p.sources) (one_of p.sinks) (not sink) (marked side) → IsMarkedCut p sink value side
+marked_cut p sink value side r q v near =
+    let cut = nearest_is_minimum p r q value v (not sink) (marked side) near in
+    record { value_is = v; minimum = cut.0; valued = cut.1; nearest = near }

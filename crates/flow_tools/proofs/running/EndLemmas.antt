@@ -1,39 +1,23 @@
--- The exits of a run, from how its inputs were read and its answer was put.
+-- The exits of a run, from how its inputs were read, its answer was found, and that was put.
 use Rattle.std.proofs.Common.{true≢false, ◌≡◌, ◌↔◌, ℕ, Bool, true, false, List, [], refl, sym, not, IsTrue, IsFalse}
-use Rattle.std.proofs.Common.{arith, Option, Result, Ok, Err, inl, inr}
+use Rattle.std.proofs.Common.{Option, Result, Ok, Err, inl, inr, ◌⊎◌}
 use Rattle.std.specs.Io.KnownBytes.{Appends}
 use Rattle.std.proofs.KnownBytes.{Consumes-nil, Appends-nil}
 use Rattle.flow_net.specs.Nets.{Instance}
-use Rattle.flow_net.specs.NodeSets.{one_of}
-use Rattle.flow_net.specs.Flows.{HasValue}
 use Rattle.flow_text.specs.Problem.{early, problem}
 use Rattle.flow_text.specs.Solution.{early_solution, solution}
-use Rattle.flow_tools.specs.streams.Streams.{Stream}
+use Rattle.flow_tools.specs.streams.Streams.{State, Stream, over, IsKept, HasFailed}
 use Rattle.flow_tools.specs.streams.Sending.{Stops}
 use Rattle.flow_tools.proofs.streams.StreamParts.{stream}
 use Rattle.flow_tools.specs.running.Reading.{IsRead}
-use Rattle.flow_tools.specs.running.Answers.{IsAnswer}
-use Rattle.flow_tools.specs.running.Exits.{EndsAt, IsCheck}
-use Rattle.flow_tools.specs.running.AnswerExits.{Runs, Puts, PutsAt, Checks, ChecksAt}
+use Rattle.flow_tools.specs.running.OnePass.{IsOnePass}
+use Rattle.flow_tools.specs.running.Exits.{EndsAt, HasComeToSolution, IsAllowed, IsCheck}
+use Rattle.flow_tools.specs.running.AnswerExits.{Runs, Finds, FindsAt, IsAnswerTo, text_of, status_of}
+use Rattle.flow_tools.specs.declared.running.answers.Answer.{Answer}
 use Rattle.flow_tools.specs.declared.running.jobs.Job.{Job}
 use Rattle.flow_tools.specs.declared.running.jobs.Job.TheVariants.{Check}
 use Rattle.flow_tools.specs.declared.running.jobs.Stop.{Stop}
 use Rattle.flow_tools.specs.declared.running.jobs.Stop.TheVariants.{Fault, ReadFailed, WriteFailed, OutOfMemory}
-
-module _ (job : Job) (p : Instance) (before after : Option (List ℕ)) (fb fa : Bool) (text : List ℕ)
-    (answers : IsAnswer job p [] text 0) where
-  -- the whole answer was put
-  pub puts_all : Appends before after text → fa ≡ fb → Puts job p [] (stream before after fb fa) (Ok 0)
-  puts_all put kept = record { o = text; put_o = put; exit = (kept, answers) }
-
-  -- a put failed
-  pub puts_some : Stops before after text → fa ≡ true → Puts job p [] (stream before after fb fa) (Err WriteFailed)
-  puts_some put failed = record { o = put.sent; put_o = put.taken; exit = (failed, (text, 0, answers, put.part)) }
-
-module _ (p : Instance) (value : ℕ) (flows : List ℕ) (valued : HasValue p.net (one_of p.sources) flows value) where
-  -- a flow has one value
-  pub same_value : (k : ℕ) → HasValue p.net (one_of p.sources) flows k → k ≡ value
-  same_value k h = omega (arith, h, valued)
 
 -- the opposite of a test holds where the test fails
 pub false_of_not : (b : Bool) (P : Type 0) → IsTrue b ↔ P → IsFalse (not b) ↔ P
@@ -70,111 +54,148 @@ module _ (source : Stream) (q : Option (List ℕ)) (qf : Bool) (job : Job) where
     exit_of WriteFailed r = absurd r.judged
     exit_of OutOfMemory r = (r.judged, refl, refl, refl)
 
-  -- the problem is answered
-  pub answered : (out : Stream) (instance : Instance) (end : Result ℕ Stop) → (IsCheck job → ⊥)
-      → IsRead {T = Instance} early (λ b fault. problem b ≡ Err fault) (λ b p. problem b ≡ Ok p) source false
-      (Ok instance)
-      → Puts job instance [] out end → Runs job source (stream q q qf qf) out end
-  answered out instance end no_check r a err status told is = record {
-    end = end;
-    p = r.text;
-    q = [];
-    o = a.o;
-    delivered_p = r.delivered;
-    delivered_q = Consumes-nil q;
-    put_o = a.put_o;
-    one_pass = r.one_pass;
-    solution_read = inl (refl, refl);
-    exit = exit_of end a.o a.exit;
-    e = told.0;
-    put_e = told.1;
-    told = told.2;
-    answered = is;
-  } where
-    exit_of : (end : Result ℕ Stop) (o : List ℕ) → PutsAt job instance [] out o end
-        → EndsAt job source (stream q q qf qf) out r.text [] o end
-    exit_of (Ok status) o x = (x.0, (r.judged.0, refl, (λ c. absurd (no_check c)), (instance, r.judged.1, x.1)))
-    exit_of (Err (Fault told line code)) o x = absurd x
-    exit_of (Err ReadFailed) o x = absurd x
-    exit_of (Err WriteFailed) o x =
-        (x.0, (x.1.0, x.1.1, (r.judged.0, refl, (λ c. absurd (no_check c)), (instance, r.judged.1, x.1.2)), x.1.3))
-    exit_of (Err OutOfMemory) o x = (r.judged.0.0, refl, x.0, x.1)
+module _ (job : Job) (source given : Stream) (instance : Instance)
+    (r : IsRead {T = Instance} early (λ b fault. problem b ≡ Err fault) (λ b p. problem b ≡ Ok p) source false
+    (Ok instance)) where
+  -- what a run reads of a solution
+  read_so_far : (q : List ℕ)
+      → ((q ≡ []) × IsKept given) ⊎ (IsCheck job × IsOnePass (λ b. early_solution b instance.net.nodes) q)
+      → ((q ≡ []) × IsKept given)
+      ⊎ HasComeToSolution job source r.text (λ nodes. IsOnePass (λ b. early_solution b nodes) q)
+  read_so_far q read = elim read [
+    | inl none ↦ inl none
+    | inr some ↦ inr (some.0, r.judged.0, (instance, r.judged.1, some.1))
+  ]
 
-module _ (source given out : Stream) (feasible_only : Bool) (instance : Instance) (end : Result ℕ Stop) where
-  -- the solution is checked
-  pub checked : IsRead {T = Instance} early (λ b fault. problem b ≡ Err fault) (λ b p. problem b ≡ Ok p) source false
-      (Ok instance)
-      → Checks feasible_only instance given out end → Runs (Check feasible_only) source given out end
-  checked r a err status told answered = record {
-    end = end;
+  -- no answer is found
+  pub none_found : (w : Option (List ℕ)) (wf : Bool) (stop : Stop) → Finds job instance given (Err stop)
+      → Runs job source given (stream w w wf wf) (Err stop)
+  none_found w wf stop a err status told answered = record {
+    end = Err stop;
     p = r.text;
     q = a.q;
-    o = a.o;
+    o = [];
     delivered_p = r.delivered;
     delivered_q = a.delivered;
-    put_o = a.put_o;
+    put_o = Appends-nil w;
     one_pass = r.one_pass;
-    solution_read = inr ((feasible_only, refl), r.judged.0, (instance, r.judged.1, a.one_pass));
-    exit = exit_of end a.o a.exit;
+    solution_read = read_so_far a.q a.solution_read;
+    exit = exit_of stop a.exit;
     e = told.0;
     put_e = told.1;
     told = told.2;
     answered = answered;
   } where
-    exit_of : (end : Result ℕ Stop) (o : List ℕ) → ChecksAt feasible_only instance given out a.q o end
-        → EndsAt (Check feasible_only) source given out r.text a.q o end
-    exit_of (Ok status) o x = (x.1, (r.judged.0, x.0.0, (λ c. x.0), (instance, r.judged.1, x.2)))
-    exit_of (Err (Fault false line code)) o x = absurd x
-    exit_of (Err (Fault true line code)) o x =
-        (x.0, x.1, x.2, ((feasible_only, refl), r.judged.0, (instance, r.judged.1, x.3)))
-    exit_of (Err ReadFailed) o x =
-        (x.1, x.2, inr (x.0, ((feasible_only, refl), r.judged.0, (instance, r.judged.1, x.3))))
-    exit_of (Err WriteFailed) o x =
-        (x.1, (x.2.0, x.2.1, (r.judged.0, x.0.0, (λ c. x.0), (instance, r.judged.1, x.2.2)), x.2.3))
-    exit_of (Err OutOfMemory) o x = (r.judged.0.0, x.0, x.1, x.2)
+    exit_of : (stop : Stop) → FindsAt job instance given a.q (Err stop)
+        → EndsAt job source given (stream w w wf wf) r.text a.q [] (Err stop)
+    exit_of (Fault false line code) x = absurd x
+    exit_of (Fault true line code) x = (x.0, refl, refl, (x.1, r.judged.0, (instance, r.judged.1, x.2)))
+    exit_of ReadFailed x = (refl, refl, inr (x.0, (x.1, r.judged.0, (instance, r.judged.1, x.2))))
+    exit_of WriteFailed x = absurd x
+    exit_of OutOfMemory x = (r.judged.0.0, x, refl, refl)
 
-module _ (feasible_only : Bool) (instance : Instance) (given : Stream) (w : Option (List ℕ)) (wf : Bool) where
+  module _ (out : Stream) (answer : Answer) (a : Finds job instance given (Ok answer)) where
+    allowed : IsAllowed job source given r.text a.q (text_of answer) (status_of answer)
+    allowed = (r.judged.0, a.exit.0, a.exit.1, (instance, r.judged.1, a.exit.2.0))
+
+    -- all of it is put
+    pub answer_put : Appends out.before.bytes out.after.bytes (text_of answer) → IsKept out
+        → Runs job source given out (Ok (status_of answer))
+    answer_put put kept err status told answered = record {
+      end = Ok (status_of answer);
+      p = r.text;
+      q = a.q;
+      o = text_of answer;
+      delivered_p = r.delivered;
+      delivered_q = a.delivered;
+      put_o = put;
+      one_pass = r.one_pass;
+      solution_read = read_so_far a.q a.solution_read;
+      exit = (kept, allowed);
+      e = told.0;
+      put_e = told.1;
+      told = told.2;
+      answered = answered;
+    }
+
+    -- a put failed
+    pub put_failed : Stops out.before.bytes out.after.bytes (text_of answer) → HasFailed out
+        → Runs job source given out (Err WriteFailed)
+    put_failed put failed err status told answered = record {
+      end = Err WriteFailed;
+      p = r.text;
+      q = a.q;
+      o = put.sent;
+      delivered_p = r.delivered;
+      delivered_q = a.delivered;
+      put_o = put.taken;
+      one_pass = r.one_pass;
+      solution_read = read_so_far a.q a.solution_read;
+      exit = (failed, (text_of answer, status_of answer, allowed, put.part));
+      e = told.0;
+      put_e = told.1;
+      told = told.2;
+      answered = answered;
+    }
+
+module _ (job : Job) (instance : Instance) (given : State) where
+  -- a job that has to do with no solution
+  pub found : (answer : Answer) → (IsCheck job → ⊥) → IsAnswerTo job instance [] answer
+      → Finds job instance (over given given) (Ok answer)
+  found answer no_check a = record {
+    q = [];
+    delivered = Consumes-nil given.bytes;
+    solution_read = inl (refl, refl);
+    exit = (refl, (λ c. absurd (no_check c)), a);
+  }
+
+  pub no_memory : Finds job instance (over given given) (Err OutOfMemory)
+  no_memory = record {
+    q = [];
+    delivered = Consumes-nil given.bytes;
+    solution_read = inl (refl, refl);
+    exit = refl;
+  }
+
+module _ (feasible_only : Bool) (instance : Instance) (given : Stream) {T : Type 0}
+    (accepts : List ℕ → T → Type 0) where
+  -- how a solution was read
+  abbrev pub IsReadAs : Result T Stop → Type 0
+  IsReadAs end =
+      IsRead {T = T} (λ b. early_solution b instance.net.nodes) (λ b fault. solution b instance.net.nodes ≡ Err fault)
+      accepts given true end
+
   -- the solution is refused, or can't be read
-  pub solution_stops : {T : Type 0} (accepts : List ℕ → T → Type 0) (stop : Stop)
-      → IsRead {T = T} (λ b. early_solution b instance.net.nodes) (λ b fault. solution b instance.net.nodes ≡ Err fault)
-      accepts given true (Err stop)
-      → Checks feasible_only instance given (stream w w wf wf) (Err stop)
-  solution_stops accepts stop r = record {
+  pub solution_stops : (stop : Stop) → IsReadAs (Err stop) → Finds (Check feasible_only) instance given (Err stop)
+  solution_stops stop r = record {
     q = r.text;
-    o = [];
     delivered = r.delivered;
-    put_o = Appends-nil w;
-    one_pass = r.one_pass;
+    solution_read = inr ((feasible_only, refl), r.one_pass);
     exit = exit_of stop r;
   } where
-    exit_of : (stop : Stop)
-        (r : IsRead (λ b. early_solution b instance.net.nodes) (λ b fault. solution b instance.net.nodes ≡ Err fault)
-        accepts given true (Err stop))
-        → ChecksAt feasible_only instance given (stream w w wf wf) r.text [] (Err stop)
+    exit_of : (stop : Stop) (r : IsReadAs (Err stop)) → FindsAt (Check feasible_only) instance given r.text (Err stop)
     exit_of (Fault false line code) r = absurd (true≢false (sym r.judged.1))
-    exit_of (Fault true line code) r = (r.judged.0, refl, refl, r.judged.2)
-    exit_of ReadFailed r = (r.judged.0, refl, refl, r.judged.1)
+    exit_of (Fault true line code) r = (r.judged.0, (feasible_only, refl), r.judged.2)
+    exit_of ReadFailed r = (r.judged.0, (feasible_only, refl), r.judged.1)
     exit_of WriteFailed r = absurd r.judged
-    exit_of OutOfMemory r = (r.judged, refl, refl)
+    exit_of OutOfMemory r = r.judged
 
--- the verdict is put
-pub solution_answered : {T : Type 0} (feasible_only : Bool) (instance : Instance) (given out : Stream)
-    (end : Result ℕ Stop) (accepts : List ℕ → T → Type 0) (found : T)
-    → (r : IsRead {T = T} (λ b. early_solution b instance.net.nodes)
-    (λ b fault. solution b instance.net.nodes ≡ Err fault) accepts given true (Ok found))
-    → Puts (Check feasible_only) instance r.text out end → Checks feasible_only instance given out end
-solution_answered feasible_only instance given out end accepts found r a = record {
-  q = r.text;
-  o = a.o;
-  delivered = r.delivered;
-  put_o = a.put_o;
-  one_pass = r.one_pass;
-  exit = exit_of end a.o a.exit;
-} where
-  exit_of : (end : Result ℕ Stop) (o : List ℕ) → PutsAt (Check feasible_only) instance r.text out o end
-      → ChecksAt feasible_only instance given out r.text o end
-  exit_of (Ok status) o x = (r.judged.0, x.0, x.1)
-  exit_of (Err (Fault told line code)) o x = absurd x
-  exit_of (Err ReadFailed) o x = absurd x
-  exit_of (Err WriteFailed) o x = (r.judged.0, x.0, x.1)
-  exit_of (Err OutOfMemory) o x = (r.judged.0.0, x.0, x.1)
+  module _ (written : T) (r : IsReadAs (Ok written)) where
+    -- it is judged
+    pub solution_judged : (answer : Answer) → IsAnswerTo (Check feasible_only) instance r.text answer
+        → Finds (Check feasible_only) instance given (Ok answer)
+    solution_judged answer a = record {
+      q = r.text;
+      delivered = r.delivered;
+      solution_read = inr ((feasible_only, refl), r.one_pass);
+      exit = (r.judged.0.0, (λ c. r.judged.0), a);
+    }
+
+    -- it can't be, for want of memory
+    pub not_judged : Finds (Check feasible_only) instance given (Err OutOfMemory)
+    not_judged = record {
+      q = r.text;
+      delivered = r.delivered;
+      solution_read = inr ((feasible_only, refl), r.one_pass);
+      exit = r.judged.0.0;
+    }

@@ -1,13 +1,15 @@
 -- A run over texts in memory: what its exits say where no input can fail and all that an input has is known.
 use Rattle.std.proofs.Common.{true≢false, ◌≡◌, ◌≢◌, ℕ, Bool, true, false, List, [], ◌++◌, refl, sym, ap, subst, ◌∙◌}
-use Rattle.std.proofs.Common.{append-nil, Some, Result, Ok, Err, inl, inr}
+use Rattle.std.proofs.Common.{append-nil, Some, Result, Ok, Err, inl, inr, ◌⊎◌, length}
+use Rattle.std.specs.Prelude.{take}
+use Rattle.std.proofs.Math.Seq.{take-append_seam}
 use Rattle.flow_net.specs.Nets.{Instance}
 use Rattle.flow_net.specs.declared.networks.OutOfMemory.{OutOfMemory as NoMemory}
 use Rattle.flow_text.specs.Problem.{early, problem}
 use Rattle.flow_text.specs.Solution.{early_solution, solution}
 use Rattle.flow_text.specs.TextLaws.{EarlyFaultStays, EarlySolutionFaultStays}
 use Rattle.flow_text.specs.declared.faults.FaultCode.{FaultCode}
-use Rattle.flow_tools.specs.streams.Streams.{Stream}
+use Rattle.flow_tools.specs.streams.Streams.{Stream, IsBeginning}
 use Rattle.flow_tools.specs.running.Answers.{IsAnswer}
 use Rattle.flow_tools.specs.running.Exits.{EndsAt, EndsWith, HasFault, IsAllowed, IsCheck, ending}
 use Rattle.flow_tools.specs.running.AnswerExits.{IsTold}
@@ -76,19 +78,25 @@ module _ (job : Job) (b b_rest q q_rest : List ℕ) where
     Ran r = (o : List ℕ) × (e : List ℕ) × (out_after ≡ out_before ++ o) × (err_after ≡ err_before ++ e)
         × RunsOn job b q o e r
 
-    -- whatever the exit was, the output got nothing or a beginning of an answer
-    pub ran_refused : (status : ℕ) (refused : NoMemory) → EndsWith job source given out err status → Ran (Err refused)
-    ran_refused status refused run = (run.o, run.e, run.put_o, run.put_e, at run.end run.exit) where
-      at : (end : Result ℕ Stop) → EndsAt job source given out run.p run.q run.o end
-          → RunsOn job b q run.o run.e (Err refused)
-      at (Ok s) h =
-          inr (run.o, s, answers run.p run.q run.o s run.delivered_p run.delivered_q h.1, ([], sym (append-nil run.o)))
-      at (Err (Fault false line code)) h = inl h.3
-      at (Err (Fault true line code)) h = inl h.2
-      at (Err ReadFailed) h = inl h.1
-      at (Err WriteFailed) h =
-          inr (h.1.0, h.1.1, answers run.p run.q h.1.0 h.1.1 run.delivered_p run.delivered_q h.1.2, h.1.3)
-      at (Err OutOfMemory) h = inl h.3
+    -- whatever the exit was, the output got nothing or a beginning of an answer, and what the errors had is left of them
+    pub ran_refused : (status : ℕ) (refused : NoMemory) (had : ℕ) → EndsWith job source given out err status
+        → had ≡ length err_before
+        → (o : List ℕ) × (out_after ≡ out_before ++ o) × (take had err_after ≡ err_before ++ [])
+        × RunsOn job b q o [] (Err refused)
+    ran_refused status refused had run is =
+        let left : take had err_after ≡ err_before ++ [] =
+        rw (is, run.put_e) (take-append_seam err_before run.e ∙ sym (append-nil err_before)) in
+        (run.o, run.put_o, left, (refl, at run.end run.exit)) where
+          at : (end : Result ℕ Stop) → EndsAt job source given out run.p run.q run.o end
+              → (run.o ≡ []) ⊎ ((text : List ℕ) × (s : ℕ) × Answers job b q text s × IsBeginning run.o text)
+          at (Ok s) h =
+              inr (run.o, s, answers run.p run.q run.o s run.delivered_p run.delivered_q h.1, ([], sym (append-nil run.o)))
+          at (Err (Fault false line code)) h = inl h.3
+          at (Err (Fault true line code)) h = inl h.2
+          at (Err ReadFailed) h = inl h.1
+          at (Err WriteFailed) h =
+              inr (h.1.0, h.1.1, answers run.p run.q h.1.0 h.1.1 run.delivered_p run.delivered_q h.1.2, h.1.3)
+          at (Err OutOfMemory) h = inl h.3
 
     -- a message that was told by a stream that hasn't failed was told whole
     told_whole : (message : List ℕ) (told : IsTold err message) → err_has ≡ false → told.0 ≡ message

@@ -1,7 +1,6 @@
 -- What holds of an arranged problem holds of the problem, under its own names and in its own order.
 use Rattle.std.proofs.Common.{◌≡◌, ◌↔◌, ℕ, Bool, true, false, not, List, length, replicate}
-use Rattle.std.proofs.Common.{refl, sym, ◌∙◌, ap, subst, arith}
-use Rattle.std.specs.Prelude.{if◌then◌else◌}
+use Rattle.std.proofs.Common.{refl, sym, ◌∙◌, ap, subst, arith, Option, None, Some, inl, inr}
 use Rattle.std.specs.List.{range_with_len}
 use Rattle.std.proofs.lemmas.List.{length-map}
 use Rattle.std.proofs.lemmas.List.FromFn.{length-range_with_len}
@@ -24,8 +23,9 @@ use Rattle.flow_net.proofs.ArrangementLaws.{same_arranged}
 use Rattle.flow_tools.specs.declared.solving.arranging.Lists.{Lists}
 use Rattle.flow_tools.specs.running.Answers.{IsNearest}
 use Rattle.flow_tools.specs.laws.CutTexts.{IsValueOf}
-use Rattle.flow_tools.specs.solving.Sides.{side_of}
-use Rattle.flow_tools.specs.solving.ArrangedProblems.{IsArrangedBy, IsSolution, IsMarkedCut}
+use Rattle.flow_tools.specs.solving.Solutions.{IsSolution, IsMarkedCut}
+use Rattle.flow_tools.specs.solving.ArrangedProblems.{IsArrangedBy, IsArrangedIf, IsSameOrArranged}
+use Rattle.flow_tools.proofs.laws.CutTextLemmas.{marked_cut}
 
 module _ (net other : Net) (names places : List ℕ) (a : IsArranged net other names places) where
   pub places_all : length places ≡ length net.arcs
@@ -35,16 +35,12 @@ module _ (net other : Net) (names places : List ℕ) (a : IsArranged net other n
   pub arcs_all : length other.arcs ≡ length net.arcs
   arcs_all = ap length a.arcs ∙ length-map places (λ i. renamed names (arc_at net i)) ∙ places_all
 
-  -- it keeps the limits of a problem
-  pub arranged_is_problem : (s t s' t' : List ℕ) → IsNet net → IsProblem (record { net = net; sources = s; sinks = t })
-      → s' ≡ all_named names s → t' ≡ all_named names t
-      → IsProblem (record { net = other; sources = s'; sinks = t' })
-  arranged_is_problem s t s' t' r p e f =
-      let law = same_arranged net other names places s t r p.terminals a in
-      let most = p.arcs_most in
-      let same = arcs_all in
-      let ends : AreTerminals other s' t' = rw (e, f) law.terminals in
-      record { arcs_most = omega arith; terminals = ends }
+  -- the terminals under their new names are terminals of it
+  pub arranged_terminals : (s t s' t' : List ℕ) → IsNet net → AreTerminals net s t → s' ≡ all_named names s
+      → t' ≡ all_named names t → AreTerminals other s' t'
+  arranged_terminals s t s' t' r p e f =
+      let law = same_arranged net other names places s t r p a in
+      rw (e, f) law.terminals
 
 -- an arranged problem, from its parts
 pub arranged_by : (p other : Instance) (lists : Lists) (net net' : Net) (names nodes places s' t' : List ℕ)
@@ -63,8 +59,8 @@ arranged_by p other lists net net' names nodes places s' t' n o names_is nodes_i
     }
 
 -- a problem again, from the parts of an arranged one under their old names
-pub restored : (p other after : Instance) (lists : Lists) (net : Net) (s t : List ℕ) → IsProblem p
-    → IsArrangedBy p other lists → net ≡ p.net → s ≡ all_named lists.nodes.items other.sources
+pub restored : (p other after : Instance) (lists : Lists) (net : Net) (s t : List ℕ)
+    → AreTerminals p.net p.sources p.sinks → IsArrangedBy p other lists → net ≡ p.net → s ≡ all_named lists.nodes.items other.sources
     → t ≡ all_named lists.nodes.items other.sinks → after ≡ record { net = net; sources = s; sinks = t } → after ≡ p
 restored p other after lists net s t q a net_is s_is t_is after_is =
     let names = lists.names.items in
@@ -72,11 +68,11 @@ restored p other after lists net s t q a net_is s_is t_is after_is =
     let sources : s ≡ p.sources =
     s_is
     ∙ ap (all_named nodes) a.sources
-    ∙ all_named_back p.net names nodes a.inverse p.sources q.terminals.sources_within in
+    ∙ all_named_back p.net names nodes a.inverse p.sources q.sources_within in
     let sinks : t ≡ p.sinks =
     t_is
     ∙ ap (all_named nodes) a.sinks
-    ∙ all_named_back p.net names nodes a.inverse p.sinks q.terminals.sinks_within in
+    ∙ all_named_back p.net names nodes a.inverse p.sinks q.sinks_within in
     let made : record { net = net; sources = s; sinks = t } ≡ p = rw (net_is, sources, sinks) refl in
     after_is ∙ made
 
@@ -97,11 +93,12 @@ same_cells p other lists a =
     let nodes = a.net.nodes in
     rw (all, nodes) refl
 
-module _ (p other : Instance) (lists : Lists) (r : IsNet p.net) (q : IsProblem p) (a : IsArrangedBy p other lists) where
+module _ (p other : Instance) (lists : Lists) (r : IsNet p.net) (q : AreTerminals p.net p.sources p.sinks)
+    (a : IsArrangedBy p other lists) where
   law : AgreeOnAll p.net other.net lists.names.items lists.places.items p.sources p.sinks other.sources other.sinks
   law =
       rw (a.sources, a.sinks)
-      (same_arranged p.net other.net lists.names.items lists.places.items p.sources p.sinks r q.terminals a.net)
+      (same_arranged p.net other.net lists.names.items lists.places.items p.sources p.sinks r q a.net)
 
   -- the value of the arranged problem is that of the problem
   value_restored : (k : ℕ) → IsValueOf other k → IsValueOf p k
@@ -111,7 +108,7 @@ module _ (p other : Instance) (lists : Lists) (r : IsNet p.net) (q : IsProblem p
         greatest = greatest;
         least =
             greatest_is_least p.net (one_of p.sources) (one_of p.sinks) k r
-            (terminals_apart p.net p.sources p.sinks q.terminals) greatest;
+            (terminals_apart p.net p.sources p.sinks q) greatest;
       }
 
   -- a solution stands for one of the problem, which carried over is it
@@ -170,14 +167,41 @@ module _ (p other : Instance) (lists : Lists) (r : IsNet p.net) (q : IsProblem p
       → ((v : ℕ) → IsNode p.net v → marked here v ≡ marked there (named lists.names.items v))
       → IsMarkedCut p sink value here
   cut_restored sink value there here m same =
-      let X = side_of sink here in
-      let Y = side_of sink there in
-      let h : (v : ℕ) → IsNode p.net v → Y (named lists.names.items v) ≡ X v =
-      λ v k. ap (λ b. if sink then not b else b) (sym (same v k)) in
-      let cuts = law.cuts X Y h in
-      record {
-        value_is = value_restored value m.value_is;
-        minimum = cuts.minimum.1 m.minimum;
-        valued = cuts.capacities ∙ m.valued;
-        nearest = nearest_restored (not sink) X Y h m.nearest;
-      }
+      marked_cut p sink value here r q (value_restored value m.value_is)
+      (nearest_restored (not sink) (marked here) (marked there) (λ v k. sym (same v k)) m.nearest)
+
+-- Where the problem may have stayed as it is.
+module _ (p other : Instance) where
+  -- an empty table fits
+  pub zeros_fit_if : (lists : Option Lists) (xs : List ℕ) → IsArrangedIf p other lists
+      → xs ≡ replicate (length p.net.arcs) 0 → Fits other.net xs
+  zeros_fit_if None xs a e =
+      subst (λ (o : Instance). Fits o.net xs) (sym a) (subst (Fits p.net) (sym e) (zeros_fit p.net))
+  zeros_fit_if (Some lists) xs a e = zeros_fit_arranged p other lists xs a e
+
+  -- a solver works in as many cells
+  pub same_cells_if : (lists : Option Lists) → IsArrangedIf p other lists → work_cells other.net ≡ work_cells p.net
+  same_cells_if None a = ap (λ (o : Instance). work_cells o.net) a
+  same_cells_if (Some lists) a = same_cells p other lists a
+
+  -- it has as many nodes, and as many arcs
+  pub same_nodes_if : (lists : Option Lists) → IsArrangedIf p other lists → other.net.nodes ≡ p.net.nodes
+  same_nodes_if None a = ap (λ (o : Instance). o.net.nodes) a
+  same_nodes_if (Some lists) a = a.net.nodes
+
+  pub same_arcs_if : (lists : Option Lists) → IsArrangedIf p other lists → length other.net.arcs ≡ length p.net.arcs
+  same_arcs_if None a = ap (λ (o : Instance). length o.net.arcs) a
+  same_arcs_if (Some lists) a = arcs_all p.net other.net lists.names.items lists.places.items a.net
+
+  -- a solution stands for one of the problem
+  pub solution_if : (lists : Option Lists) (value : ℕ) (ys : List ℕ) → IsNet p.net
+      → AreTerminals p.net p.sources p.sinks → IsArrangedIf p other lists → IsSolution other value ys
+      → (xs : List ℕ) × IsSolution p value xs
+  solution_if None value ys r q a h = (ys, subst (λ o. IsSolution o value ys) a h)
+  solution_if (Some lists) value ys r q a h = let from = solution_named p other lists r q a value ys h in (from.0, from.3)
+
+  -- the problem itself, or an arrangement of it
+  pub same_or_arranged : (lists : Option Lists) → IsNet p.net → IsProblem p → IsArrangedIf p other lists
+      → IsSameOrArranged p other
+  same_or_arranged None r q a = inl a
+  same_or_arranged (Some lists) r q a = inr (r, q, (lists, a))

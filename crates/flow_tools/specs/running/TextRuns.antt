@@ -23,9 +23,9 @@ Refuses job b q message =
     × (solution q instance.net.nodes ≡ Err (line, code)) × (message ≡ fault_line true line code)))
 
 -- what was put into the output (o) and the errors (e): an answer, or the line about a fault; where memory was refused,
--- nothing or a beginning of an answer
+-- no line, and nothing or a beginning of an answer
 abbrev pub RunsOn : Job → List ℕ → List ℕ → List ℕ → List ℕ → Result ℕ OutOfMemory → Type 0
 RunsOn job b q o e (Ok status) =
     (Answers job b q o status × (e ≡ [])) ⊎ (Refuses job b q e × (o ≡ []) × (status ≡ 3))
 RunsOn job b q o e (Err refused) =
-    (o ≡ []) ⊎ ((text : List ℕ) × (status : ℕ) × Answers job b q text status × IsBeginning o text)
+    (e ≡ []) × ((o ≡ []) ⊎ ((text : List ℕ) × (status : ℕ) × Answers job b q text status × IsBeginning o text))

@@ -1,26 +1,19 @@
-//! The answer of a `connect` job: the connectivity of the problem's network.
-ghost use Rattle.std.specs.Prelude.{◌≡◌, [], ◌≤◌, true, false, length, if◌then◌else◌, IfOk};
+//! The connectivity of a problem's network, as a value.
+ghost use Rattle.std.specs.Prelude.{◌≡◌, ◌≤◌, true, false, length, if◌then◌else◌, IfOk};
 ghost use Rattle.std.specs.List.{All};
 ghost use Rattle.flow_net.specs.declared.limits.TheConstants.{MOST_ARCS};
 ghost use Rattle.flow_net.specs.Limits.{AreTerminals};
 ghost use Rattle.flow_net.specs.DerivedNets.{unit, both_ways};
 ghost use Rattle.flow_net.specs.NodeSets.{one_of, IsLeastOver};
 ghost use Rattle.flow_net.specs.LeastCuts.{IsConnectivity, IsPairConnectivity};
-ghost use Rattle.flow_tools.specs.connecting.Degrees.{counted};
-ghost use Rattle.flow_tools.specs.running.AnswerExits.{Puts};
+ghost use Rattle.flow_tools.specs.connecting.Counts.{counted};
 ghost use Rattle.flow_tools.specs.running.Answers.{IsSeparating};
-ghost use Rattle.flow_tools.specs.streams.Streams.{over};
 
 use crate::cells::work_for;
 use crate::connecting::connectivity;
-use crate::connecting::links::connectivity_by_links;
-use crate::running::jobs::{Job, Stop, ended};
 use crate::solving::arranging::arrange_if_scattered;
-use crate::streams::Output;
-use crate::streams::sending::put_all;
 use flow_net::{FlowTable, Network, OutOfMemory, Problem};
-use flow_solve::Method;
-use flow_text::connect_line;
+use flow_solve::{Levels, Method};
 use std::alloc::Global;
 
 /// The network in which a flow counts arcs: every capacity is 1, and where `undirected` is true each arc is there both
@@ -53,7 +46,7 @@ fn solve_connectivity<M: Method>(
     Ok(connectivity::<M>(net, pair, s, t, &mut table, work.as_mut_slice()))
 }
 
-/// The connectivity that is asked for: by a count of links where this tells it, and else by flows.
+/// The connectivity that is asked for.
 fn find_connectivity<M: Method>(
     alloc: Global,
     problem: Problem,
@@ -62,28 +55,26 @@ fn find_connectivity<M: Method>(
 ) -> Result<u64, OutOfMemory>
     ensures { IfOk result (IsLeastOver (IsSeparating problem pair) (counted undirected problem.net)) }
 {
-    if !pair {
-        let told = connectivity_by_links(alloc, problem.net(), undirected)?;
-        if let Some(value) = told {
-            return Ok(value);
-        }
-    }
     let problem = arrange_if_scattered(alloc, problem)?;
     let (net, sources, sinks) = problem.into_parts();
     let net = counting_network(net, undirected)?;
     solve_connectivity::<M>(alloc, &net, pair, &sources, &sinks)
 }
 
-/// Puts the connectivity that is asked for.
-pub(crate) fn answer_connect<M: Method, O: Output>(
+/// The edge connectivity of a problem's network, by arcs of any capacity: the least number of arcs that leave a set of
+/// nodes which is neither empty nor all, or where `undirected` is true that have exactly one end in it. With `pair`
+/// only the sets count that have every source inside and every sink outside; without it the terminals aren't looked at.
+///
+/// # Errors
+///
+/// `OutOfMemory`.
+pub fn connect(
     alloc: Global,
     problem: Problem,
     undirected: bool,
     pair: bool,
-    out: &mut O,
-) -> Result<u8, Stop>
-    ensures { Puts (Job.Connect undirected pair) problem [] (over (O.state out.old) (O.state out.new)) result }
+) -> Result<u64, OutOfMemory>
+    ensures { IfOk result (IsLeastOver (IsSeparating problem pair) (counted undirected problem.net)) }
 {
-    let value = find_connectivity::<M>(alloc, problem, undirected, pair)?;
-    ended(put_all(out, connect_line(value).as_slice()), 0)
+    find_connectivity::<Levels>(alloc, problem, undirected, pair)
 }

@@ -1,13 +1,7 @@
 //! What is asked of a run, and why one ends without an answer.
-ghost use Rattle.std.specs.Prelude.{◌≡◌, ℕ, List};
-ghost use Rattle.flow_net.specs.Nets.{Instance};
-ghost use Rattle.flow_tools.specs.streams.Sending.{IsPut};
-ghost use Rattle.flow_tools.specs.streams.Streams.{Stream};
-ghost use Rattle.flow_tools.specs.running.AnswerExits.{Puts};
-ghost use Rattle.flow_tools.specs.running.Answers.{IsAnswer};
+ghost use Rattle.std.specs.Prelude.{◌≡◌};
 ghost use Rattle.flow_tools.specs.declared.running.jobs.Stop.TheVariants.{OutOfMemory};
 
-use crate::streams::Failed;
 use flow_net::OutOfMemory;
 use flow_text::FaultCode;
 
@@ -91,16 +85,5 @@ impl From<OutOfMemory> for Stop {
 
     fn from(_refused: OutOfMemory) -> Stop {
         Stop::OutOfMemory
-    }
-}
-
-/// How a run ends that has put its answer: with a status, or because the put failed.
-pub(crate) fn ended(put: Result<(), Failed>, status: u8) -> Result<u8, Stop>
-    ensures { (job : Job) (p : Instance) (q text : List ℕ) (out : Stream) → IsAnswer job p q text status
-        → IsPut text out put → Puts job p q out result }
-{
-    match put {
-        Ok(()) => Ok(status),
-        Err(_) => Err(Stop::WriteFailed),
     }
 }

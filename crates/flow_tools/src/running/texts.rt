@@ -44,7 +44,7 @@ impl Input for Text<'_> {
 ///
 /// # Errors
 ///
-/// `OutOfMemory` where memory was refused. `out` then got nothing or a beginning of an answer.
+/// `OutOfMemory` where memory was refused. `out` then got nothing or a beginning of an answer, and `err` nothing.
 pub fn run_on_texts(
     alloc: Global,
     job: Job,
@@ -60,6 +60,7 @@ pub fn run_on_texts(
     early_solution_fault_stays();
     let mut source = Text { rest: problem };
     let mut given = Text { rest: solution };
+    let had = err.len();
     let mut answer = Counted::new(replace(out, Vec::new(alloc)));
     let mut message = Counted::new(replace(err, Vec::new(alloc)));
     let status = run(
@@ -73,10 +74,9 @@ pub fn run_on_texts(
     let cut_short = Output::failed(&message);
     *out = answer.into_inner();
     *err = message.into_inner();
-    if status == 4 {
-        return Err(OutOfMemory);
-    }
-    if cut_short {
+    if status == 4 || cut_short {
+        // Of the message as much was put as there was memory for; the error says it all.
+        err.truncate(had);
         return Err(OutOfMemory);
     }
     Ok(status)

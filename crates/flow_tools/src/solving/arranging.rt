@@ -1,20 +1,22 @@
-//! Problems whose nodes are renamed and whose arcs are put in order before they are solved, and put back afterwards.
-ghost use Rattle.std.specs.Prelude.{◌≡◌, ℕ, ◌≤◌, ◌<◌, List, length, slice_index, IfOk, IfSome, OnErr, if◌then◌else◌};
+//! Networks whose nodes are renamed and whose arcs are put in order before they are solved, and put back afterwards.
+ghost use Rattle.std.specs.Prelude.{◌≡◌, ℕ, ◌≤◌, ◌<◌, List, length, slice_index, IfOk, IfSome, Bool, if◌then◌else◌};
 ghost use Rattle.std.specs.List.{All};
 ghost use Rattle.flow_net.specs.Nets.{Instance};
-ghost use Rattle.flow_net.specs.Limits.{IsNet, IsProblem};
+ghost use Rattle.flow_net.specs.Limits.{IsNet, AreTerminals};
 ghost use Rattle.flow_net.specs.MarkedNodes.{marked};
 ghost use Rattle.flow_net.specs.Arrangements.{named, all_named, carried};
 ghost use Rattle.flow_solve.specs.Bounds.{work_cells};
-ghost use Rattle.flow_tools.specs.solving.ArrangedProblems.{AreListsFor, IsArrangedBy, IsSameOrArranged};
+ghost use Rattle.flow_tools.specs.solving.ArrangedProblems.{AreListsFor, IsArrangedBy, IsArrangedIf, IsSameOrArranged};
+ghost use Rattle.flow_tools.specs.solving.Solutions.{IsSolution, IsMarkedCut};
 
 use crate::cells::{filled, work_for};
+use crate::networks::FlowNetwork;
 use flow_net::{
     FlowTable, Network, OutOfMemory, Problem, arrange, is_scattered, name_nodes, restore,
 };
 use std::alloc::Global;
 
-/// The lists by which a problem is arranged: 8 bytes for each node and 8 for each arc.
+/// The lists by which a network is arranged: 8 bytes for each node and 8 for each arc.
 #[derive(Drop)]
 pub(crate) struct Lists {
     /// The new name of each node.
@@ -27,7 +29,7 @@ pub(crate) struct Lists {
     pub spots: Vec<u32>,
 }
 
-/// All the memory that it takes to arrange a problem.
+/// All the memory that it takes to arrange a network.
 pub(crate) fn make_lists(alloc: Global, net: &Network) -> Result<Lists, OutOfMemory>
     ensures { IfOk result (AreListsFor net.now) }
 {
@@ -43,15 +45,15 @@ pub(crate) fn make_lists(alloc: Global, net: &Network) -> Result<Lists, OutOfMem
     })
 }
 
-/// The lists by which a problem is arranged, if its arcs come in no order.
+/// The lists by which a network is arranged, if its arcs come in no order.
 pub(crate) fn lists_if_scattered(
     alloc: Global,
-    problem: &Problem,
+    network: &FlowNetwork,
 ) -> Result<Option<Lists>, OutOfMemory>
-    ensures { IfOk result (λ lists. IfSome lists (AreListsFor problem.now.net)) }
+    ensures { IfOk result (λ lists. IfSome lists (AreListsFor network.now.net)) }
 {
-    let net = problem.net();
-    if !is_scattered(net, problem.sources()[0], problem.sinks()[0]) {
+    let net = network.net();
+    if !is_scattered(net, network.sources()[0], network.sinks()[0]) {
         return Ok(None);
     }
     let lists = make_lists(alloc, net)?;
@@ -68,19 +70,23 @@ fn rename_all(vs: &mut Vec<u32>, names: &[u32])
     }
 }
 
-/// Renames the nodes of a problem by a search, and puts its arcs in order; or answers it as it was, where the search
-/// found no naming. It works in the cells of a solver, and takes no memory.
-pub(crate) fn arrange_problem(
-    problem: Problem,
-    lists: &mut Lists,
+/// Renames the nodes of a network by a search and puts its arcs in order, where there are lists for that; without lists
+/// it stays as it is, and where the search finds no naming. Answers the lists where it is arranged by them. It works in
+/// the cells of a solver, and takes no memory.
+pub(crate) fn arrange_network(
+    network: FlowNetwork,
+    lists: Option<Lists>,
     work: &mut [u32],
-) -> Result<Problem, Problem>
-    requires lists { AreListsFor problem.net lists.old }
-    requires cells { work_cells problem.net ≤ length work.old }
-    ensures ok { IfOk result (λ arranged. IsArrangedBy problem arranged lists.new) }
-    ensures err { (same : Instance) → result ≡ Err same → same ≡ problem }
+) -> (FlowNetwork, Option<Lists>)
+    requires lists { IfSome lists (AreListsFor network.net) }
+    requires cells { work_cells network.net ≤ length work.old }
+    ensures arranged { IsArrangedIf network result.0 result.1 }
+    ensures cells { length work.new ≡ length work.old }
 {
-    let (mut net, mut sources, mut sinks) = problem.into_parts();
+    let Some(mut lists) = lists else {
+        return (network, None);
+    };
+    let (mut net, mut sources, mut sinks) = network.into_parts();
     let n = net.nodes() as usize;
     let m = net.len() as usize;
     let found = name_nodes(
@@ -91,7 +97,7 @@ pub(crate) fn arrange_problem(
         work,
     );
     if !found {
-        return Err(Problem::new(net, sources, sinks));
+        return (FlowNetwork::new(net, sources, sinks), None);
     }
     let names = lists.names.as_slice();
     let (counts, rest) = work.split_at_mut(n);
@@ -106,7 +112,7 @@ pub(crate) fn arrange_problem(
     );
     rename_all(&mut sources, names);
     rename_all(&mut sinks, names);
-    Ok(Problem::new(net, sources, sinks))
+    (FlowNetwork::new(net, sources, sinks), Some(lists))
 }
 
 /// Arranges a problem whose arcs come in no order, for an answer that speaks of no node and no arc. The memory that
@@ -114,58 +120,94 @@ pub(crate) fn arrange_problem(
 pub(crate) fn arrange_if_scattered(alloc: Global, problem: Problem) -> Result<Problem, OutOfMemory>
     ensures { IfOk result (IsSameOrArranged problem) }
 {
-    let Some(mut lists) = lists_if_scattered(alloc, &problem)? else {
-        return Ok(problem);
+    let network = FlowNetwork::of_problem(problem);
+    let Some(lists) = lists_if_scattered(alloc, &network)? else {
+        return Ok(network.into_problem());
     };
-    let mut work = work_for(alloc, problem.net())?;
-    match arrange_problem(problem, &mut lists, work.as_mut_slice()) {
-        Ok(arranged) => Ok(arranged),
-        Err(problem) => Ok(problem),
+    let mut work = work_for(alloc, network.net())?;
+    let (network, _) = arrange_network(network, Some(lists), work.as_mut_slice());
+    Ok(network.into_problem())
+}
+
+/// Gives a network that is arranged by lists its old names and order, and carries the flows back with the arcs. It
+/// takes no memory.
+pub(crate) fn restore_network(
+    network: FlowNetwork,
+    flows: &mut [u64],
+    lists: Option<Lists>,
+) -> FlowNetwork
+    requires before { (p : Instance) × IsNet p.net × AreTerminals p.net p.sources p.sinks
+        × IsArrangedIf p network lists }
+    requires flows { length flows.old ≡ length network.net.arcs }
+    ensures network { (p : Instance) → IsNet p.net → AreTerminals p.net p.sources p.sinks
+        → IsArrangedIf p network lists → result ≡ p }
+    ensures solution { (p : Instance) (value : ℕ) → IsNet p.net → AreTerminals p.net p.sources p.sinks
+        → IsArrangedIf p network lists → IsSolution network value flows.old → IsSolution p value flows.new }
+{
+    match lists {
+        None => network,
+        Some(lists) => restore_arranged(network, flows, lists),
     }
 }
 
-/// Gives an arranged problem its old names and order, and carries a flow back with the arcs. It takes no memory.
-pub(crate) fn restore_problem(problem: Problem, flow: &mut FlowTable, lists: &mut Lists) -> Problem
-    requires before { (p : Instance) × IsNet p.net × IsProblem p × IsArrangedBy p problem lists.old }
-    requires flows { length flow.old.flows ≡ length problem.net.arcs }
-    ensures problem { (p : Instance) → IsNet p.net → IsProblem p → IsArrangedBy p problem lists.old → result ≡ p }
-    ensures flows { (xs : List ℕ) → length xs ≡ length problem.net.arcs
-        → flow.old.flows ≡ carried lists.old.places.items xs → flow.new.flows ≡ xs }
-    ensures names { lists.new.names.items ≡ lists.old.names.items }
+/// The same of a network that is arranged.
+fn restore_arranged(network: FlowNetwork, flows: &mut [u64], mut lists: Lists) -> FlowNetwork
+    requires before { (p : Instance) × IsNet p.net × AreTerminals p.net p.sources p.sinks
+        × IsArrangedBy p network lists }
+    requires flows { length flows.old ≡ length network.net.arcs }
+    ensures network { (p : Instance) → IsNet p.net → AreTerminals p.net p.sources p.sinks
+        → IsArrangedBy p network lists → result ≡ p }
+    ensures flows { (xs : List ℕ) → length xs ≡ length network.net.arcs
+        → flows.old ≡ carried lists.places.items xs → flows.new ≡ xs }
 {
-    let (mut net, mut sources, mut sinks) = problem.into_parts();
+    let (mut net, mut sources, mut sinks) = network.into_parts();
     let nodes = lists.nodes.as_slice();
     restore(
         &mut net,
-        flow,
+        flows,
         nodes,
         lists.places.as_mut_slice(),
         lists.spots.as_mut_slice(),
     );
     rename_all(&mut sources, nodes);
     rename_all(&mut sinks, nodes);
-    Problem::new(net, sources, sinks)
+    FlowNetwork::new(net, sources, sinks)
 }
 
-/// Puts 1 for each node whose name is marked in place of that name, and 0 for the others.
-fn gather_marks(side: &[bool], names: &mut [u32])
-    requires { All (λ w. (1 ≤ w) × (w ≤ length side.now)) names.old }
-    ensures { (i : ℕ) → i < length names.old
-        → slice_index names.new i ≡ (if marked side.now (slice_index names.old i) then 1 else 0) }
+/// Puts 1 for each node whose name is marked, and 0 for the others.
+fn gather_marks(side: &[bool], names: &[u32], cells: &mut [u32])
+    requires names { All (λ w. (1 ≤ w) × (w ≤ length side.now)) names.now }
+    requires cells { length names.now ≤ length cells.old }
+    ensures marks { (i : ℕ) → i < length names.now
+        → slice_index cells.new i ≡ (if marked side.now (slice_index names.now i) then 1 else 0) }
+    ensures count { length cells.new ≡ length cells.old }
 {
-    for name in names.iter_mut() {
-        *name = u32::from(side[*name as usize - 1]);
+    for i in 0..names.len() {
+        cells[i] = u32::from(side[names[i] as usize - 1]);
     }
 }
 
-/// Marks each node as its name was marked. The names are used up.
-pub(crate) fn mark_nodes(side: &mut [bool], names: &mut [u32])
-    requires same { length names.old ≡ length side.old }
-    requires names { All (λ w. (1 ≤ w) × (w ≤ length side.old)) names.old }
-    ensures { (v : ℕ) → 1 ≤ v → v ≤ length side.old → marked side.new v ≡ marked side.old (named names.old v) }
+/// Marks each node as its name was marked, in lent cells.
+fn mark_nodes(side: &mut [bool], names: &[u32], cells: &mut [u32])
+    requires same { length names.now ≡ length side.old }
+    requires names { All (λ w. (1 ≤ w) × (w ≤ length side.old)) names.now }
+    requires cells { length names.now ≤ length cells.old }
+    ensures { (v : ℕ) → 1 ≤ v → v ≤ length side.old → marked side.new v ≡ marked side.old (named names.now v) }
 {
-    gather_marks(side, names);
+    gather_marks(side, names, cells);
     for i in 0..side.len() {
-        side[i] = names[i] == 1;
+        side[i] = cells[i] == 1;
+    }
+}
+
+/// Marks the side of a cut by the old names of the nodes, where the network is arranged by lists.
+pub(crate) fn name_side(side: &mut [bool], lists: &Option<Lists>, cells: &mut [u32])
+    requires before { (p other : Instance) × IsArrangedIf p other lists.now × (length side.old ≡ p.net.nodes)
+        × (p.net.nodes ≤ length cells.old) }
+    ensures { (p other : Instance) (sink : Bool) (value : ℕ) → IsNet p.net → AreTerminals p.net p.sources p.sinks
+        → IsArrangedIf p other lists.now → IsMarkedCut other sink value side.old → IsMarkedCut p sink value side.new }
+{
+    if let Some(lists) = lists {
+        mark_nodes(side, lists.names.as_slice(), cells);
     }
 }

@@ -4,7 +4,8 @@ ghost use Rattle.std.specs.List.{flat_map, zip};
 ghost use Rattle.flow_net.specs.Cuts.{leaves};
 ghost use Rattle.flow_text.specs.Output.{cut_text, flow_line, line_of, solve_text};
 ghost use Rattle.flow_text.specs.ArcLines.{arc_line};
-ghost use Rattle.flow_tools.specs.solving.Sides.{nodes_inside, side_of};
+ghost use Rattle.flow_net.specs.MarkedNodes.{marked};
+ghost use Rattle.flow_tools.specs.solving.Sides.{nodes_inside};
 ghost use Rattle.flow_tools.specs.streams.Streams.{over};
 ghost use Rattle.flow_tools.specs.streams.Sending.{IsGathered, IsPut};
 
@@ -48,8 +49,7 @@ pub(crate) fn put_solution<O: Output>(
 
 /// Puts a value and the nodes of a source side, rising, and where `arcs` is true the arcs that leave it, in order.
 ///
-/// The source side has the nodes that are marked in `side`, cell `v - 1` for node `v`; where `sink` is true, the
-/// nodes that aren't.
+/// The source side has the nodes that are marked in `side`, cell `v - 1` for node `v`.
 ///
 /// # Errors
 ///
@@ -60,19 +60,18 @@ pub(crate) fn put_cut<O: Output>(
     value: u128,
     side: &[bool],
     arcs: bool,
-    sink: bool,
 ) -> Result<(), Failed>
     requires count { length side.now ≡ net.now.nodes }
-    ensures { let text = cut_text arcs net.now value (side_of sink side.now) in
+    ensures { let text = cut_text arcs net.now value (marked side.now) in
         IsPut text (over (O.state out.old) (O.state out.new)) result }
 {
     let mut waiting = Gathered::new();
     gather_value(&mut waiting, value);
-    gather_nodes(out, &mut waiting, net, side, sink)?;
+    gather_nodes(out, &mut waiting, net, side)?;
     if !arcs {
         return put_all(out, waiting.as_slice());
     }
-    gather_arcs(out, &mut waiting, net, side, sink)?;
+    gather_arcs(out, &mut waiting, net, side)?;
     put_all(out, waiting.as_slice())
 }
 
@@ -103,12 +102,12 @@ fn gather_flows<O: Output>(
 }
 
 /// Whether a node lies in the source side.
-fn is_inside(side: &[bool], sink: bool, node: u32) -> bool
+fn is_inside(side: &[bool], node: u32) -> bool
     requires least { 1 ≤ node }
     requires most { node ≤ length side.now }
-    ensures { result ≡ side_of sink side.now node }
+    ensures { result ≡ marked side.now node }
 {
-    side[node as usize - 1] != sink
+    side[node as usize - 1]
 }
 
 /// Gathers the line of each node of the source side.
@@ -117,16 +116,15 @@ fn gather_nodes<O: Output>(
     waiting: &mut Gathered,
     net: &Network,
     side: &[bool],
-    sink: bool,
 ) -> Result<(), Failed>
     requires count { length side.now ≡ net.now.nodes }
     ensures { let text = waiting.old.items
-        ++ flat_map (λ v. line_of "n" (v ∷ [])) (nodes_inside net.now (side_of sink side.now)) in
+        ++ flat_map (λ v. line_of "n" (v ∷ [])) (nodes_inside net.now (marked side.now)) in
         IsGathered waiting.new.items text (over (O.state out.old) (O.state out.new)) result }
 {
     for i in 0..net.nodes() {
         let node = i + 1;
-        if !is_inside(side, sink, node) {
+        if !is_inside(side, node) {
             continue;
         }
         gather_node_line(out, waiting, node)?;
@@ -135,14 +133,14 @@ fn gather_nodes<O: Output>(
 }
 
 /// Whether an arc leaves the source side.
-fn does_leave(side: &[bool], sink: bool, arc: Arc) -> bool
+fn does_leave(side: &[bool], arc: Arc) -> bool
     requires src_least { 1 ≤ arc.src }
     requires src_most { arc.src ≤ length side.now }
     requires dst_least { 1 ≤ arc.dst }
     requires dst_most { arc.dst ≤ length side.now }
-    ensures { result ≡ leaves (side_of sink side.now) arc }
+    ensures { result ≡ leaves (marked side.now) arc }
 {
-    is_inside(side, sink, arc.src) && !is_inside(side, sink, arc.dst)
+    is_inside(side, arc.src) && !is_inside(side, arc.dst)
 }
 
 /// Gathers the line of each arc that leaves the source side.
@@ -151,16 +149,15 @@ fn gather_arcs<O: Output>(
     waiting: &mut Gathered,
     net: &Network,
     side: &[bool],
-    sink: bool,
 ) -> Result<(), Failed>
     requires count { length side.now ≡ net.now.nodes }
     ensures { let text = waiting.old.items
-        ++ flat_map arc_line (filter (leaves (side_of sink side.now)) net.now.arcs) in
+        ++ flat_map arc_line (filter (leaves (marked side.now)) net.now.arcs) in
         IsGathered waiting.new.items text (over (O.state out.old) (O.state out.new)) result }
 {
     for i in 0..net.len() {
         let arc = net.arc(i);
-        if !does_leave(side, sink, arc) {
+        if !does_leave(side, arc) {
             continue;
         }
         gather_arc_line(out, waiting, arc)?;

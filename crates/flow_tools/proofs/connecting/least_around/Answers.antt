@@ -6,8 +6,9 @@ use Rattle.std.proofs.lemmas.Bool.{cases_eq}
 use Rattle.flow_net.specs.Nets.{IsNode}
 use Rattle.flow_net.specs.NodeSets.{just}
 use Rattle.flow_net.specs.LeastCuts.{IsPairConnectivity}
-use Rattle.flow_tools.specs.connecting.Degrees.{next_node, IsBelowNext}
-use Rattle.flow_tools.proofs.connecting.ConnectingLemmas.{pair_of_singles, pair_is_proper, lesser_proper}
+use Rattle.flow_tools.specs.connecting.Counts.{next_node, IsBelowNext}
+use Rattle.flow_tools.proofs.connecting.ConnectingLemmas.{pair_of_singles, pair_is_proper}
+use Rattle.flow_net.proofs.Complements.{lesser_proper}
 use Rattle.flow_tools.proofs.connecting.CircleLemmas.{connected_around, next_is_node, below_next, below_next_less}
 use Rattle.flow_tools.proofs.connecting.CircleLemmas.{around_steps}
 use Rattle.flow_tools.proofs.connecting.least_around.Goals as goal

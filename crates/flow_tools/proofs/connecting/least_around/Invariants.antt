@@ -3,7 +3,7 @@ use Rattle.std.proofs.Common.{◌≡◌, ◌+◌, ◌*◌, ◌-◌, ◌<◌, ◌
 use Rattle.flow_net.specs.Flows.{Fits}
 use Rattle.flow_net.specs.Connectivity.{IsProper, leaving}
 use Rattle.flow_solve.specs.Bounds.{work_cells}
-use Rattle.flow_tools.specs.connecting.Degrees.{IsBelowNext}
+use Rattle.flow_tools.specs.connecting.Counts.{IsBelowNext}
 use Rattle.flow_tools.proofs.connecting.least_around.Given as goal
 
 abbrev pub invariant-loop-v : goal.invariant-loop-v

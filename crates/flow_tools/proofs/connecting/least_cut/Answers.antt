@@ -1,4 +1,4 @@
--- Two nodes have no sets but those of one node; and where the growth isn't done, its steps and those round the circle
+-- Two nodes have no sets but those of one node; and where the forests aren't done, their steps and those round the circle
 -- are within the bound of both.
 use Rattle.std.proofs.Common.{arith}
 use Rattle.flow_tools.proofs.connecting.CircleLemmas.{two_nodes, both_steps}
@@ -14,4 +14,4 @@ returns-in-None-clause-steps g c =
     let two = c.nodes-n.ensures.is_net.nodes_least in
     let both = both_steps c.args.net.now.nodes (g.M.Method.steps_bound c.args.net.now) (omega arith) in
     omega
-    (arith, both, c.spare_steps-spare.ensures, c.connectivity_by_growth.ensures.steps, c.least_around.ensures.steps)
+    (arith, both, c.spare_steps-spare.ensures, c.connectivity_by_forests.ensures.steps, c.least_around.ensures.steps)

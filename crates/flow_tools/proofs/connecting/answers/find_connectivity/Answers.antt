@@ -3,7 +3,7 @@
 use Rattle.std.proofs.Common.{◌≡◌, ℕ, true, false, Bool, Result, Ok, Err, IfOk, ◌∙◌}
 use Rattle.flow_net.specs.NodeSets.{one_of, IsLeastOver}
 use Rattle.flow_net.specs.LeastCuts.{IsConnectivity, IsPairConnectivity}
-use Rattle.flow_tools.specs.connecting.Degrees.{counted}
+use Rattle.flow_tools.specs.connecting.Counts.{counted}
 use Rattle.flow_tools.specs.running.Answers.{IsSeparating}
 use Rattle.flow_tools.proofs.connecting.ConnectAnswers.{unit_capacities, connectivity_of, connectivity_restored}
 use Rattle.flow_tools.proofs.connecting.answers.find_connectivity.Goals as goal

@@ -1,30 +1,31 @@
--- What `find_cut` marks: the least side of the terminals that are asked for, and a minimum cut of the flow's value.
+-- What `find_cut` marks: the set nearest the terminals that are asked for, which is a minimum cut.
+use Rattle.std.proofs.Common.{◌≡◌, ◌≤◌, length, rules, arith, true, false}
 use Rattle.flow_net.specs.MarkedNodes.{marked}
-use Rattle.flow_tools.proofs.running.EndLemmas.{same_value, false_of_not}
+use Rattle.flow_tools.proofs.laws.CutTextLemmas.{marked_cut}
+use Rattle.flow_tools.proofs.running.EndLemmas.{false_of_not}
 use Rattle.flow_tools.proofs.solving.answers.find_cut.Goals as goal
 
-pub returns-then-sink-clause-cut : goal.returns-then-sink-clause-cut
-returns-then-sink-clause-cut g c =
-    let p = c.args.problem.now in let r = c.cut_nearest_sinks.ensures in
+pub returns-in-Source-clause-cut : goal.returns-in-Source-clause-cut
+returns-in-Source-clause-cut c =
+    let r = c.cut_nearest_sources.ensures in
     let net = c.net-net.ensures.net in let s = c.sources-s.ensures.sources in let t = c.sinks-t.ensures.sinks in
-    let flow = rw (net, s, t) at r.flow in let side = rw (net, s, t) at r.side in
-    let flows = c.cut_nearest_sinks.new.flow.flows in
-    rw c.if-sink.true record {
-      value_is = record { greatest = rw (net, s, t) at r.greatest; least = rw (net, s, t) at r.least };
-      minimum = side.minimum;
-      valued = same_value p c.cut_nearest_sinks.result flows flow.value _ side.value;
-      nearest = λ v within. false_of_not (marked c.cut_nearest_sinks.new.side v) _ (side.nodes v within);
-    }
+    let side = rw (net, s, t) at r.side in
+    rw c.in-Source.is
+    (marked_cut c.args.network.now false c.cut_nearest_sources.result c.cut_nearest_sources.new.side
+    (rw net at c.nodes.ensures.is_net) c.net-net.ensures.terminals
+    (record { greatest = rw (net, s, t) at r.greatest; least = rw (net, s, t) at r.least }) side.nodes)
 
-pub returns-else-sink-clause-cut : goal.returns-else-sink-clause-cut
-returns-else-sink-clause-cut g c =
-    let p = c.args.problem.now in let r = c.cut_nearest_sources.ensures in
+pub returns-in-Sink-clause-cut : goal.returns-in-Sink-clause-cut
+returns-in-Sink-clause-cut c =
+    let r = c.cut_nearest_sinks-value.ensures in
+    let old = c.cut_nearest_sinks-value.new.side in
     let net = c.net-net.ensures.net in let s = c.sources-s.ensures.sources in let t = c.sinks-t.ensures.sinks in
-    let flow = rw (net, s, t) at r.flow in let side = rw (net, s, t) at r.side in
-    let flows = c.cut_nearest_sources.new.flow.flows in
-    rw c.if-sink.false record {
-      value_is = record { greatest = rw (net, s, t) at r.greatest; least = rw (net, s, t) at r.least };
-      minimum = side.minimum;
-      valued = same_value p c.cut_nearest_sources.result flows flow.value _ side.value;
-      nearest = side.nodes;
-    }
+    let side = rw (net, s, t) at r.side in
+    let size : length old ≡ c.args.network.now.net.nodes = search rules in
+    rw c.in-Sink.is
+    (marked_cut c.args.network.now true c.cut_nearest_sinks-value.result c.mark_others.new.side
+    (rw net at c.nodes.ensures.is_net) c.net-net.ensures.terminals
+    (record { greatest = rw (net, s, t) at r.greatest; least = rw (net, s, t) at r.least })
+    (λ v within.
+    let most : v ≤ length old = omega (arith, within.1, size) in
+    rw (c.mark_others.ensures.marks v within.0 most) (false_of_not (marked old v) _ (side.nodes v within))))

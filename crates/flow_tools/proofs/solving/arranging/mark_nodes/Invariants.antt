@@ -6,5 +6,5 @@ use Rattle.flow_tools.proofs.solving.arranging.mark_nodes.Given as goal
 abbrev pub invariant-loop-i : goal.invariant-loop-i
 invariant-loop-i l = record {
   count : length l.side ≡ length l.fn.side;
-  done : (k : ℕ) → k < l.i → slice_index_or l.side k false ≡ nat_eq (slice_index l.names k) 1;
+  done : (k : ℕ) → k < l.i → slice_index_or l.side k false ≡ nat_eq (slice_index l.cells k) 1;
 }

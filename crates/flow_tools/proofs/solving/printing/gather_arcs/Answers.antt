@@ -4,7 +4,7 @@ use Rattle.std.proofs.Common.{◌∙◌, arith, refl, rules}
 use Rattle.flow_net.specs.Arcs.{no_arc}
 use Rattle.flow_net.specs.Cuts.{leaves}
 use Rattle.flow_text.specs.ArcLines.{arc_line}
-use Rattle.flow_tools.specs.solving.Sides.{side_of}
+use Rattle.flow_net.specs.MarkedNodes.{marked}
 use Rattle.flow_tools.proofs.streams.SendLemmas.{on_err}
 use Rattle.flow_tools.proofs.solving.LineLemmas.{line_if, lines_more, lines_skip, lines_stop, lines_end}
 use Rattle.flow_tools.proofs.solving.LineLemmas.{flat_map-filter}
@@ -13,7 +13,7 @@ use Rattle.flow_tools.proofs.solving.printing.gather_arcs.Goals as goal
 
 pub loop-i-preserved-then-not-does_leave : goal.loop-i-preserved-then-not-does_leave
 loop-i-preserved-then-not-does_leave g c =
-    let p = leaves (side_of c.args.sink c.args.side.now) in let arcs = c.args.net.now.arcs in (
+    let p = leaves (marked c.args.side.now) in let arcs = c.args.net.now.arcs in (
       lines_skip (line_if p arc_line) arcs c.loop-i.i _ _ _ _ c.loop-i.invariant.0 no_arc (omega arith)
           (no_arc_line p c.args.net.now c.loop-i.i c.arc-arc.result c.arc-arc.ensures.arc c.if-not-does_leave.ensures),
       c.loop-i.invariant.1,
@@ -21,7 +21,7 @@ loop-i-preserved-then-not-does_leave g c =
 
 pub returns-in_err-gather_arc_line : goal.returns-in_err-gather_arc_line
 returns-in_err-gather_arc_line g c =
-    let p = leaves (side_of c.args.sink c.args.side.now) in let arcs = c.args.net.now.arcs in
+    let p = leaves (marked c.args.side.now) in let arcs = c.args.net.now.arcs in
     record {
       ok = search rules;
       err =
@@ -35,7 +35,7 @@ returns-in_err-gather_arc_line g c =
 
 pub loop-i-preserved : goal.loop-i-preserved
 loop-i-preserved g c =
-    let p = leaves (side_of c.args.sink c.args.side.now) in let arcs = c.args.net.now.arcs in (
+    let p = leaves (marked c.args.side.now) in let arcs = c.args.net.now.arcs in (
       lines_more (line_if p arc_line) arcs c.loop-i.i _ _ _ _ c.loop-i.invariant.0 no_arc _ _ _ (omega arith)
           (arc_line_is p c.args.net.now c.loop-i.i c.arc-arc.result _ c.arc-arc.ensures.arc c.if-not-does_leave.ensures
           refl) c.in_ok-gather_arc_line.ensures.ok,
@@ -44,7 +44,7 @@ loop-i-preserved g c =
 
 pub returns : goal.returns
 returns g c =
-    let p = leaves (side_of c.args.sink c.args.side.now) in let arcs = c.args.net.now.arcs in
+    let p = leaves (marked c.args.side.now) in let arcs = c.args.net.now.arcs in
     record {
       ok =
           rw (flat_map-filter p arc_line arcs)

@@ -3,7 +3,7 @@
 use Rattle.std.proofs.Common.{◌∙◌, arith, refl, rules}
 use Rattle.std.specs.List.{range_with_len}
 use Rattle.std.proofs.lemmas.List.FromFn.{length-range_with_len}
-use Rattle.flow_tools.specs.solving.Sides.{side_of}
+use Rattle.flow_net.specs.MarkedNodes.{marked}
 use Rattle.flow_tools.proofs.streams.SendLemmas.{on_err}
 use Rattle.flow_tools.proofs.solving.LineLemmas.{line_if, lines_more, lines_skip, lines_stop, lines_end}
 use Rattle.flow_tools.proofs.solving.LineLemmas.{flat_map-filter}
@@ -12,7 +12,7 @@ use Rattle.flow_tools.proofs.solving.printing.gather_nodes.Goals as goal
 
 pub loop-i-preserved-then-not-is_inside : goal.loop-i-preserved-then-not-is_inside
 loop-i-preserved-then-not-is_inside g c =
-    let p = side_of c.args.sink c.args.side.now in
+    let p = marked c.args.side.now in
     let n = c.args.net.now.nodes in
     let e = length-range_with_len 1 n in (
       lines_skip (line_if p node_line) (range_with_len 1 n) c.loop-i.i _ _ _ _ c.loop-i.invariant.0 0 (omega arith)
@@ -22,7 +22,7 @@ loop-i-preserved-then-not-is_inside g c =
 
 pub returns-in_err-gather_node_line : goal.returns-in_err-gather_node_line
 returns-in_err-gather_node_line g c =
-    let p = side_of c.args.sink c.args.side.now in let n = c.args.net.now.nodes in let e = length-range_with_len 1 n in
+    let p = marked c.args.side.now in let n = c.args.net.now.nodes in let e = length-range_with_len 1 n in
     record {
       ok = search rules;
       err =
@@ -36,7 +36,7 @@ returns-in_err-gather_node_line g c =
 
 pub loop-i-preserved : goal.loop-i-preserved
 loop-i-preserved g c =
-    let p = side_of c.args.sink c.args.side.now in
+    let p = marked c.args.side.now in
     let n = c.args.net.now.nodes in
     let e = length-range_with_len 1 n in (
       lines_more (line_if p node_line) (range_with_len 1 n) c.loop-i.i _ _ _ _ c.loop-i.invariant.0 0 _ _ _
@@ -47,7 +47,7 @@ loop-i-preserved g c =
 
 pub returns : goal.returns
 returns g c =
-    let p = side_of c.args.sink c.args.side.now in let n = c.args.net.now.nodes in let e = length-range_with_len 1 n in
+    let p = marked c.args.side.now in let n = c.args.net.now.nodes in let e = length-range_with_len 1 n in
     record {
       ok =
           rw (flat_map-filter p node_line (range_with_len 1 n))

@@ -36,6 +36,3 @@ pub use scan::{fields, number};
 pub use solution_reader::SolutionReader;
 pub use solutions::{FlowLine, Solution};
 pub use verdicts::Verdict;
-
-#[cfg(test)]
-mod tests;

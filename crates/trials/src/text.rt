@@ -5,8 +5,8 @@ mod faults;
 mod output;
 mod reading;
 
-use super::*;
 use flow_net::Problem;
+use flow_text::*;
 use std::alloc::Global;
 use std::process::Abort;
 use std::test::Fail;

@@ -1,0 +1,189 @@
+//! The connectivity by forests against the plain way, a solve from each node to the next in a circle of all nodes, to
+//! which it comes where its steps are used up.
+ghost use Rattle.std.specs.Prelude.{◌≡◌, ◌<◌, ◌≤◌};
+ghost use Rattle.std.specs.List.{All};
+ghost use Rattle.flow_solve.specs.Bounds.{levels_bound};
+
+use flow_net::{Arc, FEWEST_NODES, FlowTable, MOST_ARCS, MOST_NODES, Network};
+use flow_solve::{Levels, Method, connectivity_by_forests, least_degree, work_len};
+use flow_tools::connectivity;
+use std::alloc::Global;
+
+/// The method by levels without a step to spare: the forests end where they begin.
+struct NoStepToSpare;
+
+impl Method for NoStepToSpare {
+    ghost steps_bound = { levels_bound };
+
+    fn spare_steps(_net: &Network) -> u64 {
+        0
+    }
+
+    fn greatest(
+        net: &Network,
+        s: &[u32],
+        t: &[u32],
+        flow: &mut FlowTable,
+        work: &mut [u32],
+    ) -> u128 {
+        Levels::greatest(net, s, t, flow, work)
+    }
+}
+
+/// The method by levels with a few steps to spare: the forests end on their way.
+struct FewStepsToSpare;
+
+impl Method for FewStepsToSpare {
+    ghost steps_bound = { levels_bound };
+
+    fn spare_steps(net: &Network) -> u64 {
+        Levels::spare_steps(net).min(40)
+    }
+
+    fn greatest(
+        net: &Network,
+        s: &[u32],
+        t: &[u32],
+        flow: &mut FlowTable,
+        work: &mut [u32],
+    ) -> u128 {
+        Levels::greatest(net, s, t, flow, work)
+    }
+}
+
+/// The connectivity by forests, by the plain way, and by forests that are broken off; nothing if memory is refused.
+fn answers(alloc: Global, net: &Network) -> Option<(u64, u64, u64)>
+    requires { All (λ a. a.cap ≡ 1) net.now.arcs }
+{
+    let _ = net.nodes();
+    let Ok(mut flow) = FlowTable::new(alloc, net) else {
+        return None;
+    };
+    let Ok(mut cells) = Vec::from_elem(alloc, 0u32, work_len(net.nodes(), net.len())) else {
+        return None;
+    };
+    let work = cells.as_mut_slice();
+    let grown = connectivity::<Levels>(net, false, &[], &[], &mut flow, work);
+    let plain = connectivity::<NoStepToSpare>(net, false, &[], &[], &mut flow, work);
+    let broken_off = connectivity::<FewStepsToSpare>(net, false, &[], &[], &mut flow, work);
+    Some((grown, plain, broken_off))
+}
+
+/// The connectivity by forests alone; nothing if it takes more steps than it may, or memory is refused.
+fn grown_within(alloc: Global, net: &Network, budget: u64) -> Option<u64>
+    requires { All (λ a. a.cap ≡ 1) net.now.arcs }
+{
+    let Ok(mut flow) = FlowTable::new(alloc, net) else {
+        return None;
+    };
+    let Ok(mut cells) = Vec::from_elem(alloc, 0u32, work_len(net.nodes(), net.len())) else {
+        return None;
+    };
+    let work = cells.as_mut_slice();
+    let least = least_degree(net, work);
+    connectivity_by_forests(net, least, &mut flow, work, budget)
+}
+
+/// The next number of a fixed sequence.
+fn next_of(state: u64) -> u64 {
+    state
+        .wrapping_mul(6364136223846793005)
+        .wrapping_add(1442695040888963407)
+}
+
+/// A number below another, by the high bits of a number of the sequence.
+fn below(state: u64, most: u32) -> u32
+    requires { 0 < most }
+    ensures { result < most }
+{
+    ((state >> 33) % most as u64) as u32
+}
+
+/// A network of 3 to 22 nodes that a number determines, with a few arcs for each node, from near nodes to near ones for
+/// every second number; one of three is both ways.
+fn random_network(alloc: Global, seed: u64) -> Option<Network> {
+    let mut state = next_of(seed);
+    let nodes = 3 + below(state, 20);
+    let mut net = Network::new(alloc, nodes);
+    state = next_of(state);
+    let arcs = nodes * (2 + below(state, 5));
+    for _ in 0..arcs {
+        state = next_of(state);
+        let src = 1 + below(state, nodes);
+        state = next_of(state);
+        let ahead = if seed % 2 == 0 { 4 } else { nodes };
+        let dst = 1 + (src + below(state, ahead)) % nodes;
+        if net.len() >= MOST_ARCS || dst > net.nodes() || src > net.nodes() {
+            return None;
+        }
+        if net.push(Arc { src, dst, cap: 1 }).is_err() {
+            return None;
+        }
+    }
+    if seed % 3 == 0 && (net.len() > MOST_ARCS || net.both_ways().is_err()) {
+        return None;
+    }
+    Some(net)
+}
+
+/// Whether the three ways agree on a network that a number determines, forests within the steps that a run gives it.
+#[tactic(auto, using(crate::proofs::Units::unit_capacities))]
+fn agree(alloc: Global, seed: u64) -> bool {
+    let Some(net) = random_network(alloc, seed) else {
+        return false;
+    };
+    let net = net.unit();
+    match answers(alloc, &net) {
+        Some((grown, plain, broken_off)) => {
+            let within = grown_within(alloc, &net, Levels::spare_steps(&net));
+            grown == plain && plain == broken_off && within == Some(grown)
+        }
+        None => false,
+    }
+}
+
+#[test]
+fn forests_agree_with_a_solve_for_each_node(rt: HostRuntime) {
+    for seed in 0..4000u64 {
+        assert_eq!(&rt; (seed, agree(rt.alloc(), seed)), (seed, true));
+    }
+}
+
+/// A ring of some nodes, one way or both.
+fn ring(alloc: Global, nodes: u32, is_both_ways: bool) -> Option<Network>
+    requires least { FEWEST_NODES ≤ nodes }
+    requires most { nodes ≤ MOST_NODES }
+{
+    let mut net = Network::new(alloc, nodes);
+    for i in 0..nodes {
+        let src = 1 + i;
+        let dst = if src == net.nodes() { 1 } else { src + 1 };
+        if net.len() >= MOST_ARCS || src > net.nodes() {
+            return None;
+        }
+        if net.push(Arc { src, dst, cap: 1 }).is_err() {
+            return None;
+        }
+    }
+    if is_both_ways && (net.len() > MOST_ARCS || net.both_ways().is_err()) {
+        return None;
+    }
+    Some(net)
+}
+
+/// The connectivity of a ring by forests alone, within some steps for each node.
+#[tactic(auto, using(crate::proofs::Units::unit_capacities))]
+fn ring_within(alloc: Global, nodes: u32, is_both_ways: bool, steps: u64) -> Option<u64>
+    requires least { FEWEST_NODES ≤ nodes }
+    requires most { nodes ≤ MOST_NODES }
+{
+    let net = ring(alloc, nodes, is_both_ways)?;
+    let net = net.unit();
+    grown_within(alloc, &net, steps.saturating_mul(u64::from(nodes)))
+}
+
+#[test]
+fn forests_go_round_a_ring_one_way(rt: HostRuntime) {
+    assert_eq!(&rt; ring_within(rt.alloc(), 3000, false, 40), Some(1));
+    assert_eq!(&rt; ring_within(rt.alloc(), 3000, true, 40), Some(2));
+}

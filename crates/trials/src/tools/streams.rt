@@ -1,0 +1,219 @@
+//! Runs over streams that fail at each place, or take little.
+use crate::tools::nets::{NET_A, SOLVED_A};
+use crate::tools::runs::{CHECK, SOLVE, answer, run_alone, run_over};
+use flow_text::LONGEST_LINE;
+use flow_tools::memory::{Collector, Script};
+use flow_tools::{Counted, Input, Output, run};
+use std::alloc::Global;
+use std::io::Write;
+use std::process::Abort;
+use std::test::Fail;
+
+/// Net A, but for a source that is no node of it.
+const FAULT_IN_LINE_2: &[u8] =
+    b"p max 4 5\nn 5 s\nn 4 t\na 1 2 3\na 1 3 2\na 2 3 1\na 2 4 2\na 3 4 3\n";
+
+const READ_FAILED: &[u8] = b"flow: read failed\n";
+
+const WRITE_FAILED: &[u8] = b"flow: write failed\n";
+
+/// Solves a text that comes line by line from an input whose pull number `fails_at` fails or would fail. The run tells
+/// `message` after so many pulls.
+fn expect_stop(
+    rt: &impl Abort,
+    alloc: Global,
+    text: &[u8],
+    fails_at: u64,
+    message: &[u8],
+    pulls: u64,
+) {
+    let ended = answer(alloc, SOLVE, Script::new(text, 4096, true, fails_at));
+    let has_failed = pulls == fails_at;
+    assert_eq!(rt; ended.out.bytes(), b"".as_slice());
+    assert_eq!(rt; ended.err.bytes(), message);
+    assert_eq!(rt; ended.status, if has_failed { 4 } else { 3 });
+    assert_eq!(rt; ended.pulls, pulls);
+    assert_eq!(rt; ended.read_failed, has_failed);
+}
+
+/// The eight lines of net A and its end are nine pulls.
+#[test]
+fn each_pull_fails(rt: HostRuntime) -> Result<(), Fail> {
+    for k in 1..10u64 {
+        expect_stop(&rt, rt.alloc(), NET_A, k, READ_FAILED, k);
+    }
+    Ok(())
+}
+
+/// A fault is told as soon as its line has ended, and not before.
+#[test]
+fn a_pull_fails_before_a_fault_or_after_it(rt: HostRuntime) -> Result<(), Fail> {
+    let fault = b"flow: line 2: node out of range\n".as_slice();
+    for k in 1..3u64 {
+        expect_stop(&rt, rt.alloc(), FAULT_IN_LINE_2, k, READ_FAILED, k);
+    }
+    for k in 3..10u64 {
+        expect_stop(&rt, rt.alloc(), FAULT_IN_LINE_2, k, fault, 2);
+    }
+    Ok(())
+}
+
+/// What came before a failed pull has no fault yet where it may be the beginning of a right line or a comment.
+#[test]
+fn a_pull_fails_within_a_line(rt: HostRuntime) -> Result<(), Fail> {
+    let longer = [b'x'; LONGEST_LINE + 1];
+    let mut comment = longer;
+    comment[0] = b'c';
+    let too_few = b"flow: line 1: number of nodes out of range\n".as_slice();
+    let too_long = b"flow: line 1: line too long\n".as_slice();
+    expect_stop(&rt, rt.alloc(), b"p max 1 0", 2, READ_FAILED, 2);
+    expect_stop(&rt, rt.alloc(), b"p max 1 0\n", 2, too_few, 1);
+    expect_stop(&rt, rt.alloc(), &longer, 2, too_long, 1);
+    expect_stop(&rt, rt.alloc(), &comment, 2, READ_FAILED, 2);
+    Ok(())
+}
+
+#[test]
+fn nothing_is_pulled_after_the_end(rt: HostRuntime) -> Result<(), Fail> {
+    let ended = answer(rt.alloc(), SOLVE, Script::new(NET_A, 4096, true, 10));
+    assert_eq!(rt; ended.out.bytes(), SOLVED_A);
+    assert_eq!(rt; ended.err.bytes(), b"".as_slice());
+    assert_eq!(rt; ended.status, 0);
+    assert_eq!(rt; ended.pulls, 9);
+    assert!(rt; !ended.read_failed);
+    Ok(())
+}
+
+/// The text of the answer has 44 bytes.
+#[test]
+fn each_byte_put_fails(rt: HostRuntime) -> Result<(), Fail> {
+    assert_eq!(rt; SOLVED_A.len(), 44);
+    for most in [1usize, 5, 64] {
+        for j in 0..44usize {
+            let input = Script::new(NET_A, 4096, false, 0);
+            let ended = run_alone(
+                rt.alloc(),
+                SOLVE,
+                input,
+                Collector::new(most, j),
+                Collector::new(64, 64),
+            );
+            assert_eq!(rt; ended.out.bytes(), &SOLVED_A[..j]);
+            assert_eq!(rt; ended.err.bytes(), WRITE_FAILED);
+            assert_eq!(rt; ended.status, 4);
+            assert!(rt; ended.out.failed());
+        }
+    }
+    Ok(())
+}
+
+/// Room for the answer and no byte more is enough.
+#[test]
+fn one_byte_a_put(rt: HostRuntime) -> Result<(), Fail> {
+    let input = Script::new(NET_A, 4096, false, 0);
+    let ended = run_alone(
+        rt.alloc(),
+        SOLVE,
+        input,
+        Collector::new(1, 44),
+        Collector::new(1, 0),
+    );
+    assert_eq!(rt; ended.out.bytes(), SOLVED_A);
+    assert_eq!(rt; ended.status, 0);
+    assert!(rt; !ended.out.failed());
+    assert!(rt; !ended.err.failed());
+    Ok(())
+}
+
+#[test]
+fn a_message_is_cut_short(rt: HostRuntime) -> Result<(), Fail> {
+    let input = Script::new(b"", 1, false, 0);
+    let ended = run_alone(
+        rt.alloc(),
+        SOLVE,
+        input,
+        Collector::new(1, 64),
+        Collector::new(2, 3),
+    );
+    assert_eq!(rt; ended.out.bytes(), b"".as_slice());
+    assert_eq!(rt; ended.err.bytes(), b"flo".as_slice());
+    assert_eq!(rt; ended.status, 3);
+    assert!(rt; ended.err.failed());
+    Ok(())
+}
+
+/// A solution of net A in one piece and the number of its pull that fails, how many bytes the output takes, and what
+/// the run must tell, its status, and the pulls of the solution. Nothing is put.
+type Stopped = (&'static [u8], u64, usize, &'static [u8], u8, u64);
+
+const STOPPED_CHECKS: [Stopped; 4] = [
+    (b"s 0\n", 1, 512, READ_FAILED, 4, 1),
+    (b"s 0\n", 2, 512, READ_FAILED, 4, 2),
+    (
+        b"s -1\n",
+        2,
+        512,
+        b"flow: solution line 1: bad number\n",
+        3,
+        1,
+    ),
+    // The verdict would be that the solution isn't maximal, with status 1.
+    (b"s 0\n", 0, 0, WRITE_FAILED, 4, 2),
+];
+
+#[test]
+fn streams_of_a_check_that_fail(rt: HostRuntime) -> Result<(), Fail> {
+    for (text, fails_at, room, message, status, pulls) in STOPPED_CHECKS {
+        let ended = run_over(
+            rt.alloc(),
+            CHECK,
+            Script::new(NET_A, 4096, false, 0),
+            Script::new(text, 64, false, fails_at),
+            Collector::new(16, room.min(512)),
+            Collector::new(16, 128),
+        );
+        assert_eq!(rt; ended.out.bytes(), b"".as_slice());
+        assert_eq!(rt; ended.err.bytes(), message);
+        assert_eq!(rt; ended.status, status);
+        assert_eq!(rt; ended.solution_pulls, pulls);
+    }
+    Ok(())
+}
+
+/// A writer that takes nothing of anything, so that nothing has ever come out of it.
+#[derive(Drop)]
+struct Full;
+
+impl Write for Full {
+    fn write(&mut self, _buf: &[u8]) -> std::io::Result<usize> {
+        Ok(0)
+    }
+
+    fn flush(&mut self) -> std::io::Result<()> {
+        Ok(())
+    }
+}
+
+/// Solves net A from a reader of std, and answers the status and the message.
+fn solve_into<W: Write>(alloc: Global, out: &mut Counted<W>) -> (u8, Vec<u8>) {
+    let mut input = Counted::new(NET_A);
+    let mut unread = Counted::new(b"".as_slice());
+    let mut err = Counted::new(Vec::<u8>::new(alloc));
+    let status = run(alloc, SOLVE, &mut input, &mut unread, out, &mut err);
+    (status, err.into_inner())
+}
+
+#[test]
+fn streams_of_std(rt: HostRuntime) -> Result<(), Fail> {
+    let mut out = Counted::new(Vec::<u8>::new(rt.alloc()));
+    let (status, message) = solve_into(rt.alloc(), &mut out);
+    assert_eq!(rt; status, 0);
+    assert_eq!(rt; out.into_inner().as_slice(), SOLVED_A);
+    assert_eq!(rt; message.as_slice(), b"".as_slice());
+    let mut full = Counted::new(Full);
+    let (status, message) = solve_into(rt.alloc(), &mut full);
+    assert_eq!(rt; status, 4);
+    assert_eq!(rt; message.as_slice(), WRITE_FAILED);
+    assert!(rt; Output::failed(&full));
+    Ok(())
+}

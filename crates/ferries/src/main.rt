@@ -6,10 +6,9 @@ ghost use Rattle.std.specs.Prelude.{IfOk};
 ghost use Rattle.flow_net.specs.Flows.{IsGreatest};
 ghost use Rattle.flow_net.specs.NodeSets.{one_of};
 
-use flow_net::{Arc, FlowTable, Network, OutOfMemory, Problem};
-use flow_solve::{Levels, Method, work_len};
+use flow_net::{Arc, Network, OutOfMemory, Problem};
 use flow_text::{ProblemReader, solution_line};
-use flow_tools::{Counted, put_all};
+use flow_tools::{Counted, FlowNetwork, put_all, solve};
 use std::alloc::Global;
 use std::process::ExitCode;
 
@@ -44,17 +43,11 @@ fn ferries(alloc: Global) -> Result<Problem, OutOfMemory> {
 }
 
 /// The greatest value of any feasible flow of a problem.
-fn greatest_value(alloc: Global, problem: &Problem) -> Result<u128, OutOfMemory>
-    ensures { IfOk result (λ value.
-        IsGreatest problem.now.net (one_of problem.now.sources) (one_of problem.now.sinks) value) }
+fn greatest_value(alloc: Global, problem: Problem) -> Result<u128, OutOfMemory>
+    ensures { IfOk result (λ value. IsGreatest problem.net (one_of problem.sources) (one_of problem.sinks) value) }
 {
-    let net = problem.net();
-    let mut flow = FlowTable::new(alloc, net)?;
-    let Ok(mut work) = Vec::from_elem(alloc, 0u32, work_len(net.nodes(), net.len())) else {
-        return Err(OutOfMemory);
-    };
-    let (sources, sinks) = (problem.sources(), problem.sinks());
-    Ok(Levels::greatest(net, sources, sinks, &mut flow, work.as_mut_slice()))
+    let solved = solve(alloc, FlowNetwork::of_problem(problem))?;
+    Ok(solved.value)
 }
 
 /// The problem of a text; `None` where it has a fault, or memory ran out.
@@ -71,7 +64,7 @@ fn main(rt: HostRuntime) -> ExitCode {
         let Some(problem) = problem else {
             return ExitCode::from(3);
         };
-        let Ok(value) = greatest_value(alloc, &problem) else {
+        let Ok(value) = greatest_value(alloc, problem) else {
             return ExitCode::from(4);
         };
         if put_all(&mut out, solution_line(value).as_slice()).is_err() {

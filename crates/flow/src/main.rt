@@ -25,7 +25,7 @@ fn main(rt: HostRuntime) -> ExitCode {
     let given = match std::env::args(&rt) {
         Ok(given) => given,
         Err(error) if error.kind() == ErrorKind::OutOfMemory => return without_memory(&mut err),
-        Err(_) => return ExitCode::from(2),
+        Err(_) => return without_text(&mut err),
     };
     let words: Vec<String> = match given.collect(alloc) {
         Ok(words) => words,
@@ -50,6 +50,12 @@ fn main(rt: HostRuntime) -> ExitCode {
 fn without_memory<E: Output>(err: &mut E) -> ExitCode {
     let _ = put_all(err, b"flow: out of memory\n");
     ExitCode::from(4)
+}
+
+/// Tells that a word of the command line can't be read as text, and answers the status for it.
+fn without_text<E: Output>(err: &mut E) -> ExitCode {
+    let _ = put_all(err, b"flow: a word of the command line isn't UTF-8\n");
+    ExitCode::from(2)
 }
 
 #[cfg(test)]

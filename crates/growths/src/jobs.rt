@@ -57,7 +57,7 @@ fn run_named(alloc: Global, name: &[u8]) -> &'static [u8] {
 }
 
 /// Checks a solution over texts, into vectors. Where memory was refused the output has a beginning of the answer at
-/// most.
+/// most, and the errors have nothing.
 fn run_texts(alloc: Global) -> &'static [u8] {
     let mut out: Vec<u8> = Vec::new(alloc);
     let mut err: Vec<u8> = Vec::new(alloc);
@@ -65,7 +65,7 @@ fn run_texts(alloc: Global) -> &'static [u8] {
     let answer = b"optimal 5\n".as_slice();
     match run_on_texts(alloc, job, FOUR_NODES, OPTIMAL, &mut out, &mut err) {
         Ok(0) if out.as_slice() == answer && err.is_empty() => b"answered",
-        Err(_) if answer.starts_with(out.as_slice()) => REFUSED,
+        Err(_) if answer.starts_with(out.as_slice()) && err.is_empty() => REFUSED,
         _ => BROKEN,
     }
 }

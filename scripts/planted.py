@@ -1,0 +1,284 @@
+#!/usr/bin/env python3
+"""Tries wrong bodies in groups, and sees that the prover refuses each at a goal of the changed function.
+
+    python3 scripts/planted.py [--begin FOLDER] [CRATE ..]
+    python3 scripts/planted.py --gather TEMPORARY FOLDER
+
+A wrong body is a file crates/CRATE/planted/NAME.edit, in the form of those in must-fail/: a line 'file:' and pairs of
+lines 'old:' and 'new:'. The gate tries each of must-fail/ in a check of its own. Here edits of different functions
+share one: callers go by contracts, so each function is still reported by itself. An edit whose function waits for the
+proof of another one is tried again in a later group. Each check also tries an edit that changes nothing, which has to
+get through, and sees that no goal failed of a function that was left as it is.
+
+What was refused is remembered, by the sums of all that it rests on, in the user's folder of caches.
+
+A check begins with what earlier ones kept. After the gate --begin FOLDER names what the gate's own edits began with:
+--gather TEMPORARY FOLDER, run beside the gate until it is ended, collects that out of the gate's temporary folder.
+Where there is nothing of the kind the first check of a crate proves it from nothing. RT_JOBS checks run at a time.
+
+The last line is 'planted: N passed, M failed'.
+"""
+import hashlib
+import os
+import re
+import shutil
+import subprocess
+import sys
+import tempfile
+import time
+from concurrent.futures import ThreadPoolExecutor
+from pathlib import Path
+
+ROOT = Path(__file__).resolve().parent.parent
+PARTS = ("src", "specs", "proofs")
+CACHE = Path(os.environ.get("XDG_CACHE_HOME") or Path.home() / ".cache") / "flow-planted"
+
+# What a proof file says where a name is gone: that refusal shows nothing of the contract.
+NAME_IS_GONE = re.compile(r"has no field|is not in scope|has no `|was not admitted")
+REFUSED, WAITS, THROUGH = "refused", "waits", "through"
+
+
+class Edit:
+    """A wrong body: a file of the crate, what it changes there, and the function that this stands in."""
+
+    def __init__(self, name, file, pairs, function):
+        self.name, self.file, self.pairs, self.function = name, file, pairs, function
+
+    def within(self, text):
+        """The text of the file with this edit, or None where the edit doesn't fit it."""
+        for old, new in self.pairs:
+            if text.count(old) != 1:
+                return None
+            text = text.replace(old, new)
+        return text
+
+    def is_of(self, crate, path):
+        """Whether this is an edit of the function that a check calls by this path: the file's modules and its own."""
+        modules = [part for part in Path(self.file).with_suffix("").parts[1:] if part not in ("lib", "main")]
+        parts = path.split("::")
+        return parts[-1] == self.function and parts[: len(modules) + 1] == [crate, *modules]
+
+
+def function_at(text, place):
+    """The name of the function in which a place of a text stands."""
+    return re.findall(r"^ *(?:pub(?:\(\w+\))? )?(?:const )?fn (\w+)", text[: text.index("\n", place)], re.M)[-1]
+
+
+def edits_of(crate):
+    """The edits of a crate, those of whatever function by turns: so groups are few."""
+    by_function = {}
+    for path in sorted((ROOT / "crates" / crate / "planted").glob("*.edit")):
+        said = path.read_text()
+        file = re.search(r"^file: (.*)$", said, re.M)[1]
+        pairs = re.findall(r"^old: (.*)\nnew: (.*)$", said, re.M)
+        text = (ROOT / "crates" / crate / file).read_text()
+        edit = Edit(path.stem, file, pairs, function_at(text, text.find(pairs[0][0])))
+        by_function.setdefault((file, edit.function), []).append(edit)
+    most = max(map(len, by_function.values()), default=0)
+    return [edits[turn] for turn in range(most) for edits in by_function.values() if turn < len(edits)]
+
+
+def next_group(crate, edits):
+    """As many of the edits as can be tried at once, one of a function; the texts that they make; and the others."""
+    group, rest, texts, functions = [], [], {}, set()
+    for edit in edits:
+        text = texts.get(edit.file) or (ROOT / "crates" / crate / edit.file).read_text()
+        made = None if (edit.file, edit.function) in functions else edit.within(text)
+        if made is None:
+            rest.append(edit)
+            continue
+        functions.add((edit.file, edit.function))
+        texts[edit.file] = made
+        group.append(edit)
+    return group, texts, rest
+
+
+def verdict(edit, crate, functions, said):
+    """What a check came to for an edit, and why. Of the functions that it names it has to say something of this one."""
+    lines = [line for path, line in functions if edit.is_of(crate, path) and line != "proved"]
+    goals = [line for line in lines if "did not prove" in line]
+    if goals:
+        return REFUSED, goals[0].partition("did not prove ")[2]
+    if "not proved" in lines:
+        place = rf"^\./proofs/\S*/{edit.function}/\w+\.antt:\d+:\d+: error: (.*)$"
+        errors = re.findall(place, said, re.M)
+        told = [error for error in errors if not NAME_IS_GONE.search(error)]
+        return (REFUSED, told[0]) if told else (THROUGH, f"no goal of its function failed: {' '.join(errors)[:200]}")
+    if lines and all("not proved" in line for line in lines):
+        return WAITS, lines[0]
+    return THROUGH, lines[0] if lines else "its function is still proved"
+
+
+def faults(group, crate, functions, said):
+    """What shows that the check can't be believed: one of the functions that were left as they are was refused, or an
+    edit that changes one of them in nothing wasn't told to have got through."""
+    if not functions:
+        return [f"the check of {crate} came to nothing: {said.strip()[:400]}"]
+    others = [it for it in functions if not any(edit.is_of(crate, it[0]) for edit in group)]
+    found = [f"{path} is as it was, and {line}" for path, line in others if line == "not proved" or "did not" in line]
+    proved = [path for path, line in others if line == "proved" and path.startswith(f"{crate}::")]
+    idle = Edit("", "src/lib.rt", [], proved[0].split("::")[-1]) if proved else None
+    if not idle or verdict(idle, crate, others, said)[0] != THROUGH:
+        found.append(f"an edit of {crate} that changes nothing didn't get through")
+    return found
+
+
+def crates_below():
+    """Each crate of crates.txt with those of the repository that it stands on, itself the last."""
+    found = {}
+    for line in (ROOT / "crates.txt").read_text().splitlines():
+        name, colon, rest = line.partition("#")[0].partition(":")
+        if colon:
+            needs = [need for need in rest.split() if need in found]
+            below = [other for need in needs for other in found[need]]
+            found[name.split()[0]] = [*dict.fromkeys(below), name.split()[0]]
+    return found
+
+
+def sum_of(crates):
+    """A sum of all that the proofs of these crates are made of, and of the kit."""
+    total = hashlib.sha256(subprocess.run(["rt", "version"], capture_output=True, check=True).stdout)
+    for crate in crates:
+        for part in PARTS:
+            for path in sorted((ROOT / "crates" / crate / part).rglob("*")):
+                if path.is_file():
+                    total.update(f"{path.relative_to(ROOT)}\n".encode() + path.read_bytes())
+    return total
+
+
+class Copy:
+    """A copy of the repository's crates, in which one of them is edited and checked."""
+
+    def __init__(self, crate, folder, begin):
+        self.crate, self.top = crate, Path(folder)
+        for name in ("crates.txt", "HANDLES"):
+            shutil.copy(ROOT / name, self.top)
+        for other in crates_below():
+            for part in PARTS:
+                if (ROOT / "crates" / other / part).is_dir():
+                    shutil.copytree(ROOT / "crates" / other / part, self.top / "crates" / other / part)
+            if begin and (begin / other).is_dir():
+                link_tree(begin / other, self.top / "crates" / other / "out" / "incremental")
+        self.folder = self.top / "crates" / crate
+
+    def check(self, texts):
+        """What a check says with these texts in the place of the crate's own."""
+        for file, text in texts.items():
+            (self.folder / file).write_text(text)
+        ran = subprocess.run(
+            ["rt", "check", "--jobs", "1"], cwd=self.folder, stdin=subprocess.DEVNULL, text=True,
+            stdout=subprocess.PIPE, stderr=subprocess.STDOUT, errors="replace",
+        )
+        for file in texts:
+            shutil.copy(ROOT / "crates" / self.crate / file, self.folder / file)
+        return ran.stdout
+
+
+def link_tree(one, other):
+    """Copies a folder, by links where these can be made: a check replaces such a file, and changes none."""
+
+    def link(source, target):
+        try:
+            os.link(source, target)
+        except OSError:
+            shutil.copy2(source, target)
+
+    shutil.copytree(one, other, copy_function=link)
+
+
+def try_crate(crate, begin):
+    """Tries the edits of a crate; what is said, how many were refused, and how many not."""
+    base = sum_of(crates_below()[crate]).hexdigest()
+    todo, names, said, refused, failed, checks = [], {}, [], 0, 0, 0
+    for edit in edits_of(crate):
+        names[edit] = hashlib.sha256(f"{base} {edit.name} {edit.file} {edit.pairs}".encode()).hexdigest()
+        if (CACHE / names[edit]).exists():
+            refused += 1
+        else:
+            todo.append(edit)
+    known, start = refused, time.monotonic()
+    with tempfile.TemporaryDirectory(prefix="flow-planted-") as folder:
+        copy = Copy(crate, folder, begin) if todo else None
+        while todo:
+            group, texts, rest = next_group(crate, todo)
+            if not group:
+                said += [f"{crate}/{edit.name} doesn't fit its file" for edit in rest]
+                failed += len(rest)
+                break
+            heard, checks = copy.check(texts), checks + 1
+            functions = re.findall(r"^fn (\S+): (.*)$", heard, re.M)
+            wrong = faults(group, crate, functions, heard)
+            results = [(edit, *verdict(edit, crate, functions, heard)) for edit in group]
+            waiting = [edit for edit, came, _ in results if came == WAITS]
+            if len(waiting) == len(group):
+                wrong += [f"{crate}/{edit.name} waits for a function that isn't edited" for edit in waiting]
+                waiting = []
+            wrong += [f"{crate}/{edit.name} GOT THROUGH: {why}" for edit, came, why in results if came == THROUGH]
+            for edit, came, _ in results:
+                if came == REFUSED:
+                    refused += 1
+                    if not wrong:
+                        remember(names[edit])
+            said += wrong
+            failed += len(wrong)
+            todo = rest + waiting
+    took = f", {checks} checks, {time.monotonic() - start:.0f} s" if checks else ""
+    said.append(f"{crate}: {refused} refused{f', {known} of them in earlier runs' if known else ''}{took}")
+    return said, refused, failed
+
+
+def remember(name):
+    CACHE.mkdir(parents=True, exist_ok=True)
+    (CACHE / name).touch()
+
+
+def missing():
+    """The edits that docs/PLANTED.md says are kept, and aren't."""
+    kept = {path.stem for path in ROOT.glob("crates/*/*/*.edit")}
+    page = (ROOT / "docs" / "PLANTED.md").read_text()
+    rows = re.findall(r"^\|(?: Stage \|)? Wrong body \| Kept as \|\n((?:\|.*\|\n)+)", page, re.M)
+    cells = [row.split("|")[-2] for row in "".join(rows).splitlines()]
+    named = {name for cell in cells if "test" not in cell for name in re.findall(r"`(\w+)`", cell)}
+    return sorted(named - kept - {*crates_below()})
+
+
+def gather(temporary, folder):
+    """Collects what the gate's edits begin with: of a crate it is whole once the first edit's own folder is there."""
+    while True:
+        for seed in temporary.glob("rt-edits-*/seed"):
+            crate = next((it.name.split("-")[1] for it in seed.glob("*/Rattle-*-proofs*")), "")
+            if not crate or len(list(seed.parent.iterdir())) == 1 or (folder / crate).exists():
+                continue
+            try:
+                link_tree(seed, folder / f".{crate}")
+                (folder / f".{crate}").rename(folder / crate)
+            except (OSError, shutil.Error):
+                shutil.rmtree(folder / f".{crate}", ignore_errors=True)
+        time.sleep(1)
+
+
+def main(words):
+    if words[:1] == ["--gather"] and len(words) == 3:
+        gather(Path(words[1]), Path(words[2]))
+    begin = None
+    if words[:1] == ["--begin"] and len(words) > 1:
+        begin, words = Path(words[1]), words[2:]
+    crates = [crate for crate in crates_below() if crate in words or not words]
+    if any(word not in crates for word in words):
+        sys.exit(__doc__)
+    passed = lacking = 0
+    with ThreadPoolExecutor(int(os.environ.get("RT_JOBS") or 1)) as pool:
+        # (the crate with the most edits takes longest)
+        tries = sorted(crates, key=lambda crate: -len(edits_of(crate)))
+        for said, refused, failed in pool.map(lambda crate: try_crate(crate, begin), tries):
+            print("\n".join(said), flush=True)
+            passed, lacking = passed + refused, lacking + failed
+    for name in missing():
+        print(f"docs/PLANTED.md names {name}, which isn't kept")
+        lacking += 1
+    print(f"planted: {passed} passed, {lacking} failed")
+    return 1 if lacking else 0
+
+
+if __name__ == "__main__":
+    sys.exit(main(sys.argv[1:]))

@@ -1,7 +1,12 @@
 #!/usr/bin/env bash
-# The test command. It passes where its last line is 'N passed, 0 failed'.
+# The test command. It passes where its last line is 'N passed, 0 failed'. How far it is goes to standard error.
 set -u
 cd "$(dirname "$0")/.."
+
+# say WORDS..: tells how far the test command is, with the minutes and seconds since it began.
+say() {
+  printf '%3d:%02d  %s\n' $((SECONDS / 60)) $((SECONDS % 60)) "$*" >&2
+}
 
 # A proof by hand could claim any count of steps, so there is one place for such proofs: the counter itself.
 # What the build makes, crates/NAME/out, isn't searched.
@@ -12,12 +17,40 @@ if [ -n "$stray" ]; then
   exit 1
 fi
 
-folder=$(mktemp -d)
-trap 'rm -rf "$folder"' EXIT
+# One check for each processor, as far as there are 3 GB of memory for each.
+if [ -z "${RT_JOBS:-}" ]; then
+  most=$(awk '/^MemAvailable:/ { print int($2 / 3000000) }' /proc/meminfo)
+  cores=$(nproc)
+  RT_JOBS=$((most < 1 ? 1 : most < cores ? most : cores))
+fi
+export RT_JOBS
 
-# Every proof from nothing, the edits that must be refused, each test, and each program as two compilers make it.
-rt ci 2>&1 | tee "$folder/gate"
+folder=$(mktemp -d)
+watched=
+end() {
+  [ -z "$watched" ] || kill $watched 2> /dev/null
+  rm -rf "$folder"
+}
+trap end EXIT
+chmod 755 "$folder" # the gate runs programs as nobody, in a folder below
+mkdir "$folder/temporary" "$folder/begun"
+chmod 1777 "$folder/temporary"
+
+# Every proof from nothing, the edits that the gate tries one by one, each test, and each program as two compilers make
+# it. What its edits begin with is collected for the others.
+say "the gate, $RT_JOBS checks at a time"
+python3 scripts/planted.py --gather "$folder/temporary" "$folder/begun" &
+watched=$!
+(
+  while sleep 60; do
+    say "the gate: $(grep -c ' proved$' "$folder/gate") proofs, $(grep -c '^rt: must-fail ' "$folder/gate") edits"
+  done
+) &
+watched="$watched $!"
+TMPDIR="$folder/temporary" rt ci 2>&1 | tee "$folder/gate"
 [ "${PIPESTATUS[0]}" -eq 0 ] || exit 1
+kill $watched 2> /dev/null
+watched=
 gate=$(grep -E '^[0-9]+ passed, 0 failed$' "$folder/gate" | tail -n 1)
 [ -n "$gate" ] || exit 1
 passed=${gate%% *}
@@ -25,17 +58,29 @@ if [ -x crates/flow/out/flow ]; then
   bash scripts/sum.sh > crates/flow/out/flow.proved || exit 1
 fi
 
-# add NAME COMMAND..: runs a command whose last line has to be 'NAME: N passed, 0 failed', and adds its count.
-add() {
+# count NAME: takes from the output of a part, whose last line has to be 'NAME: N passed, 0 failed', how many passed.
+count() {
   local name=$1 line
-  shift
-  "$@" | tee "$folder/$name"
-  [ "${PIPESTATUS[0]}" -eq 0 ] || exit 1
   line=$(tail -n 1 "$folder/$name" | grep -E "^$name: [0-9]+ passed, 0 failed$")
   [ -n "$line" ] || exit 1
   line=${line#"$name: "}
   passed=$((passed + ${line%% *}))
 }
+
+# add NAME COMMAND..: runs a part and adds its count.
+add() {
+  local name=$1
+  shift
+  say "$name"
+  "$@" | tee "$folder/$name"
+  [ "${PIPESTATUS[0]}" -eq 0 ] || exit 1
+  count "$name"
+}
+
+# The wrong bodies that share a check, beside the parts below.
+say "planted, beside what follows"
+python3 scripts/planted.py --begin "$folder/begun" > "$folder/planted" 2>&1 &
+watched=$!
 
 # The built programs under hostile use.
 [ -x crates/flow/out/flow ] || (cd crates/flow && rt run -- solve --value < stdin > /dev/null) || exit 1
@@ -44,6 +89,7 @@ add hostile python3 scripts/hostile.py crates/flow/out/flow crates/growths/out/g
 
 # What the built program answers, against a second reading of the definitions.
 add independent python3 scripts/independent.py crates/flow/out/flow
+add multigraphs python3 scripts/multigraphs.py crates/flow/out/flow
 
 # The page of definitions tells what the contracts of `run` and of the streams reach.
 add definitions python3 scripts/definitions.py
@@ -63,4 +109,13 @@ add bench python3 bench/smoke.py crates/flow/out/flow
 # The examples say and draw what is committed, and their numbers are those found in other ways.
 add examples python3 scripts/examples.py crates/flow/out/flow
 
+say "planted"
+wait "$watched"
+planted=$?
+watched=
+cat "$folder/planted"
+[ "$planted" -eq 0 ] || exit 1
+count planted
+
+say "done"
 echo "$passed passed, 0 failed"

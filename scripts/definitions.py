@@ -10,9 +10,11 @@ follow fails. The page has to tell
   of the code with their numbers of lines and what they hold, and what each stream says of its bytes;
 - each definition that it quotes as it stands in the specs, whole.
 
-A file that is reached has to hold nothing else, so that its reader never wonders what a definition is there for. The
-last line is 'definitions: N passed, M failed'. With --write the tables of the page and its counts are written anew; what
-it quotes is mended by hand.
+A file that is reached has to hold nothing else, so that its reader never wonders what a definition is there for.
+
+Two things more are seen to: that flows are got at by the counted calls of a table alone, and that the crates above
+the solvers cite nothing of these but the words of their public contracts. The last line is 'definitions: N passed, M
+failed'. With --write the tables of the page and its counts are written anew; what it quotes is mended by hand.
 
     python3 scripts/definitions.py [--write]
 """
@@ -32,6 +34,9 @@ STARTS = [
 
 # The contract that stands above these, of which the page tells how many lines it takes more.
 CLOSED = [("crates/flow_tools/src/running/texts.rt", "pub fn run_on_texts", "\n{")]
+
+# The public calls of the crate that has the tables which take or make one, and so get at flows.
+WAYS_TO_FLOWS = {"new", "look", "push", "clear", "into_flows"}
 
 # How the rows of the page's tables and lists begin: files, names of the standard library, constants, types, streams.
 ROWS = [r"\| `crates/", r"- `(?:Rattle|Prim)\.", r"\| `[A-Z_]+` \|", r"\| `\w+` of `", r"- `impl"]
@@ -210,6 +215,51 @@ def streams():
     return found
 
 
+def ways_to_flows():
+    """The public functions of flow_net whose signature has a table of flows, or that are methods of one."""
+    found = set()
+    for file in sorted((ROOT / "crates" / "flow_net" / "src").rglob("*.rt")):
+        owner, name = None, None
+        for line in file.read_text().splitlines():
+            if line and not line.startswith((" ", "}", ")")):
+                owner = line
+            name = begun[1] if (begun := re.match(r" *pub fn (\w+)", line)) else name
+            if re.match(r" *(requires|ensures|\{)", line):
+                name = None
+            elif name and ("FlowTable" in line or owner.startswith("impl FlowTable")):
+                found.add(name)
+    return found
+
+
+def public_contracts(crate):
+    """Where the contract of each item stands that a library exports: its file, and how its text begins and ends."""
+    source = ROOT / "crates" / crate / "src"
+    found = []
+    for modules, names in re.findall(r"^pub use ((?:\w+::)+)\{?([^};:]*)\}?;", (source / "lib.rt").read_text(), re.M):
+        file = source.joinpath(*modules.split("::")[:-1]).with_suffix(".rt")
+        for name in re.findall(r"\w+", names):
+            kind = re.search(rf"^pub (fn|trait|struct) {name}\b", file.read_text(), re.M)[1]
+            end = "\n{" if kind == "fn" else "\n}" if kind == "trait" else ";"
+            found.append((str(file.relative_to(ROOT)), f"pub {kind} {name}", end))
+    return found
+
+
+def beyond_the_public(specs, crate, above):
+    """What the crates above cite of a crate beside the words that its public contracts rest on."""
+    public, _ = specs.reached(starts(public_contracts(crate)))
+    found = []
+    for file in sorted(it for other in above for it in (ROOT / "crates" / other).glob("*/**/*.*t")):
+        if file.suffix not in (".rt", ".antt") or {"out", "tests"} & {*file.relative_to(ROOT).parts}:
+            continue
+        text = file.read_text()
+        for path, names in re.findall(rf"use (Rattle\.{crate}\.[\w.]+)\.\{{([^}}]*)\}}", text):
+            for name in (it.split(" as ")[0].strip() for it in names.split(",")):
+                there = None if ".proofs." in path else target(path, name)
+                if there not in public and not isinstance(there, Outside):
+                    found.append(f"{path}.{name} ({file.relative_to(ROOT)})")
+    return found
+
+
 def squeezed(text):
     return " ".join(text.split())
 
@@ -302,6 +352,10 @@ def main():
             text for _, text in every.get(name, [])
         ]
         tests[f"the page quotes {name} as it stands in the specs"] = found == [quoted]
+    ways = ways_to_flows()
+    tests[f"flows are got at by {sorted(WAYS_TO_FLOWS)} alone, not by {sorted(ways)}"] = ways == WAYS_TO_FLOWS
+    beyond = beyond_the_public(specs, "flow_solve", ["flow_tools", "flow", "growths", "ferries"])
+    tests[f"of flow_solve no more is cited than its public contracts say, but also {', '.join(beyond)}"] = not beyond
     for test, holds in tests.items():
         if not holds:
             print(f"not so: {test}")

@@ -146,7 +146,6 @@ def refused_growths(folder):
         (["solve"], NET, (0, SOLVED, b"")),
         (["cut", "--arcs"], NET, (0, b"s 5\nn 1\na 1 2 3\na 1 3 2\n", b"")),
         (["connect", "--undirected"], NET, (0, b"k 2\n", b"")),
-        # A count of links tells this one.
         (["connect", "--undirected"], in_order, (0, b"k 1\n", b"")),
         (["connect", "--pair"], in_order, (0, b"k 1\n", b"")),
         (["connect", "--pair"], scattered, (0, b"k 1\n", b"")),
@@ -242,6 +241,8 @@ def devices(folder):
     ends("a closed standard error", '"$0" solve "$2" 2>&-; exit $?', 4, b"")
     ends("a file of the name -", '"$0" solve -', 4, b"flow: cannot open -\n")
     ends("no command", '"$0"', 2, b"")
+    not_text = b"flow: a word of the command line isn't UTF-8\n"
+    ends("a word that isn't UTF-8", '"$0" solve "$(printf "\\377")"', 2, not_text)
 
     big = os.path.join(folder, "big")
     with open(big, "w") as file:

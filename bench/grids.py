@@ -7,7 +7,7 @@ import math
 import sys
 from pathlib import Path
 
-sys.path.insert(0, str(Path(__file__).resolve().parent.parent / 'examples' / 'common'))
+sys.path.append(str(Path(__file__).resolve().parent.parent / 'examples' / 'common'))
 
 import png  # noqa: E402
 

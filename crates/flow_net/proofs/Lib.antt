@@ -11,6 +11,7 @@ pub mod ZeroFlows
 pub mod MaxFlows
 pub mod Connections
 pub mod Upgrades
+pub mod Failures
 pub mod Complements
 pub mod ForestLemmas
 pub mod NodeCounts

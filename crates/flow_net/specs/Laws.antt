@@ -1,5 +1,6 @@
 -- The laws that the rest of the toolkit stands on. Each is the contract of a function of `laws`.
-use Rattle.std.specs.Prelude.{◌≢◌, ℕ, ◌+◌, ◌<◌, ◌≤◌, ◌⊎◌, ◌↔◌, Bool, List, length, slice_set, IsTrue, IsFalse}
+use Rattle.std.specs.Prelude.{◌≡◌, ◌≢◌, ℕ, ◌+◌, ◌<◌, ◌≤◌, ◌⊎◌, ◌↔◌, Bool, List, length, IsTrue, IsFalse}
+use Rattle.std.specs.Prelude.{slice_index, slice_set}
 use Rattle.flow_net.specs.declared.networks.Arc.{Arc}
 use Rattle.flow_net.specs.Nets.{Net, IsNode, arc_at}
 use Rattle.flow_net.specs.Limits.{IsNet}
@@ -85,3 +86,17 @@ abbrev pub SingleUpgrade : Type 0
 SingleUpgrade = (net : Net) (s t : ℕ → Bool) (i d k j : ℕ) → IsNet net → IsNet (upgraded net i d) → AreApart s t
     → i < length net.arcs → 1 ≤ d → IsGreatest net s t k → IsGreatest (upgraded net i d) s t j
     → (k < j) ↔ (IsInLeastSourceSide net s t (arc_at net i).src × IsInLeastSinkSide net s t (arc_at net i).dst)
+
+-- the network in which the arc at a place carries nothing any more
+abbrev pub failed : Net → ℕ → Net
+failed net i = record { nodes = net.nodes; arcs = slice_set net.arcs i (record {
+  src = (arc_at net i).src;
+  dst = (arc_at net i).dst;
+  cap = 0;
+}) }
+
+-- an arc that carries nothing in one greatest flow can fail without loss: the greatest value stays, and the flow has it
+abbrev pub HarmlessFailure : Type 0
+HarmlessFailure = (net : Net) (s t : ℕ → Bool) (i k : ℕ) (xs : List ℕ) → i < length net.arcs → IsGreatest net s t k
+    → IsFeasible net s t xs → HasValue net s xs k → slice_index xs i ≡ 0
+    → IsFeasible (failed net i) s t xs × HasValue (failed net i) s xs k × IsGreatest (failed net i) s t k

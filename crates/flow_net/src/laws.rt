@@ -3,7 +3,7 @@ ghost use Rattle.flow_net.specs.Forests.{GrowingForests, ConnectivityByForests, 
 ghost use Rattle.flow_net.specs.Arrangements.{SameArranged};
 ghost use Rattle.flow_net.specs.Laws.{WeakDuality, ClosedCut, MaxFlowMinCut, LeastSourceSide, LeastSinkSide};
 ghost use Rattle.flow_net.specs.Laws.{AugmentingPath, PairByFlow, ConnectivityByPairs, UndirectedByBothWays};
-ghost use Rattle.flow_net.specs.Laws.{SingleUpgrade};
+ghost use Rattle.flow_net.specs.Laws.{SingleUpgrade, HarmlessFailure};
 
 /// No feasible flow's value passes a cut's capacity (Ford and Fulkerson 1956).
 pub fn weak_duality()
@@ -77,6 +77,12 @@ pub fn connectivity_by_forests()
 /// the sinks.
 pub fn single_upgrade()
     ensures { SingleUpgrade }
+{}
+
+/// An arc that carries nothing in one greatest flow can fail without loss: the greatest value stays as it is, and that
+/// flow still has it.
+pub fn harmless_failure()
+    ensures { HarmlessFailure }
 {}
 
 /// A network whose nodes are renamed one to one and whose arcs stand in another order keeps the limits, its terminals

@@ -89,11 +89,14 @@ SingleUpgrade = (net : Net) (s t : ℕ → Bool) (i d k j : ℕ) → IsNet net �
 
 -- the network in which the arc at a place carries nothing any more
 abbrev pub failed : Net → ℕ → Net
-failed net i = record { nodes = net.nodes; arcs = slice_set net.arcs i (record {
-  src = (arc_at net i).src;
-  dst = (arc_at net i).dst;
-  cap = 0;
-}) }
+failed net i = record {
+  nodes = net.nodes;
+  arcs = slice_set net.arcs i (record {
+    src = (arc_at net i).src;
+    dst = (arc_at net i).dst;
+    cap = 0;
+  });
+}
 
 -- an arc that carries nothing in one greatest flow can fail without loss: the greatest value stays, and the flow has it
 abbrev pub HarmlessFailure : Type 0

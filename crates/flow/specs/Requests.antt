@@ -23,13 +23,13 @@ job_for name rows =
     else None
 
 -- the name of a file
-abbrev pub text_of : Option (Bor Text) → Option Text
-text_of name = option_map (λ t. t.now) name
+abbrev pub name_of : Option (Bor Text) → Option Text
+name_of name = option_map (λ t. t.now) name
 
 -- The files are the texts of the entries.
 pub record HasFiles (rows : List Row) (files : Files) : Type 0 where
-  pub problem : text_of files.problem ≡ first_of (codes "problem") rows
-  pub solution : text_of files.solution ≡ first_of (codes "solution") rows
+  pub problem : name_of files.problem ≡ first_of (codes "problem") rows
+  pub solution : name_of files.solution ≡ first_of (codes "solution") rows
 
 -- the answer for the command that was matched, if one was: its job and its files, or none where it isn't one of the
 -- program's

@@ -19,7 +19,7 @@ use Rattle.flow_text.specs.Problem.{Known, known_of, problem_record_fault, probl
 use Rattle.flow_text.specs.ProblemReading.{problem_tests, mark_tests}
 use Rattle.flow_text.specs.Problem.{arc_tests, is_terminal}
 use Rattle.flow_text.specs.ProblemReading.{size_of, arc_of, node_of, ProblemSoFar, known_with, with_problem_record}
-use Rattle.flow_text.specs.ProblemReading.{with_terminal, IsKept}
+use Rattle.flow_text.specs.ProblemReading.{with_terminal, KeepsDeclared}
 use Rattle.std.specs.Prelude.{Result, Ok, Err}
 use Rattle.flow_text.specs.Reading.{with_line, Adds, Judges}
 use Rattle.flow_text.specs.declared.machine.Refusal.{Refusal}
@@ -32,8 +32,9 @@ use Rattle.flow_text.proofs.RuleLemmas.{of_fields, record-fine, has_some}
 use Rattle.flow_text.proofs.UsualLemmas.{ends-pass}
 
 -- a terminal more is kept
-pub IsKept-mark : (net : Net) (declared : ℕ) (marks : Marks) (node : ℕ) (is_source : Bool) → IsKept net declared marks
-    → IsNode net node → IsKept net declared (with_mark marks node is_source)
+pub IsKept-mark : (net : Net) (declared : ℕ) (marks : Marks) (node : ℕ) (is_source : Bool)
+    → KeepsDeclared net declared marks
+    → IsNode net node → KeepsDeclared net declared (with_mark marks node is_source)
 IsKept-mark net declared marks node true k is = record {
   declared_most = k.declared_most;
   arcs_most = k.arcs_most;

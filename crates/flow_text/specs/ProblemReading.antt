@@ -103,7 +103,7 @@ KeepsArc old arc (Ok false) new = new ≡ old
 KeepsArc old arc (Err refusal) new = refusal ≡ Memory
 
 -- what a problem line declares is kept: at most as many arcs, at most 4,000,000, and terminals that are nodes
-pub record IsKept (net : Net) (declared : ℕ) (marks : Marks) : Type 0 where
+pub record KeepsDeclared (net : Net) (declared : ℕ) (marks : Marks) : Type 0 where
   pub declared_most : declared ≤ MOST_ARCS
   pub arcs_most : length net.arcs ≤ declared
   pub sources_within : All (IsNode net) marks.sources

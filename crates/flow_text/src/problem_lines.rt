@@ -81,13 +81,13 @@ struct Declared {
 }
 
 impl Model for Declared {
-    ghost use Rattle.flow_text.specs.ProblemReading.{ProblemSoFar, IsKept};
+    ghost use Rattle.flow_text.specs.ProblemReading.{ProblemSoFar, KeepsDeclared};
 
     ghost Value = { ProblemSoFar };
 
     ghost view = { λ d. record { nodes = d.net.nodes; declared = d.arcs; marks = d.terminals; arcs = d.net.arcs } };
 
-    ghost invariant = { λ d. IsKept d.net d.arcs d.terminals };
+    ghost invariant = { λ d. KeepsDeclared d.net d.arcs d.terminals };
 }
 
 impl Declared {

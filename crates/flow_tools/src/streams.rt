@@ -1,7 +1,7 @@
 //! Where the bytes of a run come from, and where they go.
 ghost use Rattle.std.specs.Prelude.{◌≡◌, ◌≤◌, ◌<◌, ℕ, length, IfOk};
 ghost use Rattle.std.specs.Io.KnownBytes.{ReadConsumes, WriteAppends};
-ghost use Rattle.flow_tools.specs.streams.Streams.{Flags, State};
+ghost use Rattle.flow_tools.specs.streams.Streams.{Flags, StreamState};
 
 pub(crate) mod counted;
 pub mod memory;
@@ -18,7 +18,7 @@ pub struct Failed;
 pub trait Input {
     /// The bytes that are left to read, `None` where no contract can know them, as of a file; and whether a pull has
     /// failed.
-    ghost state: { Self → State };
+    ghost state: { Self → StreamState };
 
     /// How many pulls may still deliver a byte.
     ghost bound: { Self → ℕ };
@@ -44,7 +44,7 @@ pub trait Input {
 /// A stream that takes bytes.
 pub trait Output {
     /// The bytes that were taken, `None` where no contract can know them, as of a file; and whether a put has failed.
-    ghost state: { Self → State };
+    ghost state: { Self → StreamState };
 
     /// Takes a front of the bytes, and answers how many they are: at least 1 of a non-empty slice.
     ///

@@ -8,7 +8,7 @@ use Rattle.flow_net.specs.Limits.{IsNet}
 use Rattle.flow_net.specs.Residual.{tail_of, head_of}
 use Rattle.flow_net.proofs.Zips.{tail_is_node}
 use Rattle.flow_solve.specs.residual.Packs.{IsPacked}
-use Rattle.flow_solve.specs.levels.Phases.{cell_of, place_of}
+use Rattle.flow_solve.specs.levels.Phases.{cell_of, first_at}
 use Rattle.flow_solve.proofs.ResidualLemmas.Crossings.{group_tail, tail_group}
 
 pub cell_at : (cells : List ℕ) (x : ℕ) → 1 ≤ x → get_or cells (x - 1) 0 ≡ cell_of cells x
@@ -29,14 +29,14 @@ cell_other cells (suc i) p (suc j) o n =
 
 -- where a half-arc first stands
 pub record IsFirst (halves : List ℕ) (p h : ℕ) : Type 0 where
-  pub most : place_of halves h ≤ p
-  pub there : get_or halves (place_of halves h) 0 ≡ h
+  pub most : first_at halves h ≤ p
+  pub there : get_or halves (first_at halves h) 0 ≡ h
 
-first_here : (halves : List ℕ) (g h : ℕ) → g ≡ h → place_of (g ∷ halves) h ≡ 0
-first_here halves g h e = ap (λ b. cond b 0 (place_of halves h + 1)) (eq-eqb g h e)
+first_here : (halves : List ℕ) (g h : ℕ) → g ≡ h → first_at (g ∷ halves) h ≡ 0
+first_here halves g h e = ap (λ b. cond b 0 (first_at halves h + 1)) (eq-eqb g h e)
 
-first_on : (halves : List ℕ) (g h : ℕ) → g ≢ h → place_of (g ∷ halves) h ≡ suc (place_of halves h)
-first_on halves g h n = ap (λ b. cond b 0 (place_of halves h + 1)) (ne_eqb g h n) ∙ add-one (place_of halves h)
+first_on : (halves : List ℕ) (g h : ℕ) → g ≢ h → first_at (g ∷ halves) h ≡ suc (first_at halves h)
+first_on halves g h n = ap (λ b. cond b 0 (first_at halves h + 1)) (ne_eqb g h n) ∙ add-one (first_at halves h)
 
 place_first : (halves : List ℕ) (p h : ℕ) → p < length halves → get_or halves p 0 ≡ h → IsFirst halves p h
 place_first [] p h l e = absurd (omega arith)
@@ -68,24 +68,24 @@ firsts_rise net first halves v (suc w) p l m = elim (cases_eq v (suc w)) [
 
 -- a half-arc in a node's range is at its place there
 pub place_at : (net : Net) (first halves : List ℕ) (v p : ℕ) → IsPacked net first halves → v < net.nodes
-    → get_or first v 0 ≤ p → p < get_or first (v + 1) 0 → place_of halves (get_or halves p 0) ≡ p
+    → get_or first v 0 ≤ p → p < get_or first (v + 1) 0 → first_at halves (get_or halves p 0) ≡ p
 place_at net first halves v p k l a b =
     let most = k.most (v + 1) (omega arith) in
     let last = firsts_rise net first halves (v + 1) net.nodes k (omega arith) (omega arith) in
     let f = place_first halves p (get_or halves p 0) (omega (arith, k.halves_size)) refl in
-    k.once (place_of halves (get_or halves p 0)) p (omega (arith, f.most)) (omega arith) f.there
+    k.once (first_at halves (get_or halves p 0)) p (omega (arith, f.most)) (omega arith) f.there
 
 -- what stands at a place among a node's
 pub record IsMine (net : Net) (halves : List ℕ) (v p h : ℕ) : Type 0 where
   pub half : h < 2 * length net.arcs
   pub tail : tail_of net h ≡ v
-  pub place : place_of halves h ≡ p
+  pub place : first_at halves h ≡ p
 
 -- where a half-arc to another node stands
 pub record IsStanding (net : Net) (first halves : List ℕ) (h : ℕ) : Type 0 where
-  pub least : get_or first (tail_of net h - 1) 0 ≤ place_of halves h
-  pub most : place_of halves h < get_or first (tail_of net h) 0
-  pub there : get_or halves (place_of halves h) 0 ≡ h
+  pub least : get_or first (tail_of net h - 1) 0 ≤ first_at halves h
+  pub most : first_at halves h < get_or first (tail_of net h) 0
+  pub there : get_or halves (first_at halves h) 0 ≡ h
 
 -- packed half-arcs
 module _ {net : Net} {first halves : List ℕ} (n : IsNet net) (k : IsPacked net first halves) where
@@ -106,8 +106,8 @@ module _ {net : Net} {first halves : List ℕ} (n : IsNet net) (k : IsPacked net
       let t = tail_is_node net h n l in
       let up : tail_of net h - 1 + 1 ≡ tail_of net h = omega (arith, t.0) in
       let s = k.stands (tail_of net h - 1) h (omega (arith, t)) l (tail_group net h o) in
-      let at : place_of halves h ≡ s.0 =
-      ap (place_of halves) (sym s.3)
+      let at : first_at halves h ≡ s.0 =
+      ap (first_at halves) (sym s.3)
       ∙ place_at net first halves (tail_of net h - 1) s.0 k (omega (arith, t)) s.1 s.2 in
       let below : s.0 < get_or first (tail_of net h) 0 = subst (λ w. s.0 < get_or first w 0) up s.2 in
       record {
@@ -118,7 +118,7 @@ module _ {net : Net} {first halves : List ℕ} (n : IsNet net) (k : IsPacked net
 
   -- so no other half-arc that falls has its place
   pub one_place : (g h : ℕ) → g < 2 * length net.arcs → tail_of net g ≢ head_of net g
-      → get_or halves (place_of halves h) 0 ≡ h → place_of halves g ≡ place_of halves h → h ≡ g
+      → get_or halves (first_at halves h) 0 ≡ h → first_at halves g ≡ first_at halves h → h ≡ g
   one_place g h l o at e = sym at ∙ ap (λ i. get_or halves i 0) (sym e) ∙ (standing g l o).there
 
 pub falls_apart : (net : Net) (rank : ℕ → ℕ) (h : ℕ) → rank (head_of net h) < rank (tail_of net h)

@@ -15,7 +15,7 @@ use Rattle.flow_net.proofs.AugmentingPaths.{augmented}
 use Rattle.flow_net.proofs.Zips.{head_is_node, tail_is_node}
 use Rattle.flow_net.proofs.NodeLists.{terminals_apart}
 use Rattle.flow_solve.specs.residual.Packs.{IsPacked}
-use Rattle.flow_solve.specs.levels.Phases.{cell_of, place_of, left, fill_cost, to_fill, any, is_open, HasMoved}
+use Rattle.flow_solve.specs.levels.Phases.{cell_of, first_at, left, fill_cost, to_fill, any, is_open, HasMoved}
 use Rattle.flow_solve.specs.levels.Phases.{IsAdmissible}
 use Rattle.flow_solve.specs.levels.Phases.{IsDead, IsInPhase, AreSinks, IsOrdered, IsGentle}
 use Rattle.flow_solve.specs.levels.Phases.{IsLooked}
@@ -42,16 +42,16 @@ pub record IsTurning (net : Net) (s t first halves rank current path xs : List �
   pub path_size : length path ≡ net.nodes
   pub node : IsNode net x
   pub short : d < net.nodes
-  pub walk : IsWalk net (cell_of rank) (place_of halves) (cell_of current) xs u x (take d path)
-  pub paid : IsPaid total steps d (to_fill net (cell_of rank) (place_of halves) (cell_of current) xs)
-      (left net (cell_of rank) (place_of halves) (cell_of current) any)
+  pub walk : IsWalk net (cell_of rank) (first_at halves) (cell_of current) xs u x (take d path)
+  pub paid : IsPaid total steps d (to_fill net (cell_of rank) (first_at halves) (cell_of current) xs)
+      (left net (cell_of rank) (first_at halves) (cell_of current) any)
 
 -- ---- the beginning
 
 pub turning_start : {net : Net} {s t first halves rank current : List ℕ} (path : List ℕ) {xs : List ℕ} (u : ℕ) {k : ℕ}
     (steps total : ℕ) → IsInPhase net s t first halves rank current xs k → length path ≡ net.nodes → IsNode net u
-    → total ≡ steps + (to_fill net (cell_of rank) (place_of halves) (cell_of current) xs
-    + left net (cell_of rank) (place_of halves) (cell_of current) any)
+    → total ≡ steps + (to_fill net (cell_of rank) (first_at halves) (cell_of current) xs
+    + left net (cell_of rank) (first_at halves) (cell_of current) any)
     → IsTurning net s t first halves rank current path xs u u 0 k total steps
 turning_start {net} {halves} {rank} {current} path {xs} u steps total p size i e = record {
   phase = p;
@@ -59,7 +59,7 @@ turning_start {net} {halves} {rank} {current} path {xs} u steps total p size i e
   node = i;
   short = omega (arith, i);
   walk =
-      subst (λ hs. IsWalk net (cell_of rank) (place_of halves) (cell_of current) xs u u hs) (sym (take_nil path))
+      subst (λ hs. IsWalk net (cell_of rank) (first_at halves) (cell_of current) xs u u hs) (sym (take_nil path))
       (record { path = refl; descends = tt; ready = tt; room = tt });
   paid = record { paid = omega (arith, e) };
 }
@@ -83,7 +83,7 @@ looked_phase {t} l p = record {
 -- a node that isn't a sink and whose place is behind all is dead
 pub dead_here : (net : Net) (t first halves current : List ℕ) (x : ℕ) → IsNet net → IsPacked net first halves
     → one_of t x ≡ false → cell_of current x ≡ slice_index first x
-    → IsDead net (one_of t) (place_of halves) (cell_of current) x
+    → IsDead net (one_of t) (first_at halves) (cell_of current) x
 dead_here net t first halves current x n k inner end = record {
   inner = inner;
   over = λ h l e o.
@@ -102,8 +102,8 @@ fill_enough n d e r a b =
 abbrev pub to_go : Net → List ℕ → List ℕ → List ℕ → List ℕ → ℕ → ℕ
 to_go net halves rank current xs d =
     net.nodes
-    * (unpassed net (place_of halves) (cell_of current)
-    + left net (cell_of rank) (place_of halves) (cell_of current) (is_open net xs) + 1) - d
+    * (unpassed net (first_at halves) (cell_of current)
+    + left net (cell_of rank) (first_at halves) (cell_of current) (is_open net xs) + 1) - d
 
 fewer_left : (n a b d e : ℕ) → a < b → d < n → n * (a + 1) - e < n * (b + 1) - d
 fewer_left n a b d e l s = let m : a + 2 ≤ b + 1 = omega arith in let k = mul-le-mul_left n m in omega (arith, k)
@@ -122,8 +122,8 @@ pub to_go_longer : (net : Net) (halves rank current current' xs : List ℕ) (x d
 to_go_longer net halves rank current current' xs x d m s =
     let up = moved_up (cell_of current) (cell_of current') x m in
     longer net.nodes _ _ d
-    (plus _ _ _ _ (unpassed_on net (place_of halves) (cell_of current) (cell_of current') up)
-    (left_on net (cell_of rank) (place_of halves) (cell_of current) (cell_of current') (is_open net xs) up)) s
+    (plus _ _ _ _ (unpassed_on net (first_at halves) (cell_of current) (cell_of current') up)
+    (left_on net (cell_of rank) (first_at halves) (cell_of current) (cell_of current') (is_open net xs) up)) s
   where
     plus : (a b y z : ℕ) → a ≤ b → y ≤ z → a + y ≤ b + z
     plus a b y z l k = omega arith
@@ -152,15 +152,15 @@ module _ {net : Net} {s t first halves rank current path xs : List ℕ} {u x d k
 
   pub turning_advance : {current' : List ℕ} (steps' h : ℕ) → IsNet net → cell_of rank u < net.nodes
       → IsLooked net first halves rank current current' xs x
-      → IsAdmissible net (cell_of rank) (place_of halves) (cell_of current') xs x h
-      → steps' + left net (cell_of rank) (place_of halves) (cell_of current') any ≤ steps
-      + left net (cell_of rank) (place_of halves) (cell_of current) any + 1
+      → IsAdmissible net (cell_of rank) (first_at halves) (cell_of current') xs x h
+      → steps' + left net (cell_of rank) (first_at halves) (cell_of current') any ≤ steps
+      + left net (cell_of rank) (first_at halves) (cell_of current) any + 1
       → IsTurning net s t first halves rank current' (set path d h) xs u (head_of net h) (d + 1) k total steps'
   turning_advance {current'} steps' h n low l a cost =
       let up = moved_up (cell_of current) (cell_of current') x l.moved in
       let more = take_more_set path d h (omega (arith, w.short, w.path_size)) in
       let w0 = walk_on l.moved.there w.walk in
-      let w1 : IsWalk net (cell_of rank) (place_of halves) (cell_of current') xs u (head_of net h)
+      let w1 : IsWalk net (cell_of rank) (first_at halves) (cell_of current') xs u (head_of net h)
       (take d path ++ (h ∷ [])) =
       record {
         path = path_more net u x (take d path) h w0.path a.half a.tail;
@@ -168,13 +168,13 @@ module _ {net : Net} {s t first halves rank current path xs : List ℕ} {u x d k
             all_more (λ g. cell_of rank (head_of net g) < cell_of rank (tail_of net g)) (take d path) h w0.descends
             a.falls;
         ready =
-            all_more (λ g. place_of halves g ≡ cell_of current' (tail_of net g)) (take d path) h w0.ready
+            all_more (λ g. first_at halves g ≡ cell_of current' (tail_of net g)) (take d path) h w0.ready
             (a.here ∙ ap (cell_of current') (sym a.tail));
         room = all_more (λ g. 1 ≤ residual net xs g) (take d path) h w0.room a.remains;
       } in
-      let w2 : IsWalk net (cell_of rank) (place_of halves) (cell_of current') xs u (head_of net h)
+      let w2 : IsWalk net (cell_of rank) (first_at halves) (cell_of current') xs u (head_of net h)
       (take (d + 1) (set path d h)) =
-      subst (λ hs. IsWalk net (cell_of rank) (place_of halves) (cell_of current') xs u (head_of net h) hs) (sym more)
+      subst (λ hs. IsWalk net (cell_of rank) (first_at halves) (cell_of current') xs u (head_of net h) hs) (sym more)
       w1 in
       let size : length (set path d h) ≡ net.nodes = length-set path d h ∙ w.path_size in
       let long : length (take (d + 1) (set path d h)) ≡ d + 1 =
@@ -188,7 +188,7 @@ module _ {net : Net} {s t first halves rank current path xs : List ℕ} {u x d k
             (arith, path_length net (cell_of rank) u (head_of net h) (take (d + 1) (set path d h)) w2.path w2.descends);
         walk = w2;
         paid =
-            paid_advance (to_fill_on net (cell_of rank) (place_of halves) (cell_of current) (cell_of current') xs up)
+            paid_advance (to_fill_on net (cell_of rank) (first_at halves) (cell_of current) (cell_of current') xs up)
             cost w.paid;
       }
 
@@ -198,8 +198,8 @@ module _ {net : Net} {s t first halves rank current path xs : List ℕ} {u x d k
   pub turning_retreat : {current' : List ℕ} (steps' i : ℕ) → d ≡ i + 1 → IsNet net → IsPacked net first halves
       → one_of t x ≡ false → IsLooked net first halves rank current current' xs x
       → cell_of current' x ≡ slice_index first x
-      → steps' + left net (cell_of rank) (place_of halves) (cell_of current') any ≤ steps
-      + left net (cell_of rank) (place_of halves) (cell_of current) any
+      → steps' + left net (cell_of rank) (first_at halves) (cell_of current') any ≤ steps
+      + left net (cell_of rank) (first_at halves) (cell_of current) any
       → IsTurning net s t first halves rank (set current' (tail_of net (slice_index path i) - 1)
       (cell_of current' (tail_of net (slice_index path i)) + 1)) path xs u (tail_of net (slice_index path i)) i k total
       steps'
@@ -218,19 +218,19 @@ module _ {net : Net} {s t first halves rank current path xs : List ℕ} {u x d k
       let lead : slice_index (take d path) i ≡ h = get_or-take d path i 0 (omega arith) in
       let into : head_of net h ≡ x =
       ap (head_of net) (sym lead) ∙ path_end net u x (take d path) i w.walk.path (long ∙ e) in
-      let dead : IsDead net (one_of t) (place_of halves) (cell_of current') x =
+      let dead : IsDead net (one_of t) (first_at halves) (cell_of current') x =
       dead_here net t first halves current' x n pk inner end in
       let w2 = back_to path d i (omega arith) m w1 in
       let stands = standing n pk h q.half (apart q.falls) in
       let p = looked_phase l w.phase in
-      let p0 : IsPaid total steps (i + 1) (to_fill net (cell_of rank) (place_of halves) (cell_of current) xs)
-      (left net (cell_of rank) (place_of halves) (cell_of current) any) =
-      subst (λ z. IsPaid total steps z (to_fill net (cell_of rank) (place_of halves) (cell_of current) xs)
-      (left net (cell_of rank) (place_of halves) (cell_of current) any)) e w.paid in
-      let before = to_fill_on net (cell_of rank) (place_of halves) (cell_of current) (cell_of current') xs up in
-      let past = to_fill_on net (cell_of rank) (place_of halves) (cell_of current')
+      let p0 : IsPaid total steps (i + 1) (to_fill net (cell_of rank) (first_at halves) (cell_of current) xs)
+      (left net (cell_of rank) (first_at halves) (cell_of current) any) =
+      subst (λ z. IsPaid total steps z (to_fill net (cell_of rank) (first_at halves) (cell_of current) xs)
+      (left net (cell_of rank) (first_at halves) (cell_of current) any)) e w.paid in
+      let before = to_fill_on net (cell_of rank) (first_at halves) (cell_of current) (cell_of current') xs up in
+      let past = to_fill_on net (cell_of rank) (first_at halves) (cell_of current')
       (cell_of (set current' (y - 1) (cell_of current' y + 1))) xs up' in
-      let less = pass_any net (cell_of rank) (place_of halves) (cell_of current')
+      let less = pass_any net (cell_of rank) (first_at halves) (cell_of current')
       (cell_of (set current' (y - 1) (cell_of current' y + 1))) h up' q.half (omega (arith, q.here))
       (omega (arith, q.here, o.here)) q.falls in
       record {
@@ -243,10 +243,10 @@ module _ {net : Net} {s t first halves rank current path xs : List ℕ} {u x d k
               moved_within net first (cell_of current') (cell_of (set current' (y - 1) (cell_of current' y + 1))) y
               (omega (arith, o.here), o.there) (omega (arith, o.here, stands.most, q.here)) l.places;
           blocked =
-              blocked_pass net (one_of t) (place_of halves) (cell_of current')
+              blocked_pass net (one_of t) (first_at halves) (cell_of current')
               (cell_of (set current' (y - 1) (cell_of current' y + 1))) (cell_of rank) xs y h
               (λ g b a s'. one_place n pk g h b a stands.there s') o q.here
-              (λ f. inr (subst (λ z. IsDead net (one_of t) (place_of halves) (cell_of current') z) (sym into) dead))
+              (λ f. inr (subst (λ z. IsDead net (one_of t) (first_at halves) (cell_of current') z) (sym into) dead))
               p.blocked;
         };
         path_size = w.path_size;
@@ -296,13 +296,13 @@ module _ {net : Net} {s t first halves rank current path xs : List ℕ} {u x d k
       let room : HasRoom net xs b (take d path) = all_whole (λ h. b ≤ residual net xs h) (take d path) g.least in
       let more = augmented net (one_of s) (one_of t) xs b u x (take d path) w.phase.feasible source sink
       (sink_no_source (one_of s) (one_of t) (terminals_apart net s t a) x sink) w.walk.path apart room in
-      let back : IsWalk net (cell_of rank) (place_of halves) (cell_of current) (push_all xs (take d path) b) u
+      let back : IsWalk net (cell_of rank) (first_at halves) (cell_of current) (push_all xs (take d path) b) u
       (tail_of net (slice_index (take d path) e)) (take e (take d path)) =
       record {
         path = path_take net u x (take d path) e w.walk.path g.place;
         descends =
             all_take (λ h. cell_of rank (head_of net h) < cell_of rank (tail_of net h)) (take d path) e w.walk.descends;
-        ready = all_take (λ h. place_of halves h ≡ cell_of current (tail_of net h)) (take d path) e w.walk.ready;
+        ready = all_take (λ h. first_at halves h ≡ cell_of current (tail_of net h)) (take d path) e w.walk.ready;
         room =
             all_made (λ h. 1 ≤ residual net (push_all xs (take d path) b) h) (take d path) e (omega (arith, g.place))
             (λ i l.
@@ -331,9 +331,9 @@ module _ {net : Net} {s t first halves rank current path xs : List ℕ} {u x d k
             (subst (λ h. h < 2 * length net.arcs) lead (halves_at net u x (take d path) e w.walk.path g.place));
         short = omega (arith, w.short, g.place, long);
         walk =
-            subst (λ zs. IsWalk net (cell_of rank) (place_of halves) (cell_of current) (push_all xs (take d path) b) u
+            subst (λ zs. IsWalk net (cell_of rank) (first_at halves) (cell_of current) (push_all xs (take d path) b) u
             (tail_of net (slice_index path e)) zs) (take_take e d path (omega (arith, g.place, long)))
-            (subst (λ h. IsWalk net (cell_of rank) (place_of halves) (cell_of current) (push_all xs (take d path) b) u
+            (subst (λ h. IsWalk net (cell_of rank) (first_at halves) (cell_of current) (push_all xs (take d path) b) u
             (tail_of net h) (take e (take d path))) lead back);
         paid =
             paid_augment (2 * d) (fill_cost net (cell_of rank) g')
@@ -349,7 +349,7 @@ module _ {net : Net} {s t first halves rank current path xs : List ℕ} {u x d k
   pub to_go_fill : (b e : ℕ) → IsFilling net xs (take d path) e b
       → to_go net halves rank current (push_all xs (take d path) b) e < to_go net halves rank current xs d
   to_go_fill b e g =
-      fewer_left net.nodes _ _ d e (plus (unpassed net (place_of halves) (cell_of current)) _ _
+      fewer_left net.nodes _ _ d e (plus (unpassed net (first_at halves) (cell_of current)) _ _
       (augment_fills b w.phase.feasible.fits.count w.walk e g.place g.amount)) w.short
     where
       plus : (a y z : ℕ) → y < z → a + y < a + z
@@ -370,13 +370,13 @@ module _ {net : Net} {s t first halves rank current path xs : List ℕ} {u x d k
       let up = moved_up (cell_of current) (cell_of current') x l.moved in
       let up' = on_up (cell_of current') (cell_of (set current' (y - 1) (cell_of current' y + 1))) y o in
       fewer_left net.nodes _ _ d i
-      (plus _ _ _ _ _ _ (unpassed_past net (place_of halves) (cell_of current')
+      (plus _ _ _ _ _ _ (unpassed_past net (first_at halves) (cell_of current')
       (cell_of (set current' (y - 1) (cell_of current' y + 1))) h up' q.half
       (omega (arith, q.here)) (omega (arith, q.here, o.here)))
-      (unpassed_on net (place_of halves) (cell_of current) (cell_of current') up)
-      (left_on net (cell_of rank) (place_of halves) (cell_of current')
+      (unpassed_on net (first_at halves) (cell_of current) (cell_of current') up)
+      (left_on net (cell_of rank) (first_at halves) (cell_of current')
       (cell_of (set current' (y - 1) (cell_of current' y + 1))) (is_open net xs) up')
-      (left_on net (cell_of rank) (place_of halves) (cell_of current) (cell_of current') (is_open net xs) up))
+      (left_on net (cell_of rank) (first_at halves) (cell_of current) (cell_of current') (is_open net xs) up))
       w.short
     where
       plus : (a a' a'' y y' y'' : ℕ) → a'' < a' → a' ≤ a → y'' ≤ y' → y' ≤ y → a'' + y'' < a + y
@@ -388,12 +388,12 @@ module _ {net : Net} {s t first halves rank current path xs : List ℕ} {u x d k
 
   -- the walk's end
   pub turning_end : {current' : List ℕ} (steps' : ℕ) → d ≡ 0 → IsLooked net first halves rank current current' xs x
-      → steps' + left net (cell_of rank) (place_of halves) (cell_of current') any ≤ steps
-      + left net (cell_of rank) (place_of halves) (cell_of current) any
-      → steps' + (to_fill net (cell_of rank) (place_of halves) (cell_of current') xs
-      + left net (cell_of rank) (place_of halves) (cell_of current') any) ≤ total
+      → steps' + left net (cell_of rank) (first_at halves) (cell_of current') any ≤ steps
+      + left net (cell_of rank) (first_at halves) (cell_of current) any
+      → steps' + (to_fill net (cell_of rank) (first_at halves) (cell_of current') xs
+      + left net (cell_of rank) (first_at halves) (cell_of current') any) ≤ total
   turning_end {current'} steps' e l cost =
-      let live = to_fill_on net (cell_of rank) (place_of halves) (cell_of current) (cell_of current') xs
+      let live = to_fill_on net (cell_of rank) (first_at halves) (cell_of current) (cell_of current') xs
       (moved_up (cell_of current) (cell_of current') x l.moved) in
       omega (arith, w.paid.paid, live, cost)
 

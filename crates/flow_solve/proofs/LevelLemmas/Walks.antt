@@ -6,7 +6,7 @@ use Rattle.flow_net.specs.Nets.{Net, IsNode}
 use Rattle.flow_net.specs.Limits.{IsNet}
 use Rattle.flow_net.specs.Residual.{tail_of, head_of, residual}
 use Rattle.flow_solve.specs.residual.Packs.{IsPacked}
-use Rattle.flow_solve.specs.levels.Phases.{cell_of, place_of, left, any, HasMoved, IsAdmissible, IsDead, IsBlocked}
+use Rattle.flow_solve.specs.levels.Phases.{cell_of, first_at, left, any, HasMoved, IsAdmissible, IsDead, IsBlocked}
 use Rattle.flow_solve.specs.levels.Phases.{AreWithin}
 use Rattle.flow_solve.specs.levels.Phases.{IsCurrent}
 use Rattle.flow_solve.proofs.LevelLemmas.Falls.{left_on, pass_any}
@@ -105,10 +105,10 @@ module _ (net : Net) (t : ℕ → Bool) (place now next : ℕ → ℕ) where
 pub record IsLooking (net : Net) (first halves rank current xs : List ℕ) (x p before steps : ℕ) : Type 0 where
   pub least : cell_of current x ≤ p
   pub most : p ≤ get_or first x 0
-  pub blocked : (t : ℕ → Bool) → IsBlocked net t (cell_of rank) (place_of halves) (cell_of current) xs
-      → IsBlocked net t (cell_of rank) (place_of halves) (cell_of (set current (x - 1) p)) xs
-  pub paid : steps + left net (cell_of rank) (place_of halves) (cell_of (set current (x - 1) p)) any
-      ≤ before + left net (cell_of rank) (place_of halves) (cell_of current) any
+  pub blocked : (t : ℕ → Bool) → IsBlocked net t (cell_of rank) (first_at halves) (cell_of current) xs
+      → IsBlocked net t (cell_of rank) (first_at halves) (cell_of (set current (x - 1) p)) xs
+  pub paid : steps + left net (cell_of rank) (first_at halves) (cell_of (set current (x - 1) p)) any
+      ≤ before + left net (cell_of rank) (first_at halves) (cell_of current) any
 
 pub looking_start : {net : Net} {first halves rank current xs : List ℕ} {x before : ℕ} → IsNode net x
     → IsCurrent net first current
@@ -119,12 +119,12 @@ looking_start {net} {halves} {rank} {current} {xs} {x} i now =
       least = omega (arith, at);
       most = omega (arith, at, (now.places x i).1);
       blocked = λ t b.
-          blocked_same net t (place_of halves) (cell_of current) (cell_of
+          blocked_same net t (first_at halves) (cell_of current) (cell_of
           (set current (x - 1) (get_or current (x - 1) 0))) (cell_of rank) xs same b;
       paid =
           omega (
             arith,
-            left_on net (cell_of rank) (place_of halves) (cell_of current)
+            left_on net (cell_of rank) (first_at halves) (cell_of current)
                 (cell_of (set current (x - 1) (get_or current (x - 1) 0))) any (λ v. omega (arith, same v)),
           );
     }
@@ -148,10 +148,10 @@ module _ {net : Net} {first halves rank current xs : List ℕ} {x p before steps
   looking_blocked : IsMine net halves x p (get_or halves p 0)
       → (cell_of rank (head_of net (get_or halves p 0)) < cell_of rank (tail_of net (get_or halves p 0))
       → residual net xs (get_or halves p 0) ≡ 0) → (t : ℕ → Bool)
-      → IsBlocked net t (cell_of rank) (place_of halves) (cell_of (set current (x - 1) p)) xs
-      → IsBlocked net t (cell_of rank) (place_of halves) (cell_of (set current (x - 1) (p + 1))) xs
+      → IsBlocked net t (cell_of rank) (first_at halves) (cell_of (set current (x - 1) p)) xs
+      → IsBlocked net t (cell_of rank) (first_at halves) (cell_of (set current (x - 1) (p + 1))) xs
   looking_blocked g why t b =
-      blocked_pass net t (place_of halves) (cell_of (set current (x - 1) p)) (cell_of (set current (x - 1) (p + 1)))
+      blocked_pass net t (first_at halves) (cell_of (set current (x - 1) p)) (cell_of (set current (x - 1) (p + 1)))
       (cell_of rank) xs x (get_or halves p 0) (λ h l o e. one_place n k h (get_or halves p 0) l o
       (ap (λ z. get_or halves z 0) g.place) e) (set_on current x p i.0 (omega (arith, i.1, now.size))) (g.place
       ∙ sym (cell_set current x p i.0 (omega (arith, i.1, now.size)))) (λ f. inl (why f)) b
@@ -170,7 +170,7 @@ module _ {net : Net} {first halves rank current xs : List ℕ} {x p before steps
             omega (
               arith,
               l.paid,
-              left_on net (cell_of rank) (place_of halves) (cell_of (set current (x - 1) p))
+              left_on net (cell_of rank) (first_at halves) (cell_of (set current (x - 1) p))
                   (cell_of (set current (x - 1) (p + 1))) any
                   (on_up (cell_of (set current (x - 1) p)) (cell_of (set current (x - 1) (p + 1))) x o),
             );
@@ -193,7 +193,7 @@ module _ {net : Net} {first halves rank current xs : List ℕ} {x p before steps
         paid = omega (
           arith,
           l.paid,
-          pass_any net (cell_of rank) (place_of halves) (cell_of (set current (x - 1) p))
+          pass_any net (cell_of rank) (first_at halves) (cell_of (set current (x - 1) p))
               (cell_of (set current (x - 1) (p + 1))) (get_or halves p 0)
               (on_up (cell_of (set current (x - 1) p)) (cell_of (set current (x - 1) (p + 1))) x o) g.half
               (omega (arith, low, g.place, ap (cell_of (set current (x - 1) p)) g.tail))
@@ -204,7 +204,7 @@ module _ {net : Net} {first halves rank current xs : List ℕ} {x p before steps
   -- it is admissible
   pub looking_found : cell_of rank (head_of net (get_or halves p 0)) < cell_of rank (tail_of net (get_or halves p 0))
       → 1 ≤ residual net xs (get_or halves p 0)
-      → IsAdmissible net (cell_of rank) (place_of halves) (cell_of (set current (x - 1) p)) xs x (get_or halves p 0)
+      → IsAdmissible net (cell_of rank) (first_at halves) (cell_of (set current (x - 1) p)) xs x (get_or halves p 0)
   looking_found falls some =
       let g = mine_at in
       record {

@@ -10,7 +10,7 @@ use Rattle.flow_net.specs.Residual.{residual}
 use Rattle.flow_solve.specs.declared.residual.searching.TheConstants.{FAR, WANTED}
 use Rattle.flow_solve.specs.declared.residual.half_arcs.Direction.{Direction}
 use Rattle.flow_solve.specs.declared.residual.searching.Progress.{Progress}
-use Rattle.flow_solve.specs.residual.Searches.{IsMarked, spread, queued, IsQueue, IsNear, HasGrown, IsCount, wanted_at}
+use Rattle.flow_solve.specs.residual.Searches.{IsMarked, spread, queued, IsQueue, IsNear, GoesOn, IsCount, wanted_at}
 use Rattle.flow_solve.specs.residual.HalfArcs.{near_end}
 use Rattle.flow_solve.specs.residual.HalfArcs.{far_end}
 use Rattle.flow_solve.specs.residual.Searches.{IsCome}
@@ -305,10 +305,10 @@ count_more until dist at x wanted l o u c =
     }
 
 pub grown_marked : {dist via queue dist' via' queue' : List ℕ} {a b : Progress}
-    → HasGrown dist via queue a dist' via' queue' b → (p : ℕ) → IsMarked dist p → IsMarked dist' p
+    → GoesOn dist via queue a dist' via' queue' b → (p : ℕ) → IsMarked dist p → IsMarked dist' p
 grown_marked g p m = omega (arith, (g.kept p m).0)
 
-pub grown_none : (dist via queue : List ℕ) (a : Progress) → HasGrown dist via queue a dist via queue a
+pub grown_none : (dist via queue : List ℕ) (a : Progress) → GoesOn dist via queue a dist via queue a
 grown_none dist via queue a = record {
   kept = λ p m. (refl, refl);
   ahead = λ i l. refl;
@@ -317,8 +317,8 @@ grown_none dist via queue a = record {
 }
 
 pub grown_on : {dist via queue dist' via' queue' dist'' via'' queue'' : List ℕ} {a b c : Progress}
-    → HasGrown dist via queue a dist' via' queue' b → HasGrown dist' via' queue' b dist'' via'' queue'' c
-    → HasGrown dist via queue a dist'' via'' queue'' c
+    → GoesOn dist via queue a dist' via' queue' b → GoesOn dist' via' queue' b dist'' via'' queue'' c
+    → GoesOn dist via queue a dist'' via'' queue'' c
 grown_on g h = record {
   kept = λ p m. let a = g.kept p m in let b = h.kept p (grown_marked g p m) in (b.0 ∙ a.0, b.1 ∙ a.1);
   ahead = λ i m. let a = g.more in h.ahead i (omega arith) ∙ g.ahead i m;
@@ -349,7 +349,7 @@ near_none dist u v marked = elim (cases_lt v (length dist)) [
 
 -- what was come to stays so
 pub come_on : {dist via queue dist' via' queue' : List ℕ} {a b : Progress} (net : Net) (flows : List ℕ)
-    (dir : Direction) (v : ℕ) → HasGrown dist via queue a dist' via' queue' b → IsMarked dist v
+    (dir : Direction) (v : ℕ) → GoesOn dist via queue a dist' via' queue' b → IsMarked dist v
     → IsCome net flows dir dist via v → IsCome net flows dir dist' via' v
 come_on {dist = dist} {via = via} {dist' = dist'} {via' = via'} net flows dir v g m c =
     let by = (g.kept v m).1 in let h = get_or via v 0 in let near = near_end dir net h - 1 in

@@ -20,9 +20,9 @@ cell_of cells zero = 0
 cell_of cells (suc p) = slice_index cells p
 
 -- where a half-arc first stands among the packed ones
-abbrev pub place_of : List ℕ → ℕ → ℕ
-place_of [] h = 0
-place_of (g ∷ halves) h = if g == h then 0 else place_of halves h + 1
+abbrev pub first_at : List ℕ → ℕ → ℕ
+first_at [] h = 0
+first_at (g ∷ halves) h = if g == h then 0 else first_at halves h + 1
 
 -- how many numbers below n pass a test
 abbrev pub count_below : ℕ → (ℕ → Bool) → ℕ
@@ -69,8 +69,8 @@ to_fill net rank place current xs =
 -- what the rest of a phase may cost, in steps
 abbrev pub owed : Net → List ℕ → List ℕ → List ℕ → List ℕ → ℕ
 owed net halves rank current xs =
-    to_fill net (cell_of rank) (place_of halves) (cell_of current) xs
-    + left net (cell_of rank) (place_of halves) (cell_of current) any
+    to_fill net (cell_of rank) (first_at halves) (cell_of current) xs
+    + left net (cell_of rank) (first_at halves) (cell_of current) any
 
 -- no sink, and each half-arc that leads from it to another node is passed
 pub record IsDead (net : Net) (sink : ℕ → Bool) (place current : ℕ → ℕ) (v : ℕ) : Type 0 where
@@ -103,8 +103,8 @@ pub record IsLooked (net : Net) (first halves rank now next xs : List ℕ) (x : 
   pub size : length next ≡ net.nodes
   pub places : AreWithin net first (cell_of next)
   pub moved : HasMoved (cell_of now) (cell_of next) x
-  pub blocked : (t : ℕ → Bool) → IsBlocked net t (cell_of rank) (place_of halves) (cell_of now) xs
-      → IsBlocked net t (cell_of rank) (place_of halves) (cell_of next) xs
+  pub blocked : (t : ℕ → Bool) → IsBlocked net t (cell_of rank) (first_at halves) (cell_of now) xs
+      → IsBlocked net t (cell_of rank) (first_at halves) (cell_of next) xs
 
 -- of the half-arcs of a path, the e-th is the first on which the least remains, and that is b
 pub record IsFilling (net : Net) (xs hs : List ℕ) (e b : ℕ) : Type 0 where
@@ -128,7 +128,7 @@ pub record IsInPhase (net : Net) (s t first halves rank current xs : List ℕ) (
   pub no_loops : HasNoLoops net xs
   pub size : length current ≡ net.nodes
   pub places : AreWithin net first (cell_of current)
-  pub blocked : IsBlocked net (one_of t) (cell_of rank) (place_of halves) (cell_of current) xs
+  pub blocked : IsBlocked net (one_of t) (cell_of rank) (first_at halves) (cell_of current) xs
 
 -- the sinks are the nodes of distance 0
 abbrev pub AreSinks : Net → List ℕ → List ℕ → Type 0
@@ -189,7 +189,7 @@ owes phase current table = owed phase.packed.net.now phase.packed.halves.now pha
 
 abbrev pub IsDeadIn : Phase → List ℕ → ℕ → Type 0
 IsDeadIn phase current v =
-    IsDead phase.packed.net.now (one_of phase.t.now) (place_of phase.packed.halves.now) (cell_of current) v
+    IsDead phase.packed.net.now (one_of phase.t.now) (first_at phase.packed.halves.now) (cell_of current) v
 
 abbrev pub KeepsGentle : Phase → List ℕ → List ℕ → Type 0
 KeepsGentle phase xs ys =
@@ -208,16 +208,16 @@ HasLooked phase now next xs v =
 
 abbrev pub IsNext : Phase → List ℕ → List ℕ → ℕ → ℕ → Type 0
 IsNext phase current xs v h =
-    IsAdmissible phase.packed.net.now (cell_of phase.rank.now) (place_of phase.packed.halves.now) (cell_of current) xs
+    IsAdmissible phase.packed.net.now (cell_of phase.rank.now) (first_at phase.packed.halves.now) (cell_of current) xs
     v h
 
 -- the looks for a node's next half-arc, but some, are paid by the half-arcs that they pass
 abbrev pub Looks : Phase → List ℕ → Table → List ℕ → Table → ℕ → Type 0
 Looks phase now before next after some =
     after.steps
-    + left phase.packed.net.now (cell_of phase.rank.now) (place_of phase.packed.halves.now) (cell_of next) any
+    + left phase.packed.net.now (cell_of phase.rank.now) (first_at phase.packed.halves.now) (cell_of next) any
     ≤ before.steps
-    + left phase.packed.net.now (cell_of phase.rank.now) (place_of phase.packed.halves.now) (cell_of now) any + some
+    + left phase.packed.net.now (cell_of phase.rank.now) (first_at phase.packed.halves.now) (cell_of now) any + some
 
 abbrev pub FindsLevels : Plan → List ℕ → List ℕ → List ℕ → Type 0
 FindsLevels plan xs dist rank = AreLevels plan.packed.net.now plan.until.now plan.starts.now xs dist rank

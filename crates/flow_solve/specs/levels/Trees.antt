@@ -14,7 +14,7 @@ use Rattle.flow_solve.specs.Task.{HasFlow, IsTask}
 use Rattle.flow_solve.specs.levels.Carrying.{IsCarried}
 
 -- a flow that fits a packed network, and cells for the trees, four for each node
-pub record IsForest (p : Packed) (flow : Table) (cells : List ℕ) : Type 0 where
+pub record HasTreeCells (p : Packed) (flow : Table) (cells : List ℕ) : Type 0 where
   pub packed : IsPacked p.net.now p.first.now p.halves.now
   pub size : 4 * p.net.now.nodes ≤ length cells
   pub fits : Fits p.net.now flow.flows

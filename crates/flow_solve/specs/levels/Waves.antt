@@ -14,6 +14,6 @@ pub record IsWaving (packed : Packed) (table : Table) (cells : List ℕ) : Type 
   pub size : length cells ≡ 5 * packed.net.now.nodes
 
 -- The flow still fits, and the steps taken are paid by the wave.
-pub record Sends (packed : Packed) (before : Table) (wave : Wave) (after : Table) (wave' : Wave) : Type 0 where
+pub record HasSent (packed : Packed) (before : Table) (wave : Wave) (after : Table) (wave' : Wave) : Type 0 where
   pub fits : Fits packed.net.now after.flows
   pub paid : PaysSteps before wave.left after wave'.left

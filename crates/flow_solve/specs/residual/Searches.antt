@@ -71,7 +71,7 @@ pub record IsCount (until dist : List ℕ) (wanted : ℕ) : Type 0 where
   pub count : wanted ≡ spread (wanted_at until) dist (length dist)
 
 -- a search that goes on: what it has seen stays as it was, and it counts each node that it looks out for
-pub record HasGrown (dist via queue : List ℕ) (before : Progress) (dist' via' queue' : List ℕ) (after : Progress)
+pub record GoesOn (dist via queue : List ℕ) (before : Progress) (dist' via' queue' : List ℕ) (after : Progress)
     : Type 0 where
   pub kept : (p : ℕ) → IsMarked dist p → (slice_index dist' p ≡ slice_index dist p)
       × (slice_index via' p ≡ slice_index via p)

@@ -15,7 +15,7 @@ ghost use Rattle.std.specs.Prelude.{◌≡◌, ◌*◌, ◌<◌, length};
 ghost use Rattle.std.specs.List.{All};
 ghost use Rattle.flow_net.specs.Nets.{IsNode};
 ghost use Rattle.flow_net.specs.Flows.{Fits};
-ghost use Rattle.flow_solve.specs.levels.Waves.{IsWaving, Sends};
+ghost use Rattle.flow_solve.specs.levels.Waves.{IsWaving, HasSent};
 ghost use Rattle.flow_solve.specs.Task.{HasFlow, IsTask};
 ghost use Rattle.flow_solve.specs.Steps.{TakesSteps};
 
@@ -60,7 +60,7 @@ fn release(packed: Packed<'_>, flow: &mut FlowTable, cells: &mut [u32], half: u3
 fn drain(packed: Packed<'_>, flow: &mut FlowTable, cells: &mut [u32], wave: &mut Wave, node: u32)
     requires waving { IsWaving packed flow.old cells.old }
     requires node { IsNode packed.net.now node }
-    ensures sent { Sends packed.entry flow.old wave.old flow.new wave.new }
+    ensures sent { HasSent packed.entry flow.old wave.old flow.new wave.new }
 {
     let begin = packed.first[node as usize - 1];
     let end = packed.first[node as usize];
@@ -76,7 +76,7 @@ fn drain(packed: Packed<'_>, flow: &mut FlowTable, cells: &mut [u32], wave: &mut
 fn supply(task: Task<'_>, flow: &mut FlowTable, cells: &mut [u32], wave: &mut Wave)
     requires task { IsTask task }
     requires waving { IsWaving task.packed flow.old cells.old }
-    ensures sent { Sends task.entry.packed flow.old wave.old flow.new wave.new }
+    ensures sent { HasSent task.entry.packed flow.old wave.old flow.new wave.new }
 {
     let n = task.packed.net.nodes() as usize;
     cells[..n].fill(UNSEEN);
@@ -91,7 +91,7 @@ fn supply(task: Task<'_>, flow: &mut FlowTable, cells: &mut [u32], wave: &mut Wa
 /// Empties the levels of a wave, the farthest first.
 fn sweep(packed: Packed<'_>, flow: &mut FlowTable, cells: &mut [u32], wave: &mut Wave)
     requires waving { IsWaving packed flow.old cells.old }
-    ensures sent { Sends packed.entry flow.old wave.old flow.new wave.new }
+    ensures sent { HasSent packed.entry flow.old wave.old flow.new wave.new }
 {
     let nodes = packed.net.nodes();
     'turns: while wave.farthest > 0 && wave.left > wave.floor && spend(&mut wave.left, 1) {
@@ -125,7 +125,7 @@ fn send(task: Task<'_>, flow: &mut FlowTable, cells: &mut [u32], wave: &mut Wave
     requires waving { IsWaving task.packed flow.old cells.old }
     requires roots { All (IsNode task.packed.net.now) task.t.now }
     requires barred { All (IsNode task.packed.net.now) task.s.now }
-    ensures sent { Sends task.entry.packed flow.old wave.old flow.new wave.new }
+    ensures sent { HasSent task.entry.packed flow.old wave.old flow.new wave.new }
 {
     let mut before = wave.left;
     'waves: while search_levels(task, flow, cells, wave) {

@@ -18,7 +18,7 @@ ghost use Rattle.flow_solve.specs.residual.Packs.{IsPacked, halves_of};
 ghost use Rattle.flow_solve.specs.Steps.{OnlyLooks};
 ghost use Rattle.flow_solve.specs.residual.HalfArcs.{twin_of, crossed};
 ghost use Rattle.flow_solve.specs.residual.Searches.{AreCells, Brings, EndsSoon, HasArrived, HasDone};
-ghost use Rattle.flow_solve.specs.residual.Searches.{HasFollowed, HasGrown, HasMissed, HasSearched, IsArrival, IsCount};
+ghost use Rattle.flow_solve.specs.residual.Searches.{HasFollowed, GoesOn, HasMissed, HasSearched, IsArrival, IsCount};
 ghost use Rattle.flow_solve.specs.residual.Searches.{IsMarked, IsNear, IsNoArrival, IsQueue, IsSearch, next_in};
 ghost use Rattle.flow_solve.specs.residual.Searches.{place_over, unseen_cell};
 
@@ -80,7 +80,7 @@ fn enter(
     requires search { IsSearch dist.old via.old queue.old progress }
     requires arrival { IsArrival dist.old progress arrival }
     ensures search { IsSearch dist.new via.new queue.new result }
-    ensures grown { HasGrown dist.old via.old queue.old progress dist.new via.new queue.new result }
+    ensures grown { GoesOn dist.old via.old queue.old progress dist.new via.new queue.new result }
     ensures arrived { HasArrived dist.new via.new arrival }
     ensures come { (p : ℕ) → IsMarked dist.new p → IsMarked dist.old p ⊎ (p ≡ arrival.place) }
     ensures followed { result.followed ≡ progress.followed }
@@ -147,7 +147,7 @@ fn follow_all(
     requires next { progress.followed < progress.seen }
     requires near { IsNear dist.old (slice_index dist.old (next_in queue.old progress) + 1) }
     ensures search { IsSearch dist.new via.new queue.new result }
-    ensures grown { HasGrown dist.old via.old queue.old progress dist.new via.new queue.new result }
+    ensures grown { GoesOn dist.old via.old queue.old progress dist.new via.new queue.new result }
     ensures followed { HasFollowed plan.entry flow.old.flows (next_in queue.old progress) dist.old dist.new via.new }
     ensures next { result.followed ≡ progress.followed + 1 }
     ensures looks { OnlyLooks flow.old flow.new (halves_of plan.entry.packed (next_in queue.old progress)) }
@@ -183,7 +183,7 @@ fn start(dist: &mut [u32], via: &mut [u32], queue: &mut [u32], progress: &mut Pr
     requires near { IsNear dist.old 0 }
     ensures search { IsSearch dist.new via.new queue.new progress.new }
     ensures near { IsNear dist.new 0 }
-    ensures grown { HasGrown dist.old via.old queue.old progress.old dist.new via.new queue.new progress.new }
+    ensures grown { GoesOn dist.old via.old queue.old progress.old dist.new via.new queue.new progress.new }
     ensures here { IsMarked dist.new (node - 1) }
     ensures come { (p : ℕ) → IsMarked dist.new p → IsMarked dist.old p ⊎ (p + 1 ≡ node) }
     ensures followed { progress.new.followed ≡ progress.old.followed }

@@ -6,7 +6,7 @@ use Rattle.std.proofs.KnownBytes.{Consumes-nil, Appends-nil}
 use Rattle.flow_net.specs.Nets.{Instance}
 use Rattle.flow_text.specs.Problem.{early, problem}
 use Rattle.flow_text.specs.Solution.{early_solution, solution}
-use Rattle.flow_tools.specs.streams.Streams.{State, Stream, over, IsKept, HasFailed}
+use Rattle.flow_tools.specs.streams.Streams.{StreamState, Stream, over, IsKept, HasFailed}
 use Rattle.flow_tools.specs.streams.Sending.{Stops}
 use Rattle.flow_tools.proofs.streams.StreamParts.{stream}
 use Rattle.flow_tools.specs.running.Reading.{IsRead}
@@ -138,7 +138,7 @@ module _ (job : Job) (source given : Stream) (instance : Instance)
       answered = answered;
     }
 
-module _ (job : Job) (instance : Instance) (given : State) where
+module _ (job : Job) (instance : Instance) (given : StreamState) where
   -- a job that has to do with no solution
   pub found : (answer : Answer) → (IsCheck job → ⊥) → IsAnswerTo job instance [] answer
       → Finds job instance (over given given) (Ok answer)

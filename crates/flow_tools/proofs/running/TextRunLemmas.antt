@@ -78,7 +78,8 @@ module _ (job : Job) (b b_rest q q_rest : List ℕ) where
     Ran r = (o : List ℕ) × (e : List ℕ) × (out_after ≡ out_before ++ o) × (err_after ≡ err_before ++ e)
         × RunsOn job b q o e r
 
-    -- whatever the exit was, the output got nothing or a beginning of an answer, and what the errors had is left of them
+    -- whatever the exit was, the output got nothing or a beginning of an answer, and what the errors had is left of
+    -- them
     pub ran_refused : (status : ℕ) (refused : NoMemory) (had : ℕ) → EndsWith job source given out err status
         → had ≡ length err_before
         → (o : List ℕ) × (out_after ≡ out_before ++ o) × (take had err_after ≡ err_before ++ [])
@@ -90,7 +91,8 @@ module _ (job : Job) (b b_rest q q_rest : List ℕ) where
           at : (end : Result ℕ Stop) → EndsAt job source given out run.p run.q run.o end
               → (run.o ≡ []) ⊎ ((text : List ℕ) × (s : ℕ) × Answers job b q text s × IsBeginning run.o text)
           at (Ok s) h =
-              inr (run.o, s, answers run.p run.q run.o s run.delivered_p run.delivered_q h.1, ([], sym (append-nil run.o)))
+              let text = answers run.p run.q run.o s run.delivered_p run.delivered_q h.1 in
+              inr (run.o, s, text, ([], sym (append-nil run.o)))
           at (Err (Fault false line code)) h = inl h.3
           at (Err (Fault true line code)) h = inl h.2
           at (Err ReadFailed) h = inl h.1

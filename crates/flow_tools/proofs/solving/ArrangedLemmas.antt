@@ -60,7 +60,8 @@ arranged_by p other lists net net' names nodes places s' t' n o names_is nodes_i
 
 -- a problem again, from the parts of an arranged one under their old names
 pub restored : (p other after : Instance) (lists : Lists) (net : Net) (s t : List ℕ)
-    → AreTerminals p.net p.sources p.sinks → IsArrangedBy p other lists → net ≡ p.net → s ≡ all_named lists.nodes.items other.sources
+    → AreTerminals p.net p.sources p.sinks → IsArrangedBy p other lists → net ≡ p.net
+    → s ≡ all_named lists.nodes.items other.sources
     → t ≡ all_named lists.nodes.items other.sinks → after ≡ record { net = net; sources = s; sinks = t } → after ≡ p
 restored p other after lists net s t q a net_is s_is t_is after_is =
     let names = lists.names.items in
@@ -198,7 +199,8 @@ module _ (p other : Instance) where
       → AreTerminals p.net p.sources p.sinks → IsArrangedIf p other lists → IsSolution other value ys
       → (xs : List ℕ) × IsSolution p value xs
   solution_if None value ys r q a h = (ys, subst (λ o. IsSolution o value ys) a h)
-  solution_if (Some lists) value ys r q a h = let from = solution_named p other lists r q a value ys h in (from.0, from.3)
+  solution_if (Some lists) value ys r q a h = let from = solution_named p other lists r q a value ys h in
+      (from.0, from.3)
 
   -- the problem itself, or an arrangement of it
   pub same_or_arranged : (lists : Option Lists) → IsNet p.net → IsProblem p → IsArrangedIf p other lists

@@ -1,9 +1,9 @@
 -- A stream over a call, from its parts.
 use Rattle.std.proofs.Common.{ℕ, Bool, List, Option}
-use Rattle.flow_tools.specs.streams.Streams.{Stream, State, over}
+use Rattle.flow_tools.specs.streams.Streams.{Stream, StreamState, over}
 
 -- a state of these bytes, failed or not
-abbrev pub state : Option (List ℕ) → Bool → State
+abbrev pub state : Option (List ℕ) → Bool → StreamState
 state bytes failed = record { bytes = bytes; failed = failed }
 
 -- the bytes before and after, and whether it had failed before and after

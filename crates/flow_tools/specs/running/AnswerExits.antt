@@ -29,14 +29,14 @@ status_of (Verdict verdict) = verdict_status verdict
 status_of _ = 0
 
 -- it has a number for each arc, or a mark for each node
-abbrev pub IsWhole : Answer → Type 0
-IsWhole (Flow solved) = length solved.flows.items ≡ length solved.network.net.arcs
-IsWhole (Cut cut arcs) = length cut.side.items ≡ cut.solved.network.net.nodes
-IsWhole _ = ⊤
+abbrev pub IsComplete : Answer → Type 0
+IsComplete (Flow solved) = length solved.flows.items ≡ length solved.network.net.arcs
+IsComplete (Cut cut arcs) = length cut.side.items ≡ cut.solved.network.net.nodes
+IsComplete _ = ⊤
 
 -- its text and its status are what the job answers to a problem, and to a solution's text q
 abbrev pub IsAnswerTo : Job → Instance → List ℕ → Answer → Type 0
-IsAnswerTo job instance q answer = IsAnswer job instance q (text_of answer) (status_of answer) × IsWhole answer
+IsAnswerTo job instance q answer = IsAnswer job instance q (text_of answer) (status_of answer) × IsComplete answer
 
 -- what is found where the solution, if the job checks one, delivered q
 abbrev pub FindsAt : Job → Instance → Stream → List ℕ → Result Answer Stop → Type 0

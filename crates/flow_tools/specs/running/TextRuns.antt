@@ -16,8 +16,8 @@ abbrev pub Answers : Job → List ℕ → List ℕ → List ℕ → ℕ → Type
 Answers job b q text status = (instance : Instance) × (problem b ≡ Ok instance) × IsAnswer job instance q text status
 
 -- the line about the first fault of the problem's text b; or, where a solution is checked, of the solution's text q
-abbrev pub Refuses : Job → List ℕ → List ℕ → List ℕ → Type 0
-Refuses job b q message =
+abbrev pub TellsFirstFault : Job → List ℕ → List ℕ → List ℕ → Type 0
+TellsFirstFault job b q message =
     ((line : ℕ) × (code : FaultCode) × (problem b ≡ Err (line, code)) × (message ≡ fault_line false line code))
     ⊎ (IsCheck job × ((instance : Instance) × (line : ℕ) × (code : FaultCode) × (problem b ≡ Ok instance)
     × (solution q instance.net.nodes ≡ Err (line, code)) × (message ≡ fault_line true line code)))
@@ -26,6 +26,6 @@ Refuses job b q message =
 -- no line, and nothing or a beginning of an answer
 abbrev pub RunsOn : Job → List ℕ → List ℕ → List ℕ → List ℕ → Result ℕ OutOfMemory → Type 0
 RunsOn job b q o e (Ok status) =
-    (Answers job b q o status × (e ≡ [])) ⊎ (Refuses job b q e × (o ≡ []) × (status ≡ 3))
+    (Answers job b q o status × (e ≡ [])) ⊎ (TellsFirstFault job b q e × (o ≡ []) × (status ≡ 3))
 RunsOn job b q o e (Err refused) =
     (e ≡ []) × ((o ≡ []) ⊎ ((text : List ℕ) × (status : ℕ) × Answers job b q text status × IsBeginning o text))

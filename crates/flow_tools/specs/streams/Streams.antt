@@ -4,16 +4,16 @@ use Rattle.std.specs.Io.KnownBytes.{IsAtEnd}
 
 -- What contracts see of a stream: its bytes, those left of an input or those taken by an output, where anyone can know
 -- them, and whether a call has failed.
-pub record State : Type 0 where
+pub record StreamState : Type 0 where
   pub bytes : Option (List ℕ)
   pub failed : Bool
 
 -- A stream over a call: its states before and after.
 pub record Stream : Type 0 where
-  pub before : State
-  pub after : State
+  pub before : StreamState
+  pub after : StreamState
 
-abbrev pub over : State → State → Stream
+abbrev pub over : StreamState → StreamState → Stream
 over before after = record { before = before; after = after }
 
 -- no call of the stream failed

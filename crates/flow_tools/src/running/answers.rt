@@ -4,9 +4,9 @@ ghost use Rattle.flow_net.specs.Nets.{Instance};
 ghost use Rattle.flow_tools.specs.running.Exits.{IsCheck};
 ghost use Rattle.flow_tools.specs.solving.Solutions.{is_sink};
 ghost use Rattle.flow_tools.specs.declared.running.jobs.Job.{Job};
-ghost use Rattle.flow_tools.specs.running.AnswerExits.{Finds, IsAnswerTo, IsWhole, text_of, status_of};
+ghost use Rattle.flow_tools.specs.running.AnswerExits.{Finds, IsAnswerTo, IsComplete, text_of, status_of};
 ghost use Rattle.flow_tools.specs.streams.Sending.{IsPut};
-ghost use Rattle.flow_tools.specs.streams.Streams.{State, over};
+ghost use Rattle.flow_tools.specs.streams.Streams.{StreamState, over};
 
 use crate::checking::check;
 use crate::connecting::answers::connect;
@@ -67,7 +67,7 @@ pub(crate) fn find_answer<J: Input>(
 
 /// An answer that has to do with no solution, or that memory was refused.
 fn found_alone(found: Result<Answer, OutOfMemory>) -> Result<Answer, Stop>
-    ensures { (job : Job) (p : Instance) (given : State) → (IsCheck job → ⊥) → IfOk found (IsAnswerTo job p [])
+    ensures { (job : Job) (p : Instance) (given : StreamState) → (IsCheck job → ⊥) → IfOk found (IsAnswerTo job p [])
         → Finds job p (over given given) result }
 {
     match found {
@@ -160,7 +160,7 @@ pub(crate) fn status_of_answer(answer: &Answer) -> u8
 ///
 /// `Failed` where a put failed. A beginning of the text was then taken.
 pub(crate) fn put_answer<O: Output>(out: &mut O, answer: &Answer) -> Result<(), Failed>
-    requires { IsWhole answer.now }
+    requires { IsComplete answer.now }
     ensures { IsPut (text_of answer.now) (over (O.state out.old) (O.state out.new)) result }
 {
     match answer {

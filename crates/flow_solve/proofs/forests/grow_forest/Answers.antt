@@ -21,7 +21,8 @@ returns-then-least-count-clause-kept c = λ g.
     grove_kept c.args.ground c.in_ok-least.least.value c.args.count c.join_others.new.halves c.join_others.new.taken
     c.join_others.new.state
     (c.in_ok-least.ensures.forest c.args.count (c.grow-front.ensures.grown.forest c.args.least.value c.args.count
-    (grove_begun c.args.ground c.args.least.value c.args.count c.args.halves.now c.args.taken.now c.begin-front.new.state
+    (grove_begun c.args.ground c.args.least.value c.args.count c.args.halves.now c.args.taken.now
+    c.begin-front.new.state
     g c.begin-front.ensures.only)))
 
 pub returns-clause-kept : goal.returns-clause-kept
@@ -29,7 +30,8 @@ returns-clause-kept c = λ g.
     grove_kept c.args.ground c.in_ok-least.least.value c.args.count c.join_others.new.halves c.join_others.new.taken
     c.join_others.new.state
     (c.in_ok-least.ensures.forest c.args.count (c.grow-front.ensures.grown.forest c.args.least.value c.args.count
-    (grove_begun c.args.ground c.args.least.value c.args.count c.args.halves.now c.args.taken.now c.begin-front.new.state
+    (grove_begun c.args.ground c.args.least.value c.args.count c.args.halves.now c.args.taken.now
+    c.begin-front.new.state
     g c.begin-front.ensures.only)))
 
 pub returns-clause-grove : goal.returns-clause-grove
@@ -37,5 +39,6 @@ returns-clause-grove c = λ more g.
     grove_more c.args.ground c.in_ok-least.least.value c.args.count c.join_others.new.halves c.join_others.new.taken
     c.join_others.new.state c.in_ok-least.ensures.stand.state_size (c.is_whole.ensures c.if-not-is_whole.false)
     (c.in_ok-least.ensures.forest c.args.count (c.grow-front.ensures.grown.forest c.args.least.value c.args.count
-    (grove_begun c.args.ground c.args.least.value c.args.count c.args.halves.now c.args.taken.now c.begin-front.new.state
+    (grove_begun c.args.ground c.args.least.value c.args.count c.args.halves.now c.args.taken.now
+    c.begin-front.new.state
     g c.begin-front.ensures.only)))

@@ -11,7 +11,7 @@ ghost use Rattle.flow_net.specs.NodeSets.{one_of};
 ghost use Rattle.flow_net.specs.Flows.{Fits};
 ghost use Rattle.flow_solve.specs.residual.Packs.{IsPacked};
 ghost use Rattle.flow_solve.specs.Task.{HasFlow, IsTask, KeepsFlow};
-ghost use Rattle.flow_solve.specs.levels.Trees.{supplied_by, AreGrowing, IsForest, IsSupplied};
+ghost use Rattle.flow_solve.specs.levels.Trees.{supplied_by, AreGrowing, HasTreeCells, IsSupplied};
 ghost use Rattle.flow_solve.specs.Steps.{PaysLooks, PaysSteps, TakesSteps};
 
 use crate::levels::spending::spend;
@@ -57,7 +57,7 @@ fn measure(
     cells: &[u32],
     node: u32,
 ) -> Chain
-    requires forest { IsForest packed flow.old cells.now }
+    requires forest { HasTreeCells packed flow.old cells.now }
     requires node { IsNode packed.net.now node }
     ensures paid { PaysLooks flow.old trees.old.left flow.new (trees.new.left + 2 * result.len) }
 {
@@ -96,7 +96,7 @@ fn push_along(
     len: u32,
     amount: u64,
 ) -> Option<u32>
-    requires forest { IsForest packed flow.old cells.old }
+    requires forest { HasTreeCells packed flow.old cells.old }
     requires node { IsNode packed.net.now node }
     ensures fits { Fits packed.entry.net.now flow.new.flows }
     ensures root { IfSome result (λ root. IsNode packed.entry.net.now root) }

@@ -3,7 +3,7 @@
 ghost use Rattle.std.specs.Prelude.{◌≡◌, ◌+◌, ◌<◌, ◌≤◌, ◌*◌, IsTrue, length};
 ghost use Rattle.flow_net.specs.Nets.{IsNode};
 ghost use Rattle.flow_net.specs.Flows.{Fits};
-ghost use Rattle.flow_solve.specs.levels.Trees.{IsForest};
+ghost use Rattle.flow_solve.specs.levels.Trees.{HasTreeCells};
 ghost use Rattle.flow_solve.specs.Steps.{OnlyLooks, PaysLooks};
 
 use crate::levels::spending::spend;
@@ -85,7 +85,7 @@ fn offer(
     half: u32,
     nearest: u32,
 ) -> u32
-    requires forest { IsForest packed flow.old cells.old }
+    requires forest { HasTreeCells packed flow.old cells.old }
     requires half { half < 2 * length packed.net.now.arcs }
     ensures looks { OnlyLooks flow.old flow.new 1 }
     ensures left { trees.new.left ≤ trees.old.left }
@@ -122,7 +122,7 @@ fn find_parent(
     cells: &mut [u32],
     node: u32,
 ) -> bool
-    requires forest { IsForest packed flow.old cells.old }
+    requires forest { HasTreeCells packed flow.old cells.old }
     requires node { IsNode packed.net.now node }
     ensures paid { PaysLooks flow.old trees.old.left flow.new trees.new.left }
 {
@@ -187,7 +187,7 @@ fn part(
 
 /// Sets an orphan free that found no parent.
 fn free(packed: Packed<'_>, flow: &mut FlowTable, trees: &mut Trees, cells: &mut [u32], node: u32)
-    requires forest { IsForest packed flow.old cells.old }
+    requires forest { HasTreeCells packed flow.old cells.old }
     requires node { IsNode packed.net.now node }
     ensures paid { PaysLooks flow.old trees.old.left flow.new trees.new.left }
 {
@@ -210,7 +210,7 @@ pub(crate) fn adopt(
     trees: &mut Trees,
     cells: &mut [u32],
 ) -> bool
-    requires forest { IsForest packed flow.old cells.old }
+    requires forest { HasTreeCells packed flow.old cells.old }
     ensures paid { PaysLooks flow.old trees.old.left flow.new trees.new.left }
 {
     let nodes = packed.net.nodes();

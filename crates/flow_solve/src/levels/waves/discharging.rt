@@ -2,7 +2,7 @@
 //! and Tarjan 1988).
 ghost use Rattle.std.specs.Prelude.{◌≡◌, ◌+◌, ◌*◌, ◌<◌, ◌≤◌, length};
 ghost use Rattle.flow_net.specs.Nets.{IsNode};
-ghost use Rattle.flow_solve.specs.levels.Waves.{IsWaving, Sends};
+ghost use Rattle.flow_solve.specs.levels.Waves.{IsWaving, HasSent};
 ghost use Rattle.flow_solve.specs.Steps.{PaysLooks};
 
 use super::excess::{
@@ -68,7 +68,7 @@ fn pass(
 )
     requires waving { IsWaving packed flow.old cells.old }
     requires node { IsNode packed.net.now sender.old.node }
-    ensures sent { Sends packed.entry flow.old wave.old flow.new wave.new }
+    ensures sent { HasSent packed.entry flow.old wave.old flow.new wave.new }
     ensures node { sender.new.node ≡ sender.old.node }
 {
     let begin = packed.first[sender.node as usize - 1];
@@ -144,7 +144,7 @@ pub(super) fn discharge(
 )
     requires waving { IsWaving packed flow.old cells.old }
     requires node { IsNode packed.net.now node }
-    ensures sent { Sends packed.entry flow.old wave.old flow.new wave.new }
+    ensures sent { HasSent packed.entry flow.old wave.old flow.new wave.new }
 {
     let nodes = packed.net.nodes();
     let degree = packed.first[node as usize] - packed.first[node as usize - 1];

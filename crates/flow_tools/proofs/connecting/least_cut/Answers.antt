@@ -1,5 +1,5 @@
--- Two nodes have no sets but those of one node; and where the forests aren't done, their steps and those round the circle
--- are within the bound of both.
+-- Two nodes have no sets but those of one node; and where the forests aren't done, their steps and those round the
+-- circle are within the bound of both.
 use Rattle.std.proofs.Common.{arith}
 use Rattle.flow_tools.proofs.connecting.CircleLemmas.{two_nodes, both_steps}
 use Rattle.flow_tools.proofs.connecting.least_cut.Goals as goal

@@ -33,14 +33,16 @@ returns-in_default-clause-reached c =
     let done = done_in c.args.state.now in
     let X = seen_in state in
     let closed : IsClosedFor dir net c.loop-sent.flow.flows X =
-    subst (λ (z : List ℕ). IsClosedFor dir net z X) c.search_out-search.ensures.looks.flows c.in_ok-sent.ensures.closed in
+    subst (λ (z : List ℕ). IsClosedFor dir net z X) c.search_out-search.ensures.looks.flows
+    c.in_ok-sent.ensures.closed in
     let here : X c.args.node ≡ true = mark_is SEEN state c.args.node n.0 c.if-state-node-ne-SEEN.false in
     let cut : IsCut (just c.args.node) done X =
     record {
       sources = λ v h. ap X (eqb-true v c.args.node h) ∙ here;
       sinks = λ v d. seen_apart state v (c.search_out-search.ensures.done v ∙ j.done v ∙ d);
     } in
-    parted_reached dir net c.args.node c.args.ground.root c.loop-sent.sent.value done X n c.requires.root c.requires.done
+    parted_reached dir net c.args.node c.args.ground.root c.loop-sent.sent.value done X n c.requires.root
+    c.requires.done
     cut
     (raised_parted dir net c.args.node done c.loop-sent.flow.flows c.loop-sent.sent.value X c.requires.packed.limits
     c.requires.unit j.raised cut closed)

@@ -12,7 +12,8 @@ invariant-loop-at l = record {
   fits : Fits l.ground.net.now l.flow.flows;
   at_node : IsNode l.ground.net.now l.at;
   under_way : IsFeasible l.ground.net.now (just l.node) (done_in l.state) l.fn.flow.flows
-      → IsUnderWay l.ground.direction l.ground.net.now (just l.node) (done_in l.state) l.fn.flow.flows l.at l.initial.at l.flow.flows;
+      → IsUnderWay l.ground.direction l.ground.net.now (just l.node) (done_in l.state) l.fn.flow.flows l.at
+      l.initial.at l.flow.flows;
   paid : PaysSteps l.fn.flow l.fn.left l.flow l.left;
 }
 

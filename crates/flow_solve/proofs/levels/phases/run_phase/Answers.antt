@@ -1,6 +1,6 @@
 -- `run_phase`: the places are set to each node's first half-arc, and all sources walked from.
 use Rattle.std.proofs.Common.{ℕ, ◌-◌, ◌*◌, length, take, ◌∙◌, ap, arith}
-use Rattle.flow_solve.specs.levels.Phases.{cell_of, place_of, any}
+use Rattle.flow_solve.specs.levels.Phases.{cell_of, first_at, any}
 use Rattle.flow_solve.proofs.LevelLemmas.Falls.{left_most, to_fill_most}
 use Rattle.flow_solve.proofs.LevelLemmas.Bounds.{phase_paid}
 use Rattle.flow_solve.proofs.LevelLemmas.Distances.{far_few, far_phase}
@@ -44,7 +44,7 @@ returns-clause-steps c =
     let halves = c.args.phase.packed.halves.now in
     let paid = phase_paid (length net.arcs) (3 * (net.nodes - 1)) c.args.flow.now.steps
     c.walk_from_sources.new.flow.steps _ _ _
-    (to_fill_most net (cell_of rank) (place_of halves) (cell_of c.copy_from_slice.new.self) c.args.flow.now.flows)
-    (left_most net (cell_of rank) (place_of halves) (cell_of c.copy_from_slice.new.self) any)
+    (to_fill_most net (cell_of rank) (first_at halves) (cell_of c.copy_from_slice.new.self) c.args.flow.now.flows)
+    (left_most net (cell_of rank) (first_at halves) (cell_of c.copy_from_slice.new.self) any)
     c.walk_from_sources.ensures.steps in
     omega (arith, paid)

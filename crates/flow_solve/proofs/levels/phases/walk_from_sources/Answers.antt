@@ -3,7 +3,7 @@ use Rattle.std.proofs.Common.{ℕ, IsTrue, get_or, below_more, sym, subst, arith
 use Rattle.std.specs.Prelude.{slice_index}
 use Rattle.flow_net.specs.NodeSets.{one_of}
 use Rattle.flow_solve.specs.residual.Searches.{seen}
-use Rattle.flow_solve.specs.levels.Phases.{cell_of, place_of, IsDead}
+use Rattle.flow_solve.specs.levels.Phases.{cell_of, first_at, IsDead}
 use Rattle.flow_net.proofs.NodeLists.{place_in}
 use Rattle.flow_solve.proofs.ResidualLemmas.Searched.{unmarked_unseen}
 use Rattle.flow_solve.proofs.LevelLemmas.Walks.{dead_on}
@@ -25,9 +25,9 @@ loop-source-preserved c =
             phase = now.phase;
             dead =
                 below_more (λ k. IsTrue (seen dist (slice_index s k))
-                → IsDead net (one_of c.args.phase.t.now) (place_of c.args.phase.packed.halves.now)
+                → IsDead net (one_of c.args.phase.t.now) (first_at c.args.phase.packed.halves.now)
                 (cell_of w.walk-raised.new.current) (slice_index s k)) c.loop-source.source-index
-                (λ k l i. dead_on net (one_of c.args.phase.t.now) (place_of c.args.phase.packed.halves.now)
+                (λ k l i. dead_on net (one_of c.args.phase.t.now) (first_at c.args.phase.packed.halves.now)
                 (cell_of c.loop-source.current) (cell_of w.walk-raised.new.current) (slice_index s k) now.risen
                 (old.dead k l i)) (λ i. now.dead);
             gentle = λ level o g. now.gentle level o (old.gentle level o g);
@@ -39,7 +39,7 @@ loop-source-preserved c =
             phase = old.phase;
             dead =
                 below_more (λ k. IsTrue (seen dist (slice_index s k))
-                → IsDead net (one_of c.args.phase.t.now) (place_of c.args.phase.packed.halves.now)
+                → IsDead net (one_of c.args.phase.t.now) (first_at c.args.phase.packed.halves.now)
                 (cell_of c.loop-source.current) (slice_index s k)) c.loop-source.source-index old.dead
                 (λ i. let out = unmarked_unseen dist source node.0 w.if-phase-source-lt-WANTED.false in absurd (cc));
             gentle = old.gentle;
@@ -53,6 +53,6 @@ pub returns-clause-dead : goal.returns-clause-dead
 returns-clause-dead c = λ v i k.
     let p = place_in c.args.phase.s.now v i in
     let Seen : ℕ → Type 0 = λ w. IsTrue (seen c.args.phase.dist.now w) in
-    subst (λ w. IsDead c.args.phase.packed.net.now (one_of c.args.phase.t.now) (place_of c.args.phase.packed.halves.now)
+    subst (λ w. IsDead c.args.phase.packed.net.now (one_of c.args.phase.t.now) (first_at c.args.phase.packed.halves.now)
     (cell_of c.loop-source.current) w) p.2
     (c.loop-source.invariant.dead p.0 (omega (arith, p.1, c.loop-source-test.false)) (subst Seen (sym p.2) k))

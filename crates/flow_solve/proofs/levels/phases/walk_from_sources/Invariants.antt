@@ -4,7 +4,7 @@ use Rattle.std.proofs.Common.{ℕ, ◌+◌, ◌<◌, ◌≤◌, IsTrue}
 use Rattle.std.specs.Prelude.{slice_index}
 use Rattle.flow_net.specs.NodeSets.{one_of}
 use Rattle.flow_solve.specs.residual.Searches.{seen}
-use Rattle.flow_solve.specs.levels.Phases.{cell_of, place_of, owed, IsInPhase, IsDead, IsOrdered, IsGentle}
+use Rattle.flow_solve.specs.levels.Phases.{cell_of, first_at, owed, IsInPhase, IsDead, IsOrdered, IsGentle}
 use Rattle.flow_solve.proofs.levels.phases.walk_from_sources.Given as goal
 
 abbrev pub invariant-loop-source : goal.invariant-loop-source
@@ -12,7 +12,7 @@ invariant-loop-source l = record {
   phase : IsInPhase l.phase.packed.net.now l.phase.s.now l.phase.t.now l.phase.packed.first.now
       l.phase.packed.halves.now l.phase.rank.now l.current l.flow.flows l.raised;
   dead : (k : ℕ) → k < l.source-index → IsTrue (seen l.phase.dist.now (slice_index l.phase.s.now k))
-      → IsDead l.phase.packed.net.now (one_of l.phase.t.now) (place_of l.phase.packed.halves.now) (cell_of l.current)
+      → IsDead l.phase.packed.net.now (one_of l.phase.t.now) (first_at l.phase.packed.halves.now) (cell_of l.current)
       (slice_index l.phase.s.now k);
   gentle : (level : ℕ → ℕ) → IsOrdered l.phase.packed.net.now level (cell_of l.phase.rank.now)
       → IsGentle l.phase.packed.net.now l.fn.flow.flows level → IsGentle l.phase.packed.net.now l.flow.flows level;

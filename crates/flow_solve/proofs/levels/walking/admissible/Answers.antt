@@ -1,7 +1,7 @@
 -- `admissible`: the node's half-arcs from its place on; each that is passed is filled, or leads to no lower rank.
 use Rattle.std.proofs.Common.{◌≡◌, ℕ, List, ◌+◌, ◌-◌, get_or, set, length, length-set, refl, ◌∙◌, sym, ap, subst, arith}
 use Rattle.flow_net.specs.Residual.{residual}
-use Rattle.flow_solve.specs.levels.Phases.{cell_of, place_of, HasMoved, AreWithin, IsBlocked, IsAdmissible, left, any}
+use Rattle.flow_solve.specs.levels.Phases.{cell_of, first_at, HasMoved, AreWithin, IsBlocked, IsAdmissible, left, any}
 use Rattle.flow_solve.proofs.LevelLemmas.Places.{IsMine, cell_set}
 use Rattle.flow_solve.proofs.LevelLemmas.Walks.{IsLooking, looking_start, looking_skip, looking_fail, looking_found}
 use Rattle.flow_solve.proofs.LevelLemmas.Walks.{mine_at}
@@ -58,7 +58,8 @@ returns-then-room-gt0-clause-looked c = record {
   blocked = λ t b.
       let old = c.loop-place.invariant in
       subst
-      (λ (z : List ℕ). IsBlocked c.args.phase.packed.net.now t (cell_of c.args.phase.rank.now) (place_of c.args.phase.packed.halves.now)
+      (λ (z : List ℕ). IsBlocked c.args.phase.packed.net.now t (cell_of c.args.phase.rank.now)
+      (first_at c.args.phase.packed.halves.now)
       (cell_of (set z (c.args.node - 1) c.loop-place.place)) c.args.flow.now.flows) (sym old.current)
       (old.looking.blocked t b);
 }
@@ -69,12 +70,13 @@ returns-then-room-gt0-clause-some c =
     let net = c.args.phase.packed.net.now in
     let half = get_or c.args.phase.packed.halves.now c.loop-place.place 0 in
     let g : IsMine net c.args.phase.packed.halves.now c.args.node c.loop-place.place half =
-    mine_at c.requires.run.packed.limits c.requires.run.packed c.requires.node c.requires.current l c.loop-place-test.true in
+    mine_at c.requires.run.packed.limits c.requires.run.packed c.requires.node c.requires.current l
+    c.loop-place-test.true in
     let falls = rank_falls net c.args.phase.rank.now c.args.node c.head.result half c.head.ensures.head g.tail
     c.requires.node.0 c.head.ensures.node.0 c.if-rank-head.true in
     let same : residual net c.loop-place.flow.flows half ≡ residual net c.args.flow.now.flows half =
     ap (λ (ys : List ℕ). residual net ys half) old.flows in
-    subst (λ (z : List ℕ). IsAdmissible net (cell_of c.args.phase.rank.now) (place_of c.args.phase.packed.halves.now)
+    subst (λ (z : List ℕ). IsAdmissible net (cell_of c.args.phase.rank.now) (first_at c.args.phase.packed.halves.now)
     (cell_of (set z (c.args.node - 1) c.loop-place.place)) c.args.flow.now.flows c.args.node half) (sym old.current)
     (looking_found c.requires.run.packed.limits c.requires.run.packed c.requires.node c.requires.current l
     c.loop-place-test.true falls (omega (arith, same, c.look-room.ensures.residual, c.if-room-gt0.true)))
@@ -82,11 +84,11 @@ returns-then-room-gt0-clause-some c =
 pub returns-then-room-gt0-clause-steps_some : goal.returns-then-room-gt0-clause-steps_some
 returns-then-room-gt0-clause-steps_some c =
     let old = c.loop-place.invariant in let net = c.args.phase.packed.net.now in
-    let same : left net (cell_of c.args.phase.rank.now) (place_of c.args.phase.packed.halves.now)
+    let same : left net (cell_of c.args.phase.rank.now) (first_at c.args.phase.packed.halves.now)
     (cell_of (set c.loop-place.current (c.args.node - 1) c.loop-place.place)) any
-    ≡ left net (cell_of c.args.phase.rank.now) (place_of c.args.phase.packed.halves.now)
+    ≡ left net (cell_of c.args.phase.rank.now) (first_at c.args.phase.packed.halves.now)
     (cell_of (set c.args.current.now (c.args.node - 1) c.loop-place.place)) any =
-    ap (λ (z : List ℕ). left net (cell_of c.args.phase.rank.now) (place_of c.args.phase.packed.halves.now)
+    ap (λ (z : List ℕ). left net (cell_of c.args.phase.rank.now) (first_at c.args.phase.packed.halves.now)
     (cell_of (set z (c.args.node - 1) c.loop-place.place)) any) old.current in
     omega (arith, old.looking.paid, c.look-room.ensures.steps, same)
 
@@ -97,21 +99,24 @@ loop-place-preserved c =
     let net = c.args.phase.packed.net.now in
     let half = get_or c.args.phase.packed.halves.now c.loop-place.place 0 in
     let g : IsMine net c.args.phase.packed.halves.now c.args.node c.loop-place.place half =
-    mine_at c.requires.run.packed.limits c.requires.run.packed c.requires.node c.requires.current l c.loop-place-test.true in
+    mine_at c.requires.run.packed.limits c.requires.run.packed c.requires.node c.requires.current l
+    c.loop-place-test.true in
     elim c.if-rank-head.branch [
       | then-rank-head+else-room-gt0 w ↦
           let falls = rank_falls net c.args.phase.rank.now c.args.node c.head.result half c.head.ensures.head g.tail
           c.requires.node.0 c.head.ensures.node.0 w.if-rank-head.true in
           let same : residual net c.loop-place.flow.flows half ≡ residual net c.args.flow.now.flows half =
           ap (λ (ys : List ℕ). residual net ys half) old.flows in
-          let more = looking_fail c.requires.run.packed.limits c.requires.run.packed c.requires.node c.requires.current l
+          let more = looking_fail c.requires.run.packed.limits c.requires.run.packed c.requires.node
+          c.requires.current l
           c.loop-place-test.true falls (omega (arith, same, w.look-room.ensures.residual, w.if-room-gt0.false)) in
           rw w.flow-is (record {
             fits = w.look-room.ensures.still_fits;
             flows = w.look-room.ensures.flows ∙ old.flows;
             current = old.current;
             looking =
-                subst (λ (k : ℕ). IsLooking net c.args.phase.packed.first.now c.args.phase.packed.halves.now c.args.phase.rank.now
+                subst (λ (k : ℕ). IsLooking net c.args.phase.packed.first.now c.args.phase.packed.halves.now
+                c.args.phase.rank.now
                 c.args.current.now c.args.flow.now.flows c.args.node (c.loop-place.place + 1) c.args.flow.now.steps k)
                 (sym w.look-room.ensures.steps) more;
             never_lowered = omega (arith, old.never_lowered, w.look-room.ensures.steps);
@@ -144,7 +149,8 @@ returns-clause-looked c = record {
       let old = c.loop-place.invariant in let l = old.looking in
       let end : c.loop-place.place ≡ get_or c.args.phase.packed.first.now c.args.node 0 =
       omega (arith, l.most, c.loop-place-test.false) in
-      let m = set_moved c.args.current.now c.args.node (get_or c.args.phase.packed.first.now c.args.node 0) c.requires.node.0
+      let m = set_moved c.args.current.now c.args.node (get_or c.args.phase.packed.first.now c.args.node 0)
+      c.requires.node.0
       (omega (arith, c.requires.node, c.requires.current.size)) (omega (arith, l.least, end)) in
       subst (λ (z : List ℕ). AreWithin c.args.phase.packed.net.now c.args.phase.packed.first.now
       (cell_of (set z (c.args.node - 1) (get_or c.args.phase.packed.first.now c.args.node 0)))) (sym old.current)
@@ -169,10 +175,11 @@ returns-clause-looked c = record {
       let end : c.loop-place.place ≡ get_or c.args.phase.packed.first.now c.args.node 0 =
       omega (arith, l.most, c.loop-place-test.false) in
       subst
-      (λ (z : List ℕ). IsBlocked c.args.phase.packed.net.now t (cell_of c.args.phase.rank.now) (place_of c.args.phase.packed.halves.now)
+      (λ (z : List ℕ). IsBlocked c.args.phase.packed.net.now t (cell_of c.args.phase.rank.now)
+      (first_at c.args.phase.packed.halves.now)
       (cell_of (set z (c.args.node - 1) (get_or c.args.phase.packed.first.now c.args.node 0))) c.args.flow.now.flows)
       (sym old.current) (subst (λ (p : ℕ). IsBlocked c.args.phase.packed.net.now t (cell_of c.args.phase.rank.now)
-      (place_of c.args.phase.packed.halves.now) (cell_of (set c.args.current.now (c.args.node - 1) p))
+      (first_at c.args.phase.packed.halves.now) (cell_of (set c.args.current.now (c.args.node - 1) p))
       c.args.flow.now.flows) end (l.blocked t b));
 }
 
@@ -193,16 +200,16 @@ returns-clause-steps_none c =
     let old = c.loop-place.invariant in let l = old.looking in let net = c.args.phase.packed.net.now in
     let end : c.loop-place.place ≡ get_or c.args.phase.packed.first.now c.args.node 0 =
     omega (arith, l.most, c.loop-place-test.false) in
-    let same : left net (cell_of c.args.phase.rank.now) (place_of c.args.phase.packed.halves.now)
+    let same : left net (cell_of c.args.phase.rank.now) (first_at c.args.phase.packed.halves.now)
     (cell_of (set c.loop-place.current (c.args.node - 1) (get_or c.args.phase.packed.first.now c.args.node 0))) any
-    ≡ left net (cell_of c.args.phase.rank.now) (place_of c.args.phase.packed.halves.now)
+    ≡ left net (cell_of c.args.phase.rank.now) (first_at c.args.phase.packed.halves.now)
     (cell_of (set c.args.current.now (c.args.node - 1) (get_or c.args.phase.packed.first.now c.args.node 0))) any =
-    ap (λ (z : List ℕ). left net (cell_of c.args.phase.rank.now) (place_of c.args.phase.packed.halves.now)
+    ap (λ (z : List ℕ). left net (cell_of c.args.phase.rank.now) (first_at c.args.phase.packed.halves.now)
     (cell_of (set z (c.args.node - 1) (get_or c.args.phase.packed.first.now c.args.node 0))) any) old.current in
-    let at : left net (cell_of c.args.phase.rank.now) (place_of c.args.phase.packed.halves.now)
+    let at : left net (cell_of c.args.phase.rank.now) (first_at c.args.phase.packed.halves.now)
     (cell_of (set c.args.current.now (c.args.node - 1) c.loop-place.place)) any
-    ≡ left net (cell_of c.args.phase.rank.now) (place_of c.args.phase.packed.halves.now)
+    ≡ left net (cell_of c.args.phase.rank.now) (first_at c.args.phase.packed.halves.now)
     (cell_of (set c.args.current.now (c.args.node - 1) (get_or c.args.phase.packed.first.now c.args.node 0))) any =
-    ap (λ (p : ℕ). left net (cell_of c.args.phase.rank.now) (place_of c.args.phase.packed.halves.now)
+    ap (λ (p : ℕ). left net (cell_of c.args.phase.rank.now) (first_at c.args.phase.packed.halves.now)
     (cell_of (set c.args.current.now (c.args.node - 1) p)) any) end in
     omega (arith, l.paid, same, at)

@@ -9,7 +9,8 @@ invariant-loop-place l = record {
   fits : Fits l.phase.packed.net.now l.flow.flows;
   flows : l.flow.flows ≡ l.fn.flow.flows;
   current : l.current ≡ l.fn.current;
-  looking : IsLooking l.phase.packed.net.now l.phase.packed.first.now l.phase.packed.halves.now l.phase.rank.now l.fn.current l.fn.flow.flows l.node
+  looking : IsLooking l.phase.packed.net.now l.phase.packed.first.now l.phase.packed.halves.now l.phase.rank.now
+      l.fn.current l.fn.flow.flows l.node
       l.place l.fn.flow.steps l.flow.steps;
   never_lowered : l.fn.flow.steps ≤ l.flow.steps;
 }

@@ -6,7 +6,7 @@ use Rattle.std.proofs.lemmas.List.{get_or-take, length-take-le}
 use Rattle.flow_net.specs.NodeSets.{one_of}
 use Rattle.flow_net.specs.Residual.{tail_of}
 use Rattle.flow_net.proofs.NodeLists.{terminals_apart}
-use Rattle.flow_solve.specs.levels.Phases.{cell_of, place_of, owed, IsInPhase, IsDead, IsGentle}
+use Rattle.flow_solve.specs.levels.Phases.{cell_of, first_at, owed, IsInPhase, IsDead, IsGentle}
 use Rattle.flow_solve.proofs.LevelLemmas.Places.{cell_at}
 use Rattle.flow_solve.proofs.Raises.{value_most, capacities_fit}
 use Rattle.flow_solve.proofs.LevelLemmas.Walks.{moved_up, on_up, set_next}
@@ -123,7 +123,7 @@ returns-then-depth-eq0-clause-dead c =
     let inner = no_sink_here net c.args.phase.t.now c.args.phase.dist.now c.turns.node c.requires.run.sinks w.node
     c.if-phase-node-eq0.false in
     let same = at_source w c.if-depth-eq0.true in
-    subst (λ (v : ℕ). IsDead net (one_of c.args.phase.t.now) (place_of c.args.phase.packed.halves.now)
+    subst (λ (v : ℕ). IsDead net (one_of c.args.phase.t.now) (first_at c.args.phase.packed.halves.now)
     (cell_of c.admissible.new.current) v) (sym same)
     (dead_here net c.args.phase.t.now c.args.phase.packed.first.now c.args.phase.packed.halves.now
     c.admissible.new.current c.turns.node c.requires.run.packed.limits c.requires.run.packed inner

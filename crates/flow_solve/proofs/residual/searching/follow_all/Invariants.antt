@@ -5,7 +5,7 @@ use Rattle.std.specs.Prelude.{slice_index}
 use Rattle.flow_net.specs.Flows.{Fits}
 use Rattle.flow_net.specs.Residual.{head_of, residual}
 use Rattle.flow_solve.specs.residual.HalfArcs.{crossed, IsClosedFor}
-use Rattle.flow_solve.specs.residual.Searches.{IsMarked, ContainsMarked, IsNear, IsSearch, HasGrown}
+use Rattle.flow_solve.specs.residual.Searches.{IsMarked, ContainsMarked, IsNear, IsSearch, GoesOn}
 use Rattle.flow_solve.specs.residual.Searches.{IsCome}
 use Rattle.flow_solve.proofs.residual.searching.follow_all.Given as goal
 
@@ -19,7 +19,7 @@ invariant-loop-spot l = record {
   level : l.level ≡ slice_index l.fn.dist l.place + 1;
   near : IsNear l.dist l.level;
   search : IsSearch l.dist l.via l.queue l.progress;
-  grown : HasGrown l.fn.dist l.fn.via l.fn.queue l.fn.progress l.dist l.via l.queue l.progress;
+  grown : GoesOn l.fn.dist l.fn.via l.fn.queue l.fn.progress l.dist l.via l.queue l.progress;
   followed : l.progress.followed ≡ l.fn.progress.followed;
   done : (p : ℕ) → p < l.spot → slice_index l.plan.packed.first.now l.place ≤ p
       → 1

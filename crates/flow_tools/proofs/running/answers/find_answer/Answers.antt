@@ -11,7 +11,8 @@ returns-in-Cut g c =
 
 pub returns-in-Connect : goal.returns-in-Connect
 returns-in-Connect g c =
-    rw c.in-Connect.is (c.found_alone-in-Connect.ensures _ _ _ (λ check. let is = check.1 in cc) c.connect_problem.ensures)
+    rw c.in-Connect.is (c.found_alone-in-Connect.ensures _ _ _ (λ check. let is = check.1 in cc)
+    c.connect_problem.ensures)
 
 pub returns-in-Check : goal.returns-in-Check
 returns-in-Check g c = rw c.in-Check.is c.judge_solution.ensures

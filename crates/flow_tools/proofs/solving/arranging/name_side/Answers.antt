@@ -31,7 +31,8 @@ returns-in-Some c = λ p other sink value r q a m.
     let lists = c.in-Some.lists in
     let first : IsArrangedBy before.0 before.1 lists = subst (IsArrangedIf before.0 before.1) c.in-Some.is before.2 in
     let by : IsArrangedBy p other lists = subst (IsArrangedIf p other) c.in-Some.is a in
-    let size : length c.args.side.now ≡ p.net.nodes = before.3 ∙ sym first.inverse.names_count ∙ by.inverse.names_count in
+    let size : length c.args.side.now ≡ p.net.nodes = before.3 ∙ sym first.inverse.names_count ∙
+    by.inverse.names_count in
     cut_restored p other lists r q by sink value c.args.side.now c.mark_nodes.new.side m
     (λ v k.
     let most = k.1 in

@@ -39,7 +39,8 @@ pub new-requires : goal.new-requires
 new-requires c =
     let before = c.requires.before in
     let is = c.into_parts-net.ensures in
-    subst (λ (q : Instance). AreTerminals q.net q.sources q.sinks) (sym (same_again before.0 c.args.network _ c.args.lists
+    subst (λ (q : Instance). AreTerminals q.net q.sources q.sinks) (sym
+    (same_again before.0 c.args.network _ c.args.lists
     _ _ _ _ _ _ _ _ before.1 before.2 before.3 is.net is.sources is.sinks c.as_slice-nodes.ensures.value
     c.as_mut_slice.ensures.value c.restore.ensures.net c.rename_all.ensures c.rename_all-2.ensures refl)) before.2
 

@@ -7,7 +7,8 @@ offer-distance-requires-clause-half c =
     let first = c.args.packed.first.now in
     let next : get_or first (c.args.node - 1 + 1) 0 ≡ get_or first c.args.node 0 =
     ap (λ v. get_or first v 0) (omega (arith, c.requires.node)) in
-    let own = c.requires.forest.packed.holds (c.args.node - 1) c.loop-spot.spot (omega (arith, c.requires.node)) (omega arith)
+    let own = c.requires.forest.packed.holds (c.args.node - 1) c.loop-spot.spot (omega (arith, c.requires.node))
+    (omega arith)
     (omega (arith, next, c.loop-spot-test.true)) in
     own.0
 
@@ -16,6 +17,7 @@ head-above-requires c =
     let first = c.args.packed.first.now in
     let next : get_or first (c.args.node - 1 + 1) 0 ≡ get_or first c.args.node 0 =
     ap (λ v. get_or first v 0) (omega (arith, c.requires.node)) in
-    let own = c.requires.forest.packed.holds (c.args.node - 1) c.loop-spot.spot (omega (arith, c.requires.node)) (omega arith)
+    let own = c.requires.forest.packed.holds (c.args.node - 1) c.loop-spot.spot (omega (arith, c.requires.node))
+    (omega arith)
     (omega (arith, next, c.loop-spot-test.true)) in
     own.0

@@ -1,22 +1,78 @@
 #!/usr/bin/env python3
-"""`flow connect` on small multigraphs, held against all sets of nodes, and on composed networks of a known number.
+"""The edge connectivity of many networks, held against all sets of nodes and against flows to each node.
 
-    python3 scripts/multigraphs.py FLOW [NETWORKS [SEED]]
+    python3 scripts/multigraphs.py FLOW LIBRARY [SMALL [COMPOSED [SEED]]]
 
-So many NETWORKS are tried (2,000), directed and `--undirected`: links both ways, single arcs, parallel and opposite
-ones, self-loops, even degrees, bridges and pieces. A hundredth as many are composed: dense parts that few links join.
-The last line is 'multigraphs: N passed, M failed'.
+FLOW is the built program and LIBRARY the shared library for C. So many SMALL networks (100,000) have at most seven
+nodes and are held against all sets of nodes: links both ways, single arcs, parallel and opposite ones, self-loops,
+even degrees, bridges and pieces. So many COMPOSED ones (1,000) have some hundred nodes: rings, complete parts,
+circulants, permutations, lattices, trees and hubs that few links join, parts of parts. They are held against the
+greatest flows from one node to each other and back. Each network is asked directed and undirected, by the library, and
+each hundredth also by the program. The last line is 'multigraphs: N passed, M failed'.
 """
+import ctypes
+import os
 import random
 import subprocess
 import sys
-from concurrent.futures import ThreadPoolExecutor
+from concurrent.futures import ProcessPoolExecutor
+
+BATCH = 50
 
 
-def connectivity(nodes, arcs):
-    """The least number of arcs that leave a set which is neither empty nor all, by all sets; nodes count from 0."""
-    arcs = [(1 << tail, 1 << head) for tail, head in arcs if tail != head]
-    return min(sum(1 for tail, head in arcs if side & tail and not side & head) for side in range(1, (1 << nodes) - 1))
+def by_sets(nodes, arcs):
+    """The least number of arcs that leave a set which is neither empty nor all; nodes count from 0."""
+    count = [[0] * nodes for _ in range(nodes)]
+    for tail, head in arcs:
+        if tail != head:
+            count[tail][head] += 1
+    leaving, least = [0] * (1 << nodes), len(arcs)
+    for side in range(1, (1 << nodes) - 1):
+        last = side.bit_length() - 1  # the set is that of its other nodes, and the last
+        number = leaving[side & ~(1 << last)]
+        for node in range(nodes):
+            if side >> node & 1:
+                number -= count[node][last]
+            else:
+                number += count[last][node]
+        leaving[side] = number
+        least = min(least, number)
+    return least
+
+
+class Library:
+    """The calls of the library for C that are tried."""
+
+    def __init__(self, path):
+        self.library = ctypes.CDLL(path)
+
+    @staticmethod
+    def words(numbers):
+        return (ctypes.c_uint32 * len(numbers))(*numbers), ctypes.c_size_t(len(numbers))
+
+    def links(self, nodes, arcs, undirected):
+        links = ctypes.c_uint64()
+        status = self.library.provedflow_links_lists(
+            ctypes.c_uint32(nodes), *self.words([tail for tail, _ in arcs]), *self.words([head for _, head in arcs]),
+            *self.words([0]), *self.words([1]), ctypes.c_uint32(undirected), ctypes.c_uint32(0), ctypes.byref(links))
+        return links.value if status == 0 else f"status {status}"
+
+    def by_flows(self, nodes, arcs):
+        """The least of the greatest values from the first node to each other and back, one unit for an arc."""
+        tails, heads = self.words([tail for tail, _ in arcs]), self.words([head for _, head in arcs])
+        units = (ctypes.c_uint64 * len(arcs))(*([1] * len(arcs)))
+        carried = (ctypes.c_uint64 * len(arcs))()
+        high, low = ctypes.c_uint64(), ctypes.c_uint64()
+        least = len(arcs)
+        for node in range(1, nodes):
+            for source, sink in ((0, node), (node, 0)):
+                status = self.library.provedflow_flow_lists(
+                    ctypes.c_uint32(nodes), *tails, *heads, units, tails[1], *self.words([source]),
+                    *self.words([sink]), carried, tails[1], ctypes.byref(high), ctypes.byref(low))
+                if status != 0:
+                    return f"status {status}"
+                least = min(least, low.value)
+        return least
 
 
 def closed_walk(rand, nodes):
@@ -49,41 +105,107 @@ def small(rand):
     return nodes, arcs
 
 
+def ring(rand, size, links):
+    return [(i, (i + 1) % size) for i in range(size) for _ in range((links + 1) // 2)]
+
+
+def complete(rand, size, links):
+    return [(i, j) for i in range(min(size, 24)) for j in range(i)] + [(i, i - 1) for i in range(24, size)
+                                                                       for _ in range(links)]
+
+
+def circulant(rand, size, links):
+    return [(i, (i + step) % size) for i in range(size) for step in range(1, links // 2 + 2)]
+
+
+def permutations(rand, size, links):
+    arcs = []
+    for _ in range((links + 1) // 2):
+        arcs += zip(range(size), rand.sample(range(size), size))
+    return arcs + ring(rand, size, 1)
+
+
+def lattice(rand, size, links):
+    width = max(2, int(size ** .5))
+    return [(i, (i + step) % size) for i in range(size) for step in ((1, width) if links < 5 else (1, width, width + 1))]
+
+
+def tree(rand, size, links):
+    return [(i, max(0, i - rand.randint(1, 8))) for i in range(1, size) for _ in range(links)]
+
+
+def hubs(rand, size, links):
+    most = max(1, size // 10)
+    return [(i, (i + rand.randrange(most)) % most) for i in range(most, size) for _ in range(links)] + ring(
+        rand, most, links)
+
+
+PARTS = (ring, complete, circulant, permutations, lattice, tree, hubs)
+
+
+def composed_links(rand, first, size, links, depth):
+    """The links of a network of the nodes from `first` on: of one shape, or of parts that few links join."""
+    if size <= 6 or depth == 0 or rand.random() < .1:
+        return [(first + i, first + j) for i, j in rand.choice(PARTS)(rand, size, links) if i != j or links > 4]
+    parts = min(rand.randint(2, rand.choice((8, 30))), size // 2)
+    starts = [first + size * part // parts for part in range(parts)] + [first + size]
+    found = []
+    for start, end in zip(starts, starts[1:]):
+        found += composed_links(rand, start, end - start, links, depth - 1)
+    shape = rand.choice((ring, circulant, lattice, tree))(rand, parts, links)
+    return found + [(rand.randrange(starts[i], starts[i + 1]), rand.randrange(starts[j], starts[j + 1]))
+                    for i, j in shape]
+
+
 def composed(rand):
-    """Parts in each of which all nodes are joined, one after the other by few links: these tell the connectivity."""
-    size, parts = rand.randint(8, 20), rand.randint(2, 12)
-    between = [rand.randint(0, 4) for _ in range(parts - 1)]
-    arcs = [(part * size + i, part * size + j) for part in range(parts) for i in range(size) for j in range(i)]
-    for part, count in enumerate(between):
-        arcs += [(part * size + rand.randrange(size), (part + 1) * size + rand.randrange(size)) for _ in range(count)]
-    names = rand.sample(range(parts * size), parts * size)
-    rand.shuffle(arcs)
-    return parts * size, [(names[tail], names[head]) for tail, head in arcs], min(between)
+    """Nodes and arcs: most links both ways, or all one way at random, or all both ways; mostly in no order."""
+    nodes, links = rand.randint(40, 200), rand.randint(1, 7)
+    names = rand.sample(range(nodes), nodes) if rand.random() < .6 else range(nodes)
+    one_way = rand.choice((0, 0, .05, 1))
+    arcs = []
+    for tail, head in composed_links(rand, 0, nodes, links, rand.randint(1, 4)):
+        ends = (names[tail], names[head])[::rand.choice((1, -1))]
+        arcs += [ends] if rand.random() < one_way else [ends, ends[::-1]]
+    return nodes, arcs
 
 
-def told(nodes, arcs, *flags):
+def by_program(nodes, arcs, *flags):
     text = f"p max {nodes} {len(arcs)}\nn 1 s\nn 2 t\n" + "".join(f"a {u + 1} {v + 1} 1\n" for u, v in arcs)
-    return subprocess.run([sys.argv[1], "connect", *flags], input=text, capture_output=True, text=True).stdout
+    line = subprocess.run([sys.argv[1], "connect", *flags], input=text, capture_output=True, text=True).stdout
+    return int(line[2:]) if line.startswith("k ") else line
 
 
-def try_one(seed):
-    """The answers that are wrong for the networks of a seed, and how many there were."""
-    rand = random.Random(seed)
-    nodes, arcs = small(rand)
-    both = arcs + [(head, tail) for tail, head in arcs]
-    found = [(told(nodes, arcs), connectivity(nodes, arcs)),
-             (told(nodes, arcs, "--undirected"), connectivity(nodes, both))]
-    if seed % 100 == 0:
-        nodes, arcs, wanted = composed(rand)
-        found.append((told(nodes, arcs, "--undirected"), wanted))
-    return [(seed, nodes, arcs, line, wanted) for line, wanted in found if line != f"k {wanted}\n"], len(found)
+def try_batch(batch):
+    """The answers that are wrong for some networks of one kind, and how many were tried."""
+    kind, seeds = batch
+    library = Library(os.path.abspath(sys.argv[2]))
+    wrong, tried = [], 0
+    for seed in seeds:
+        rand = random.Random(f"{kind} {seed}")
+        nodes, arcs = small(rand) if kind == "small" else composed(rand)
+        both = arcs + [(head, tail) for tail, head in arcs]
+        known = by_sets if kind == "small" else library.by_flows
+        wanted = known(nodes, arcs), known(nodes, both)
+        found = [(library.links(nodes, arcs, 0), wanted[0]), (library.links(nodes, arcs, 1), wanted[1])]
+        if seed % 100 == 0:
+            found += [(by_program(nodes, arcs), wanted[0]), (by_program(nodes, arcs, "--undirected"), wanted[1])]
+        wrong += [(kind, seed, nodes, arcs, told, true) for told, true in found if told != true]
+        tried += len(found)
+    return wrong, tried
+
+
+def main():
+    given = [int(word) for word in sys.argv[3:]]
+    smalls, composeds, first = given + [100_000, 1_000, 1736][len(given):]
+    batches = [(kind, range(at, min(at + BATCH, first + count))) for kind, count in
+               (("composed", composeds), ("small", smalls)) for at in range(first, first + count, BATCH)]
+    with ProcessPoolExecutor(len(os.sched_getaffinity(0))) as pool:
+        done = list(pool.map(try_batch, batches))
+    failed = [each for wrong, _ in done for each in wrong]
+    print(*(f"failed: {each}\n" for each in failed[:20]), sep="", end="")
+    print(f"multigraphs: {sum(tried for _, tried in done) - len(failed)} passed, {len(failed)} failed")
+    sys.exit(1 if failed else 0)
 
 
 if __name__ == "__main__":
-    networks, first = (int(word) for word in (sys.argv[2:] + ["2000", "1736"][len(sys.argv) - 2:]))
-    with ThreadPoolExecutor() as pool:
-        done = list(pool.map(try_one, range(first, first + networks)))
-    failed = [wrong for each, _ in done for wrong in each]
-    print(*(f"failed: {wrong}\n" for wrong in failed), sep="", end="")
-    print(f"multigraphs: {sum(count for _, count in done) - len(failed)} passed, {len(failed)} failed")
-    sys.exit(1 if failed else 0)
+    main()

@@ -8,6 +8,7 @@ mod forests;
 mod jobs;
 mod nets;
 mod runs;
+mod shapes;
 mod solving;
 mod streams;
 mod texts;

@@ -56,7 +56,7 @@ fn answer(alloc: Global, net: &Network) -> Option<(u64, u64)>
 
 /// Adds an arc, and answers whether the network can have it and there is memory.
 #[must_use]
-fn add(net: &mut Network, src: u32, dst: u32) -> bool {
+pub(super) fn add(net: &mut Network, src: u32, dst: u32) -> bool {
     let nodes = net.nodes();
     if net.len() < MOST_ARCS && 1 <= src && src <= nodes && 1 <= dst && dst <= nodes {
         net.push(Arc { src, dst, cap: 1 }).is_ok()
@@ -106,7 +106,7 @@ fn has(alloc: Global, mut net: Network, both: bool, connectivity: u64) -> bool {
 
 /// Adds an arc from each node to each other of some consecutive ones, and answers whether all were added.
 #[must_use]
-fn join_all(net: &mut Network, first: u32, last: u32) -> bool {
+pub(super) fn join_all(net: &mut Network, first: u32, last: u32) -> bool {
     for src in first..last {
         for dst in first..last {
             if src != dst && !add(net, src, dst) {

@@ -70,7 +70,7 @@ fn answers(alloc: Global, net: &Network) -> Option<(u64, u64, u64)>
 }
 
 /// The connectivity by forests alone; nothing if it takes more steps than it may, or memory is refused.
-fn grown_within(alloc: Global, net: &Network, budget: u64) -> Option<u64>
+pub(super) fn grown_within(alloc: Global, net: &Network, budget: u64) -> Option<u64>
     requires { All (λ a. a.cap ≡ 1) net.now.arcs }
 {
     let Ok(mut flow) = FlowTable::new(alloc, net) else {

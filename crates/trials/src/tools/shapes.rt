@@ -1,0 +1,175 @@
+//! The connectivity by forests of networks whose shape tells it, within the steps that a run gives it. Where as many
+//! arcs leave each node in the same way, as round a ring or in a cube, it is how many leave a node.
+ghost use Rattle.std.specs.Prelude.{◌≤◌};
+
+use super::connecting::{add, join_all};
+use super::forests::grown_within;
+use flow_net::{FEWEST_NODES, MOST_ARCS, MOST_NODES, Network};
+use flow_solve::{Levels, Method};
+use std::alloc::Global;
+
+/// Nodes round a ring, the steps on from each to the nodes that it has an arc to, and how many arcs are cut at least.
+struct Round {
+    nodes: u32,
+    steps: &'static [u32],
+    connectivity: u64,
+}
+
+/// The connectivity by forests, with `both` that of the network both ways; nothing where the steps that a run gives it
+/// don't suffice, or memory is refused.
+#[tactic(auto, using(crate::proofs::Units::unit_capacities))]
+fn grown(alloc: Global, mut net: Network, both: bool) -> Option<u64> {
+    if both && (net.len() > MOST_ARCS || net.both_ways().is_err()) {
+        return None;
+    }
+    let net = net.unit();
+    grown_within(alloc, &net, Levels::spare_steps(&net))
+}
+
+/// Adds an arc from one node to each that is so many steps on, and answers whether all were added.
+#[must_use]
+fn add_steps(net: &mut Network, node: u32, steps: &[u32]) -> bool {
+    for step in steps {
+        let ahead = u64::from(node) + u64::from(*step);
+        let nodes = u64::from(net.nodes());
+        let there = if ahead > nodes { ahead - nodes } else { ahead };
+        if there > nodes || !add(net, node, there as u32) {
+            return false;
+        }
+    }
+    true
+}
+
+/// Nodes round a ring, each with an arc to those so many steps on; nothing if memory is refused.
+fn ring_with(alloc: Global, nodes: u32, steps: &[u32]) -> Option<Network>
+    requires least { FEWEST_NODES ≤ nodes }
+    requires most { nodes ≤ MOST_NODES }
+{
+    let mut net = Network::new(alloc, nodes);
+    for i in 0..nodes {
+        if !add_steps(&mut net, 1 + i, steps) {
+            return None;
+        }
+    }
+    Some(net)
+}
+
+/// Whether forests tell the connectivity of nodes round a ring, with `both` that of the network both ways.
+fn is_told(alloc: Global, round: &Round, both: bool) -> bool {
+    if round.nodes < FEWEST_NODES || round.nodes > MOST_NODES {
+        return false;
+    }
+    match ring_with(alloc, round.nodes, round.steps) {
+        Some(net) => grown(alloc, net, both) == Some(round.connectivity),
+        None => false,
+    }
+}
+
+/// Arcs both ways: a ring, a lattice that closes, near links, and all nodes joined.
+const LINKS: &[Round] = &[
+    Round {
+        nodes: 300,
+        steps: &[1],
+        connectivity: 2,
+    },
+    Round {
+        nodes: 289,
+        steps: &[1, 17],
+        connectivity: 4,
+    },
+    Round {
+        nodes: 343,
+        steps: &[1, 7, 49],
+        connectivity: 6,
+    },
+    Round {
+        nodes: 200,
+        steps: &[1, 2, 3, 4],
+        connectivity: 8,
+    },
+    Round {
+        nodes: 25,
+        steps: &[1, 2, 3, 4, 5, 6, 7, 8, 9, 10, 11, 12],
+        connectivity: 24,
+    },
+];
+
+#[test]
+fn links_round_a_ring(rt: HostRuntime) {
+    for round in LINKS {
+        let told = is_told(rt.alloc(), round, true);
+        assert_eq!(&rt; (round.nodes, told), (round.nodes, true));
+    }
+}
+
+/// Arcs one way: a ring, steps of several lengths, parallel arcs.
+const ARCS: &[Round] = &[
+    Round {
+        nodes: 300,
+        steps: &[1],
+        connectivity: 1,
+    },
+    Round {
+        nodes: 200,
+        steps: &[1, 5, 11],
+        connectivity: 3,
+    },
+    Round {
+        nodes: 301,
+        steps: &[1, 1, 1, 1, 1],
+        connectivity: 5,
+    },
+];
+
+#[test]
+fn arcs_round_a_ring(rt: HostRuntime) {
+    for round in ARCS {
+        let told = is_told(rt.alloc(), round, false);
+        assert_eq!(&rt; (round.nodes, told), (round.nodes, true));
+    }
+}
+
+/// The nodes of a cube of seven dimensions, with an arc from each to those that differ in one of them.
+fn cube(alloc: Global) -> Option<Network> {
+    let mut net = Network::new(alloc, 128);
+    for i in 0..128u32 {
+        for side in [1, 2, 4, 8, 16, 32, 64u32] {
+            if !add(&mut net, 1 + i, 1 + (i ^ side) % 128) {
+                return None;
+            }
+        }
+    }
+    Some(net)
+}
+
+/// A tree in which each node has two below it, or none.
+fn tree(alloc: Global) -> Option<Network> {
+    let mut net = Network::new(alloc, 255);
+    for node in 2..256u32 {
+        if !add(&mut net, node, node / 2) {
+            return None;
+        }
+    }
+    Some(net)
+}
+
+/// Two parts of forty nodes in each of which all are joined, and three links between them.
+fn halves(alloc: Global) -> Option<Network> {
+    let mut net = Network::new(alloc, 80);
+    let joined = join_all(&mut net, 1, 41) && join_all(&mut net, 41, 81);
+    let linked = add(&mut net, 3, 50) && add(&mut net, 70, 17) && add(&mut net, 41, 40);
+    if joined && linked { Some(net) } else { None }
+}
+
+#[test]
+fn a_cube_a_tree_and_two_halves(rt: HostRuntime) {
+    let shapes = [
+        (cube(rt.alloc()), false, 7u64),
+        (tree(rt.alloc()), true, 1),
+        (halves(rt.alloc()), true, 3),
+    ];
+    for (net, both, connectivity) in shapes {
+        let net = net.expect(&rt, "memory");
+        assert_eq!(&rt; grown(rt.alloc(), net, both), Some(connectivity));
+    }
+}

@@ -236,10 +236,10 @@ def missing():
     """The edits that docs/PLANTED.md says are kept, and aren't."""
     kept = {path.stem for path in ROOT.glob("crates/*/*/*.edit")}
     page = (ROOT / "docs" / "PLANTED.md").read_text()
-    rows = re.findall(r"^\|(?: Stage \|)? Wrong body \| Kept as \|\n((?:\|.*\|\n)+)", page, re.M)
-    cells = [row.split("|")[-2] for row in "".join(rows).splitlines()]
-    named = {name for cell in cells if "test" not in cell for name in re.findall(r"`(\w+)`", cell)}
-    return sorted(named - kept - {*crates_below()})
+    listed = re.search(r"^## Wrong bodies\n(.*?)^## ", page, re.M | re.S)[1]
+    items = re.findall(r"^- .*: (`.*)$", listed, re.M)
+    named = {name for item in items for name in re.findall(r"`(\w+)`", item)}
+    return sorted(named - kept) if named else ["no edit"]
 
 
 def gather(temporary, folder):

@@ -129,8 +129,8 @@ static inline uint32_t provedflow_cut(uint32_t nodes, size_t arcs, const uint32_
         return PROVEDFLOW_MEMORY;
     }
     status = provedflow_cut_lists(nodes, PROVEDFLOW_U32(src), arcs, PROVEDFLOW_U32(dst), arcs, PROVEDFLOW_U64(cap),
-                                  arcs, PROVEDFLOW_U32(sources), n_sources, PROVEDFLOW_U32(sinks), n_sinks, nearest_sinks,
-                                  (uint64_t *)provedflow_some(flow ? flow : room), arcs,
+                                  arcs, PROVEDFLOW_U32(sources), n_sources, PROVEDFLOW_U32(sinks), n_sinks,
+                                  nearest_sinks, (uint64_t *)provedflow_some(flow ? flow : room), arcs,
                                   (uint8_t *)provedflow_some(side), side ? nodes : 0, high ? high : &words[0],
                                   low ? low : &words[1]);
     free(room);

@@ -3,8 +3,8 @@
 
 CRATE is the folder crates/flow_c, HEADER the file c/provedflow.h. Each function that the crate exports has to be
 declared in the header just once, and nothing else may be: the same name, the same parameters in the same order under
-the same names, each of the type that the kit gives it at the border to C, and the same result. A slice is a pointer and then a
-length of type size_t, named after the slice. The last line is 'header: N passed, M failed'.
+the same names, each of the type that the kit gives it at the border to C, and the same result. A slice is a pointer
+and then a length of type size_t, named after the slice. The last line is 'header: N passed, M failed'.
 """
 
 import pathlib

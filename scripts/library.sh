@@ -44,8 +44,8 @@ if [ "$needed" != libc.so.6 ]; then
   exit 1
 fi
 wanted=$(sed -n 's/^uint32_t \(provedflow_[a-z]*_lists\)(.*/\1/p' c/provedflow.h | sort)
-for seen in "$(nm -D --defined-only "$scratch/libprovedflow.so.0")" "$(nm -g --defined-only "$scratch/provedflow.o")"; do
-  seen=$(printf '%s\n' "$seen" | awk '{ print $3 }' | sort)
+for nm in "nm -D $scratch/libprovedflow.so.0" "nm -g $scratch/provedflow.o"; do
+  seen=$($nm --defined-only | awk '{ print $3 }' | sort)
   if [ "$seen" != "$wanted" ]; then
     printf 'the library shows the names\n%s\nand the header declares\n%s\n' "$seen" "$wanted" >&2
     exit 1

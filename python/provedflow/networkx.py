@@ -261,7 +261,7 @@ def check_ends(G, s, t):
 def check_size(nodes, arcs):
     """Sees that a graph keeps the limits."""
     if nodes > MOST_NODES or arcs > MOST_ARCS:
-        raise nx.NetworkXError(f"there are {nodes} nodes and {arcs} arcs; at most {MOST_NODES} and {MOST_ARCS} are taken")
+        raise nx.NetworkXError(f"there are {nodes} nodes and {arcs} arcs, and at most {MOST_NODES} and {MOST_ARCS} fit")
 
 
 def check_capacities(edges):

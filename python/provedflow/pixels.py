@@ -15,7 +15,7 @@ for the pixels on the sink's side, as with PyMaxflow. Weights are whole numbers 
 A pixel's weights to both terminals cost one arc: the lesser of the two is paid by every cut, so it is added to the
 value, and only what the other is more becomes an arc. So a grid takes one arc for each pixel and two for each pair of
 neighbours: of 8,000,000 arcs and 1,000,000 nodes there is room for 1,000 x 999 pixels with 4 neighbours, 940 x 940 with
-8, 99 x 99 x 99 voxels with 6, and 66 x 66 x 66 with 26.
+8, 99 x 99 x 99 voxels with 6, and 67 x 67 x 67 with 26.
 """
 
 import operator
@@ -172,7 +172,7 @@ def as_weights(weights, shape, name):
     if weights.dtype.kind == "O" and not all(isinstance(weight, int) for weight in weights.flat):
         raise ValueError(f"{name} have to be whole numbers")
     if weights.size and (weights.min() < 0 or int(weights.max()) > GREATEST_CAPACITY):
-        raise ValueError(f"{name} have to be from 0 to {GREATEST_CAPACITY}; they go from {weights.min()} to {weights.max()}")
+        raise ValueError(f"{name} go from {weights.min()} to {weights.max()}, and 0 to {GREATEST_CAPACITY} are taken")
     if weights.ndim and weights.shape != shape:
         raise ValueError(f"{name} have to have the shape {shape}, and have {weights.shape}")
     return np.broadcast_to(weights.astype(np.uint64), shape)
@@ -183,16 +183,22 @@ def exact_sum(weights):
     return (int((weights >> np.uint64(32)).sum()) << 32) + int((weights & np.uint64(2 ** 32 - 1)).sum())
 
 
+def fits(shape, all_steps):
+    """Whether a grid has no more nodes and arcs than a network may have."""
+    links = sum(prod(max(0, size - abs(part)) for size, part in zip(shape, step)) for step in all_steps)
+    return prod(shape) <= MOST_NODES - 2 and prod(shape) + 2 * links <= MOST_ARCS
+
+
 def check_room(shape, all_steps, neighbours):
     """Sees that a grid's nodes and arcs fit, and tells in pixels what would."""
     if not shape or min(shape) < 1:
         raise ValueError(f"a grid has one pixel or more along each axis, and this shape is {shape}")
-    pixels = prod(shape)
-    arcs = pixels + 2 * sum(prod(max(0, size - abs(part)) for size, part in zip(shape, step)) for step in all_steps)
-    if pixels <= MOST_NODES - 2 and arcs <= MOST_ARCS:
+    if fits(shape, all_steps):
         return
-    most = min(MOST_NODES - 2, MOST_ARCS // (1 + 2 * len(all_steps)))
-    side = int(most ** (1 / len(shape)) + 1e-9)
+    pixels, most = prod(shape), min(MOST_NODES - 2, MOST_ARCS // (1 + 2 * len(all_steps)))
+    side = int(most ** (1 / len(shape)))
+    while fits((side + 1,) * len(shape), all_steps):
+        side += 1
     square = " x ".join([f"{side:,}"] * len(shape))
     joined = f" with {neighbours} neighbours" if neighbours else f" with {len(all_steps)} steps to neighbours"
     raise ValueError(f"a grid of {' x '.join(f'{size:,}' for size in shape)} pixels{joined} doesn't fit: it has "

@@ -4,7 +4,7 @@
  * and opposite arcs, self-loops, arcs into a source and out of a sink are all accepted. There are one or more sources
  * and one or more sinks, and no node stands in these lists twice. Limits: 2 to 1,000,000 nodes, at most 8,000,000 arcs,
  * capacities from 0 to 18,446,744,073,709,551,615. A value has 128 bits and comes in two words: it is
- * high * 2^64 + low.
+ * high * 2^64 + low. provedflow_links takes at most 4,000,000 arcs.
  *
  * All arrays are the caller's. Nothing of them is kept after a call, no memory is handed over, and there is nothing to
  * begin or to end. Calls on different arrays may run at once, in as many threads as you like. A call takes memory by
@@ -38,7 +38,7 @@ extern "C" {
 enum {
     PROVEDFLOW_OK = 0,        /* the answer was written */
     PROVEDFLOW_NODES = 1,     /* fewer than 2 nodes, or more than 1,000,000 */
-    PROVEDFLOW_LENGTHS = 2,   /* more than 8,000,000 arcs, or lists whose lengths don't fit each other */
+    PROVEDFLOW_LENGTHS = 2,   /* too many arcs, or lists whose lengths don't fit each other */
     PROVEDFLOW_ARC = 3,       /* an end of an arc is no node; provedflow_bad_arc tells which arc */
     PROVEDFLOW_TERMINALS = 4, /* no source or no sink, one that is no node, or a node that stands there twice */
     PROVEDFLOW_MEMORY = 5     /* memory was refused */
@@ -154,7 +154,9 @@ static inline uint32_t provedflow_links(uint32_t nodes, size_t arcs, const uint3
 /* Says of a flow, wherever it comes from, whether it is one of the greatest value.
  *
  * verdict gets the first of these that applies: PROVEDFLOW_OVER, PROVEDFLOW_UNBALANCED, PROVEDFLOW_FEASIBLE,
- * PROVEDFLOW_GREATEST. With the last, high and low get the two words of the value; each may be NULL. */
+ * PROVEDFLOW_GREATEST. high and low get two words, and each may be NULL: with PROVEDFLOW_OVER the first such arc, with
+ * PROVEDFLOW_UNBALANCED the first such node, and else the value, which is negative with PROVEDFLOW_FEASIBLE where more
+ * comes into the sources than leaves them (as in two's complement of 128 bits). */
 static inline uint32_t provedflow_check(uint32_t nodes, size_t arcs, const uint32_t *src, const uint32_t *dst,
                                         const uint64_t *cap, size_t n_sources, const uint32_t *sources, size_t n_sinks,
                                         const uint32_t *sinks, const uint64_t *flow, uint32_t *verdict, uint64_t *high,

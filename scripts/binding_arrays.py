@@ -144,11 +144,15 @@ def refusals(checks):
 
 def many_arcs(checks):
     """One arc more than the limit is refused, and the limit is that of the library."""
-    count = provedflow.MOST_ARCS + 1
-    src, dst = array.array("I", bytes(4 * count)), array.array("I", bytes(4 * count))
-    checks.raises("an arc too many", provedflow.FlowError, f"there are {count} arcs, and at most {count - 1} are taken",
-                  lambda: provedflow.edge_connectivity(src, dst, 2))
-    checks.equal("as many arcs as may be", provedflow.edge_connectivity(src[1:], dst[1:], 2), 0)
+    calls = {provedflow.MOST_ARCS: lambda ends, amounts: provedflow.maximum_flow(ends, ends, amounts, 0, 1, 2).value,
+             provedflow.MOST_LINKS: lambda ends, _: provedflow.edge_connectivity(ends, ends, 2)}
+    for most, call in calls.items():
+        ends, amounts = array.array("I", bytes(4 * most)), array.array("Q", bytes(8 * most))
+        checks.equal("as many arcs as may be", call(ends, amounts), 0)
+        ends.append(0)
+        amounts.append(0)
+        words = f"there are {most + 1} arcs, and at most {most} are taken"
+        checks.raises("an arc too many", provedflow.FlowError, words, lambda: call(ends, amounts))
 
 
 def no_copies(checks):

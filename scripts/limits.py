@@ -73,19 +73,22 @@ SENTENCES = {
         "Limits: 2 to {MOST_NODES:,} nodes, at most {2 * MOST_ARCS:,} arcs,",
         "capacities from 0 to {GREATEST_CAPACITY:,}.",
         "fewer than 2 nodes, or more than {MOST_NODES:,} */",
-        "more than {2 * MOST_ARCS:,} arcs, or lists",
+        "provedflow_links takes at most {MOST_ARCS:,} arcs.",
     ],
     "c/tests/calls.c": [
-        "enum { MOST_NODES = {MOST_NODES}, MOST_ARCS = {2 * MOST_ARCS} };",
+        "enum { MOST_NODES = {MOST_NODES}, MOST_ARCS = {2 * MOST_ARCS}, MOST_LINKS = {MOST_ARCS} };",
     ],
-    "docs/C.md": ["A network has 2 to {MOST_NODES:,} nodes, counted from 0, and at most {2 * MOST_ARCS:,} arcs"],
+    "docs/C.md": ["A network has 2 to {MOST_NODES:,} nodes, counted from 0, and at most {2 * MOST_ARCS:,} arcs, or "
+                  "{MOST_ARCS:,} where links are counted;"],
     "docs/PYTHON.md": ["here a capacity goes up to {GREATEST_CAPACITY:,}, the value"],
     "python/provedflow/__init__.py": [
-        "Limits: 2 to {MOST_NODES:,} nodes, at most {2 * MOST_ARCS:,} arcs, capacities from 0\nto {GREATEST_CAPACITY:,}",
+        "Limits: 2 to {MOST_NODES:,} nodes, at most {2 * MOST_ARCS:,} arcs, or {MOST_ARCS:,} where\n"
+        "links are counted, capacities from 0 to {GREATEST_CAPACITY:,}",
     ],
-    "python/provedflow/library.py": ["MOST_NODES = {MOST_NODES:_}", "MOST_ARCS = {2 * MOST_ARCS:_}"],
+    "python/provedflow/library.py": ["MOST_NODES = {MOST_NODES:_}", "MOST_ARCS = {2 * MOST_ARCS:_}",
+                                     "MOST_LINKS = {MOST_ARCS:_}"],
     "python/provedflow/scipy.py": ["beyond the limits of {MOST_NODES:,} nodes and {2 * MOST_ARCS:,} arcs"],
-    "python/provedflow/networkx.py": ["beyond the limits of {MOST_NODES:,} nodes and\n{2 * MOST_ARCS:,} arcs"],
+    "python/provedflow/networkx.py": ["beyond the limits of {MOST_NODES:,} nodes and\n{2 * MOST_ARCS:,} arcs, or {MOST_ARCS:,} edges where links are counted;"],
     "python/provedflow/pixels.py": ["of {2 * MOST_ARCS:,} arcs and {MOST_NODES:,} nodes there is room"],
 }
 

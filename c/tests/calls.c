@@ -72,11 +72,15 @@ static void small_checks(void) {
     static const struct {
         uint64_t flow[ARCS];
         uint32_t verdict;
+        uint64_t told; /* the value, the arc or the node */
     } cases[] = {
-        {{3, 2, 1, 2, 3}, PROVEDFLOW_GREATEST},   {{0, 0, 0, 0, 0}, PROVEDFLOW_FEASIBLE},
-        {{2, 2, 0, 2, 2}, PROVEDFLOW_FEASIBLE},   {{4, 2, 1, 2, 3}, PROVEDFLOW_OVER},
-        {{3, 2, 1, 2, 2}, PROVEDFLOW_UNBALANCED},
+        {{3, 2, 1, 2, 3}, PROVEDFLOW_GREATEST, 5},   {{0, 0, 0, 0, 0}, PROVEDFLOW_FEASIBLE, 0},
+        {{2, 2, 0, 2, 2}, PROVEDFLOW_FEASIBLE, 4},   {{3, 2, 1, 4, 4}, PROVEDFLOW_OVER, 3},
+        {{3, 2, 1, 2, 2}, PROVEDFLOW_UNBALANCED, 2},
     };
+    static const uint64_t back[] = {1, 0, 0, 0, 0};
+    uint32_t turned = 99;
+    uint64_t upper = 9, lower = 9;
     size_t i;
     for (i = 0; i < sizeof cases / sizeof *cases; i++) {
         uint32_t verdict = 99;
@@ -85,11 +89,14 @@ static void small_checks(void) {
               provedflow_check(NODES, ARCS, SRC, DST, CAP, 1, SOURCE, 1, SINK, cases[i].flow, &verdict, &high, &low),
               0);
         equal("check, verdict", verdict, cases[i].verdict);
-        if (verdict == PROVEDFLOW_GREATEST) {
-            equal("check, high", high, 0);
-            equal("check, low", low, 5);
-        }
+        equal("check, high", high, 0);
+        equal("check, low", low, cases[i].told);
     }
+    /* From node 1 to node 0 leads no arc, and 1 comes the other way: the value is -1. */
+    equal("check", provedflow_check(NODES, ARCS, SRC, DST, CAP, 1, INNER, 1, SOURCE, back, &turned, &upper, &lower), 0);
+    equal("check, a negative value", turned, PROVEDFLOW_FEASIBLE);
+    equal("check, a negative value, high", upper, UINT64_MAX);
+    equal("check, a negative value, low", lower, UINT64_MAX);
 }
 
 /* Three arcs of the greatest capacity beside each other: 3 * (2^64 - 1) is 2 * 2^64 + (2^64 - 3). */
@@ -183,10 +190,10 @@ static void words(void) {
     equal("words of the greatest status", strcmp(provedflow_strerror(UINT32_MAX), provedflow_strerror(6)) == 0, 1);
 }
 
-/* 1,000,000 nodes in a ring of 8,000,000 arcs, eight beside each other between neighbours: a node can be cut off by
- * eight; two ways of eight lead from node 0 to node 500,000 only where arcs go both ways, and here they don't. */
+/* 1,000,000 nodes in a ring of 8,000,000 arcs, eight beside each other between neighbours, of which the first 4,000,000
+ * are a chain from node 0 to node 500,000. */
 static void at_the_limits(void) {
-    enum { MOST_NODES = 1000000, MOST_ARCS = 8000000 };
+    enum { MOST_NODES = 1000000, MOST_ARCS = 8000000, MOST_LINKS = 4000000 };
     uint32_t *src = (uint32_t *)malloc((MOST_ARCS + 1) * sizeof *src);
     uint32_t *dst = (uint32_t *)malloc((MOST_ARCS + 1) * sizeof *dst);
     uint64_t *cap = (uint64_t *)malloc((MOST_ARCS + 1) * sizeof *cap), high = 9, low = 9, links = 9;
@@ -199,8 +206,10 @@ static void at_the_limits(void) {
     }
     equal("limits", provedflow_flow(MOST_NODES, MOST_ARCS, src, dst, cap, 1, SOURCE, 1, sink, NULL, &high, &low), 0);
     equal("limits, value", low, 8);
-    equal("limits", provedflow_links(MOST_NODES, MOST_ARCS, src, dst, 1, SOURCE, 1, sink, 1, 1, &links), 0);
-    equal("limits, links", links, 16);
+    equal("limits", provedflow_links(MOST_NODES, MOST_LINKS, src, dst, 1, SOURCE, 1, sink, 1, 1, &links), 0);
+    equal("limits, links", links, 8);
+    equal("a link too many", provedflow_links(MOST_NODES, MOST_LINKS + 1, src, dst, 1, SOURCE, 1, sink, 1, 1, &links),
+          PROVEDFLOW_LENGTHS);
     equal("an arc too many",
           provedflow_flow(MOST_NODES, MOST_ARCS + 1, src, dst, cap, 1, SOURCE, 1, sink, NULL, &high, &low),
           PROVEDFLOW_LENGTHS);

@@ -6,7 +6,7 @@ from collections import namedtuple
 
 from provedflow.arrays import AMOUNT, NODE, Lent, answer, numpy_of, read, room, terminals
 from provedflow.library import (
-    ARC, MEMORY, MOST_ARCS, MOST_NODES, OK, TERMINALS, FlowError, library)
+    ARC, MEMORY, MOST_ARCS, MOST_LINKS, MOST_NODES, OK, TERMINALS, FlowError, library)
 
 Flow = namedtuple("Flow", "value flows")
 Flow.__doc__ = """A flow of the greatest value."""
@@ -22,7 +22,8 @@ Cut.flows.__doc__ = """What each arc carries in a flow of the greatest value."""
 Verdict = namedtuple("Verdict", "word value place")
 Verdict.__doc__ = """What is to be said of a flow."""
 Verdict.word.__doc__ = """'greatest', 'feasible', 'over' or 'unbalanced'."""
-Verdict.value.__doc__ = """The value of a feasible flow, an int; else None."""
+Verdict.value.__doc__ = """The value of a feasible flow, an int, negative where more comes into the sources than leaves
+them; else None."""
 Verdict.place.__doc__ = """The first arc that carries too much, or the first node that is unbalanced; else None."""
 
 WORDS = ("greatest", "feasible", "over", "unbalanced")
@@ -81,7 +82,8 @@ def edge_connectivity(src, dst, nodes=None, *, sources=None, sinks=None, directe
     how many have to go before every sink is cut off from every source: only sets count that have all sources inside and
     all sinks outside. With directed=False arcs have no direction: those count that have exactly one end in the set.
 
-    - src, dst, nodes: as of `maximum_flow`; there are no capacities, and each of several parallel arcs counts.
+    - src, dst, nodes: as of `maximum_flow`; there are no capacities, each of several parallel arcs counts, and there are
+      at most 4,000,000 arcs.
     - sources, sinks: a node or an array of nodes each, or both left out.
 
     Answers an int. Raises what `maximum_flow` raises.
@@ -123,8 +125,8 @@ def check(src, dst, capacities, sources, sinks, flows, nodes=None):
     given.ask("provedflow_check_lists", *given.lists(), ctypes.addressof(verdict), *words.addresses())
     word = WORDS[verdict.value]
     if word in ("greatest", "feasible"):
-        return Verdict(word, given.value(), None)
-    return Verdict(word, None, given.first_over() if word == "over" else given.first_unbalanced())
+        return Verdict(word, words.signed_value(), None)
+    return Verdict(word, None, words.value())
 
 
 class Words:
@@ -141,6 +143,10 @@ class Words:
     def value(self):
         """The value, an int."""
         return (self.words[0] << 64) + self.words[1]
+
+    def signed_value(self):
+        """The value, an int that may be negative: the words are those of 128 bits in two's complement."""
+        return self.value() - (self.words[0] >> 63 << 128)
 
 
 class Network:
@@ -176,8 +182,9 @@ class Network:
         for name, length in lengths.items():
             if length != self.arcs:
                 raise FlowError(f"src has {self.arcs} elements and {name} has {length}; both have one for each arc")
-        if self.arcs > MOST_ARCS:
-            raise FlowError(f"there are {self.arcs} arcs, and at most {MOST_ARCS} are taken")
+        most = MOST_LINKS if self.capacities is None else MOST_ARCS
+        if self.arcs > most:
+            raise FlowError(f"there are {self.arcs} arcs, and at most {most} are taken")
         if not 2 <= self.nodes <= MOST_NODES:
             raise FlowError(f"there are {self.nodes} nodes, and 2 to {MOST_NODES} are taken")
 
@@ -217,29 +224,6 @@ class Network:
                     return f"{name}[{place}] is {node}, and so is {seen[node]}; no node may stand there twice"
                 seen[node] = f"{name}[{place}]"
         return "a source or a sink can't be taken"
-
-    def gains(self):
-        """What comes into each node less what leaves it."""
-        gains = [0] * self.nodes
-        for u, v, units in zip(self.src.keeper.tolist(), self.dst.keeper.tolist(), self.flows.keeper.tolist()):
-            gains[u] -= units
-            gains[v] += units
-        return gains
-
-    def value(self):
-        """What leaves the sources less what comes into them."""
-        gains = self.gains()
-        return -sum(gains[node] for node in self.sources.keeper.tolist())
-
-    def first_over(self):
-        """The first arc that carries more than its capacity."""
-        pairs = zip(self.capacities.keeper.tolist(), self.flows.keeper.tolist())
-        return next(place for place, (most, units) in enumerate(pairs) if units > most)
-
-    def first_unbalanced(self):
-        """The first node, no terminal, that isn't balanced."""
-        ends = {*self.sources.keeper.tolist(), *self.sinks.keeper.tolist()}
-        return next(node for node, gain in enumerate(self.gains()) if gain and node not in ends)
 
 
 def max_of(lent):

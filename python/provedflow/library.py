@@ -8,6 +8,8 @@ MOST_NODES = 1_000_000
 """The most nodes of a network."""
 MOST_ARCS = 8_000_000
 """The most arcs of a network."""
+MOST_LINKS = 4_000_000
+"""The most arcs of a network whose links are counted."""
 GREATEST_CAPACITY = 2 ** 64 - 1
 """The greatest capacity of an arc."""
 

@@ -23,7 +23,8 @@ float, each answer is the nearest float; else it is a Fraction. A capacity of 2^
 
 Raised, beside what is said above: NetworkXError where s or t isn't in the graph, where they are the same, where a
 capacity is None, a text, nan or no number at all (with the edge), and beyond the limits of 1,000,000 nodes and
-8,000,000 arcs; MemoryError; provedflow.LibraryNotFound where the C library isn't there.
+8,000,000 arcs, or 4,000,000 edges where links are counted; MemoryError; provedflow.LibraryNotFound where the C library
+isn't there.
 """
 
 import contextlib
@@ -38,7 +39,7 @@ import networkx as nx
 from networkx.algorithms.flow.utils import build_residual_network, detect_unboundedness
 
 from provedflow import calls
-from provedflow.library import GREATEST_CAPACITY, MOST_ARCS, MOST_NODES
+from provedflow.library import GREATEST_CAPACITY, MOST_ARCS, MOST_LINKS, MOST_NODES
 
 INFINITE = float("inf")
 
@@ -103,7 +104,7 @@ def edge_connectivity(G, s=None, t=None):
         raise nx.NetworkXPointlessConcept("Connectivity is undefined for the null graph.")
     if s is not None:
         check_ends(G, s, t)
-    check_size(len(G), G.number_of_edges())
+    check_size(len(G), G.number_of_edges(), MOST_LINKS)
     if len(G) == 1:
         return 0
     with collector_paused():
@@ -258,10 +259,10 @@ def check_ends(G, s, t):
         raise nx.NetworkXError("source and sink are the same node")
 
 
-def check_size(nodes, arcs):
+def check_size(nodes, arcs, most=MOST_ARCS):
     """Sees that a graph keeps the limits."""
-    if nodes > MOST_NODES or arcs > MOST_ARCS:
-        raise nx.NetworkXError(f"there are {nodes} nodes and {arcs} arcs, and at most {MOST_NODES} and {MOST_ARCS} fit")
+    if nodes > MOST_NODES or arcs > most:
+        raise nx.NetworkXError(f"there are {nodes} nodes and {arcs} arcs, and at most {MOST_NODES} and {most} fit")
 
 
 def check_capacities(edges):

@@ -82,7 +82,7 @@ def edge_connectivity(src, dst, nodes=None, *, sources=None, sinks=None, directe
     how many have to go before every sink is cut off from every source: only sets count that have all sources inside and
     all sinks outside. With directed=False arcs have no direction: those count that have exactly one end in the set.
 
-    - src, dst, nodes: as of `maximum_flow`; there are no capacities, each of several parallel arcs counts, and there are
+    - src, dst, nodes: as of `maximum_flow`; there are no capacities, each of parallel arcs counts, and there are
       at most 4,000,000 arcs.
     - sources, sinks: a node or an array of nodes each, or both left out.
 

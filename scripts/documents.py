@@ -1,9 +1,10 @@
 #!/usr/bin/env python3
 """Runs the commands that the documents show, and compares what they print with what is shown.
 
-Usage: documents.py FLOW [DOCUMENT ...]
+Usage: documents.py [--library DIR] FLOW [DOCUMENT ...]
 
-FLOW is the built `flow`; without a DOCUMENT, README.md, CONTRIBUTING.md and all of docs/ are read. In a block fenced
+FLOW is the built `flow`, and DIR has the library for C with its header, which the compiler and the loader then find;
+without a DOCUMENT, README.md, CONTRIBUTING.md and all of docs/ are read. In a block fenced
 as ```console, a line `$ COMMAND` is run by bash, with the lines of its here document, and the lines after it are what
 it prints, on standard output and standard error together. The commands of a document run one after the other in a
 scratch folder of its own, with a copy of examples/ and with FLOW on the PATH as `flow`; `$?` is the status of the
@@ -25,6 +26,7 @@ import tempfile
 REPOSITORY = pathlib.Path(__file__).resolve().parent.parent
 SHOWN_PATH = "/path/to/flow"
 SECONDS = 3600  # An install proves what it doesn't find proved.
+LIBRARY_PLACES = ("C_INCLUDE_PATH", "CPLUS_INCLUDE_PATH", "LIBRARY_PATH", "LD_LIBRARY_PATH")
 LAST_LINES = 40  # Of the errors of a command of the checkout that didn't print what is shown.
 
 
@@ -90,7 +92,7 @@ def changes():
     return done.stdout
 
 
-def check_commands(document, scratch, flow):
+def check_commands(document, scratch, flow, library):
     """Runs the commands of a document; answers how many printed what is shown, and how many did not."""
     folder, programs = scratch / "work", scratch / "bin"
     folder.mkdir()
@@ -98,6 +100,7 @@ def check_commands(document, scratch, flow):
     (programs / "flow").symlink_to(flow)
     shutil.copytree(REPOSITORY / "examples", folder / "examples")
     environment = dict(os.environ, PATH=f"{programs}:{os.environ['PATH']}", LC_ALL="C", PYTHONDONTWRITEBYTECODE="1")
+    environment.update({name: str(library) for name in LIBRARY_PLACES if library})
     passed = failed = 0
     for first, in_checkout, lines in blocks(document.read_text()):
         status = 0
@@ -179,15 +182,16 @@ def check_names():
 
 
 def main():
-    flow = pathlib.Path(sys.argv[1]).resolve()
-    named = [pathlib.Path(name).resolve() for name in sys.argv[2:]]
+    library = pathlib.Path(sys.argv[2]).resolve() if sys.argv[1] == "--library" else None
+    words = sys.argv[3:] if library else sys.argv[1:]
+    flow, *named = (pathlib.Path(name).resolve() for name in words)
     documents = named or [REPOSITORY / "README.md", REPOSITORY / "CONTRIBUTING.md"]
     if not named:
         documents += sorted((REPOSITORY / "docs").glob("*.md"))
     passed = failed = 0
     for document in documents:
         with tempfile.TemporaryDirectory() as scratch:
-            counts = [check_commands(document, pathlib.Path(scratch), flow), check_links(document)]
+            counts = [check_commands(document, pathlib.Path(scratch), flow, library), check_links(document)]
         passed += sum(count[0] for count in counts)
         failed += sum(count[1] for count in counts)
     if not named:

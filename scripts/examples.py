@@ -7,12 +7,10 @@ Each example runs in a scratch folder. Its data has to be what its script makes,
 pictures the committed ones (pictures in PNG by pixels, since compressed bytes differ between versions of zlib), and
 its numbers those found in another way: by hand, as the comments here say, and by NetworkX from the data where it is
 installed. Then each runs on small data of which the answers were found by hand, and on data that has to be refused.
-The bridges to NetworkX, SciPy and arrays of pixels are tried, and what their READMEs show of Python is run, each where
-its library is installed. Each check that fails is told in a line;
-the last line counts them.
+What examples/python shows is run by scripts/bindings.py. Each check that fails is told in a line; the last line counts
+them.
 """
 
-import importlib.util
 import os
 import re
 import sys
@@ -233,23 +231,6 @@ def redundancy_by_networkx(checks, words, _):
     checks.equal("redundancy: new links by NetworkX", (absent, better), (115, 5))
 
 
-def bridge(checks, flow, name, module):
-    """A bridge to a library of Python: its own script, and the README's few lines where the library is installed. Where
-    it isn't, the script says that it skipped."""
-    status, words, complaint = python(f"examples/{name}/try_{name}.py", flow)
-    print(words, end="")
-    last = words.splitlines()[-1] if words else ""
-    found = re.fullmatch(rf"{name}: (\d+) passed, (\d+) failed(, skipped: .*)?", last)
-    checks.equal(f"{name}: status and complaint", (status, complaint, found is not None), (0, "", True))
-    if found:
-        checks.passed += int(found.group(1))
-        checks.failed += int(found.group(2))
-    if importlib.util.find_spec(module):
-        path = os.path.join(EXAMPLES, name)
-        shown = python("-c", blocks(name, "python")[0], env={"FLOW": flow, "PYTHONPATH": path})
-        checks.equal(f"{name}: words in the README", shown, (0, blocks(name, "text")[0], ""))
-
-
 def main():
     if len(sys.argv) != 2:
         sys.exit("usage: examples.py FLOW")
@@ -274,8 +255,6 @@ def main():
             check(checks, flow, os.path.join(folder, check.__name__))
     tables.common_module(checks, flow)
     tables.copies(checks, flow)
-    for name, module in (("networkx", "networkx"), ("scipy", "scipy"), ("pixels", "numpy")):
-        bridge(checks, flow, name, module)
     print(f"examples: {checks.passed} passed, {checks.failed} failed")
     sys.exit(1 if checks.failed else 0)
 

@@ -1,10 +1,16 @@
 #!/usr/bin/env bash
-# Proves and builds the program, and puts it into a folder: install.sh DIR
-# What scripts/test.sh has proved and built is taken as it is, as long as nothing has changed since.
-# Progress goes to standard error. The one line of standard output is the path of the program.
+# Proves and builds the program, and puts it into a folder: install.sh [--library] DIR
+# With --library the library for C and its header are put beside it, by scripts/library.sh. What scripts/test.sh has
+# proved and built is taken as it is, as long as nothing has changed since. Progress goes to standard error. The one
+# line of standard output is the path of the program.
 set -eu
-if [ $# -ne 1 ]; then
-  echo "usage: bash scripts/install.sh DIR" >&2
+library=
+if [ $# -eq 2 ] && [ "$1" = --library ]; then
+  library=yes
+  shift
+fi
+if [ $# -ne 1 ] || [ "$1" = --library ]; then
+  echo "usage: bash scripts/install.sh [--library] DIR" >&2
   exit 2
 fi
 if ! command -v rt > /dev/null; then
@@ -18,66 +24,11 @@ cd "$(dirname "$0")/.."
 proved=crates/flow/out/flow.proved
 if [ -f "$proved" ] && [ "$(bash scripts/sum.sh)" = "$(cat "$proved")" ]; then
   echo 'Nothing has changed since the tests proved and built flow.' >&2
-  install -m 755 crates/flow/out/flow "$folder/flow"
-  echo "$folder/flow"
-  exit 0
+else
+  bash scripts/prove.sh flow
 fi
-
-# Proves the crates that the program is made of, lowest first, and says which. Readers and solvers don't stand on each
-# other, so they are proved side by side where there are processors for both; the solvers take two thirds of it all.
-prove() {
-  local cores
-  cores=$(nproc)
-  (echo "== flow_net" && cd crates/flow_net && rt lib) || return 1
-  if [ "$cores" -ge 3 ]; then
-    (echo "== flow_text" && cd crates/flow_text && exec rt lib --jobs 1) &
-    (echo "== flow_solve, beside it" && cd crates/flow_solve && rt lib --jobs $((cores - 1))) || return 1
-    wait $! || return 1
-  fi
-  for crate in flow_text flow_solve flow_tools; do
-    (echo "== $crate" && cd "crates/$crate" && rt lib) || return 1
-  done
-  echo "== flow"
-  cd crates/flow && exec rt run -- solve --value < stdin
-}
-
-cat >&2 <<TEXT
-Proving and building flow, since nothing is built that isn't proved. From nothing this takes some ten minutes on
-four cores, and up to six gigabytes of memory; what an earlier run has proved is kept, and taken up.
-TEXT
-
-{ # The rest is read at once, so that a change of this file while the proof goes on does no harm.
-log=$(mktemp)
-start=$SECONDS
-set -m # a group of processes of its own, to be ended as one
-prove > "$log" 2>&1 &
-proof=$!
-set +m
-trap 'kill -- "-$proof" 2> /dev/null || true' EXIT
-
-# Says how far the proof is: at each crate's beginning, and each half minute.
-crate=
-said=$start
-while kill -0 "$proof" 2> /dev/null; do
-  sleep 1
-  now=$(sed -n 's/^== //p' "$log" | tail -n 1)
-  if [ "$now" != "$crate" ] || [ $((SECONDS - said)) -ge 30 ]; then
-    crate=$now
-    said=$SECONDS
-    far=$(tail -n 1 "$log" | sed -n 's/^so far: \([0-9]* of [0-9]* functions\) checked.*/, \1/p')
-    printf '%2d:%02d  %s\n' $(((SECONDS - start) / 60)) $(((SECONDS - start) % 60)) "${crate:-starting}$far" >&2
-  fi
-done
-trap - EXIT
-
-if ! wait "$proof"; then
-  tail -n 20 "$log" >&2
-  echo "the program was not built; the whole output is in $log" >&2
-  exit 1
-fi
-rm -f "$log"
 install -m 755 crates/flow/out/flow "$folder/flow"
-printf 'proved and built in %d minutes %d seconds\n' $(((SECONDS - start) / 60)) $(((SECONDS - start) % 60)) >&2
+if [ -n "$library" ]; then
+  bash scripts/library.sh "$folder" > /dev/null
+fi
 echo "$folder/flow"
-exit 0
-}

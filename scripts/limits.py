@@ -69,12 +69,27 @@ SENTENCES = {
     "scripts/hostile.py": ["b\" \" * {LONGEST_LINE + 1}]"],
     "bench/generate.py": ["NODES, ARCS = {MOST_NODES}, {MOST_ARCS}"],
     "examples/common/dimacs.py": ["MOST_NODES, MOST_ARCS = {MOST_NODES:_}, {MOST_ARCS:_}"],
-    "examples/pixels/README.md": [
-        "at most {MOST_NODES:,} nodes, its pixels and two more, and {MOST_ARCS:,} arcs.",
-        "whole numbers from 0 to {GREATEST_CAPACITY:,}",
+    "c/provedflow.h": [
+        "Limits: 2 to {MOST_NODES:,} nodes, at most {2 * MOST_ARCS:,} arcs,",
+        "capacities from 0 to {GREATEST_CAPACITY:,}.",
+        "fewer than 2 nodes, or more than {MOST_NODES:,} */",
+        "provedflow_links takes at most {MOST_ARCS:,} arcs.",
     ],
-    "examples/scipy/README.md": ["beyond the limits of `flow`, {MOST_NODES:,} nodes and {MOST_ARCS:,} arcs."],
-    "examples/networkx/flow_networkx.py": ["MOST_NODES = {MOST_NODES:_}", "MOST_ARCS = {MOST_ARCS:_}"],
+    "c/tests/calls.c": [
+        "enum { MOST_NODES = {MOST_NODES}, MOST_ARCS = {2 * MOST_ARCS}, MOST_LINKS = {MOST_ARCS} };",
+    ],
+    "docs/C.md": ["A network has 2 to {MOST_NODES:,} nodes, counted from 0, and at most {2 * MOST_ARCS:,} arcs, or "
+                  "{MOST_ARCS:,} where links are counted;"],
+    "docs/PYTHON.md": ["here a capacity goes up to {GREATEST_CAPACITY:,}, the value"],
+    "python/provedflow/__init__.py": [
+        "Limits: 2 to {MOST_NODES:,} nodes, at most {2 * MOST_ARCS:,} arcs, or {MOST_ARCS:,} where\n"
+        "links are counted, capacities from 0 to {GREATEST_CAPACITY:,}",
+    ],
+    "python/provedflow/library.py": ["MOST_NODES = {MOST_NODES:_}", "MOST_ARCS = {2 * MOST_ARCS:_}",
+                                     "MOST_LINKS = {MOST_ARCS:_}"],
+    "python/provedflow/scipy.py": ["beyond the limits of {MOST_NODES:,} nodes and {2 * MOST_ARCS:,} arcs"],
+    "python/provedflow/networkx.py": ["beyond the limits of {MOST_NODES:,} nodes and\n{2 * MOST_ARCS:,} arcs, or {MOST_ARCS:,} edges where links are counted;"],
+    "python/provedflow/pixels.py": ["of {2 * MOST_ARCS:,} arcs and {MOST_NODES:,} nodes there is room"],
 }
 
 # What a sentence tells: the words for the number, and the character between its groups.

@@ -1,38 +1,112 @@
 #!/usr/bin/env bash
-# Makes the Debian package of the program, DIR/flow_VERSION_amd64.deb: package.sh DIR [PROGRAM]
-# Where no PROGRAM is handed in, scripts/install.sh proves and builds it first. A machine that installs the package
-# needs no Rattle kit. DEBFULLNAME and DEBEMAIL name another maintainer than the project. The path of the package is the
-# one line of standard output.
+# Makes the Debian packages and a wheel for Python: package.sh DIR [PROGRAM LIBRARIES]
+# The packages are flow (the program), libprovedflow0 (the library), libprovedflow-dev (its header, archive and
+# pkg-config file) and python3-provedflow; the wheel has the library in it. Where nothing is handed in,
+# scripts/install.sh and scripts/library.sh prove and build the program and the library first; LIBRARIES is a folder as
+# the latter makes it. A machine that installs a package needs no Rattle kit. DEBFULLNAME and DEBEMAIL name another
+# maintainer than the project. The paths are the lines of standard output, that of the program's package first.
 set -eu
-if [ $# -lt 1 ] || [ $# -gt 2 ]; then
-  echo "usage: bash scripts/package.sh DIR [PROGRAM]" >&2
+if [ $# -ne 1 ] && [ $# -ne 3 ]; then
+  echo "usage: bash scripts/package.sh DIR [PROGRAM LIBRARIES]" >&2
   exit 2
 fi
 mkdir -p "$1"
 folder=$(cd "$1" && pwd)
 scratch=$(mktemp -d)
 trap 'rm -rf "$scratch"' EXIT
-program=$(if [ $# -eq 2 ]; then realpath "$2"; else bash "$(dirname "$0")/install.sh" "$scratch/built"; fi)
+if [ $# -eq 3 ]; then
+  program=$(realpath "$2")
+  libraries=$(realpath "$3")
+else
+  program=$(bash "$(dirname "$0")/install.sh" --library "$scratch/built")
+  libraries=$scratch/built
+fi
 cd "$(dirname "$0")/.."
 
 version=$("$program" --version)
 version=${version#flow }
+if ! grep -q "^__version__ = \"$version\"$" python/provedflow/__init__.py; then
+  echo "the program is of version $version, and python/provedflow/__init__.py tells another" >&2
+  exit 1
+fi
 maintainer="${DEBFULLNAME:-Zelkovarummy maintainers} <${DEBEMAIL:-maintainers@users.noreply.zelkovarummy.example}>"
 SOURCE_DATE_EPOCH=${SOURCE_DATE_EPOCH:-$(git log -1 --format=%ct 2> /dev/null || date +%s)}
 export SOURCE_DATE_EPOCH
 
-# The program is linked to the C library alone; the package asks for the oldest one that has every symbol of it.
-libraries=$(objdump -p "$program" | sed -n 's/^ *NEEDED *//p')
-if [ "$libraries" != libc.so.6 ]; then
-  echo "the program is linked to other libraries than the C library: $libraries" >&2
-  exit 1
-fi
-libc=$(objdump -T "$program" | grep -o 'GLIBC_[0-9.]*' | sort -V | tail -n 1)
+# libc_of FILE: the oldest C library that has every symbol of a file, which has to be linked to that library alone.
+libc_of() {
+  local needed
+  needed=$(objdump -p "$1" | sed -n 's/^ *NEEDED *//p')
+  if [ "$needed" != libc.so.6 ]; then
+    echo "$1 is linked to other libraries than the C library: $needed" >&2
+    exit 1
+  fi
+  objdump -T "$1" | grep -o 'GLIBC_[0-9.]*' | sort -V | tail -n 1 | sed 's/^GLIBC_//'
+}
 
-root=$scratch/root
-put() { # MODE SOURCE PLACE
+# put MODE SOURCE PLACE: a file of the package that is being made.
+put() {
   install -D -m "$1" "$2" "$root/$3"
 }
+
+# put_copyright PACKAGE: the licence, with what else the package is made of.
+put_copyright() {
+  {
+    echo 'Format: https://www.debian.org/doc/packaging-manuals/copyright-format/1.0/'
+    echo 'Upstream-Name: flow'
+    echo
+    echo 'Files: *'
+    sed -n 's/^Copyright (c) /Copyright: /p' LICENSE
+    cat "$scratch/ports"
+    echo
+    echo 'License: Expat'
+    sed -e '1,/^Copyright/d' -e 's/^$/./' -e 's/^/ /' LICENSE | sed '1{/^ \.$/d}'
+  } > "$scratch/copyright"
+  put 644 "$scratch/copyright" "usr/share/doc/$1/copyright"
+}
+
+# pack PACKAGE ARCHITECTURE SECTION: makes a package of the root, with the fields that standard input has beside those
+# that all packages have.
+pack() {
+  local package=$folder/$1_${version}_$2.deb
+  put_copyright "$1"
+  {
+    echo "$1 ($version) unstable; urgency=medium"
+    echo
+    echo '  * What changed stands in NEWS.md of the package flow.'
+    echo
+    echo " -- $maintainer  $(date -R -u -d "@$SOURCE_DATE_EPOCH")"
+  } > "$scratch/changelog"
+  put 644 "$scratch/changelog" "usr/share/doc/$1/changelog"
+  find "$root/usr/share" \( -path '*/man/*' -o -name changelog -o -name NEWS.md \) -type f -print0 | xargs -0 gzip -9 -n
+  mkdir "$root/DEBIAN"
+  {
+    echo "Package: $1"
+    echo "Version: $version"
+    echo "Architecture: $2"
+    echo "Maintainer: $maintainer"
+    echo "Installed-Size: $(du -k -s "$root/usr" | cut -f 1)"
+    echo "Section: $3"
+    echo 'Priority: optional'
+    cat
+  } > "$root/DEBIAN/control"
+  (cd "$root" && find usr -type f -print0 | sort -z | xargs -0 md5sum) > "$root/DEBIAN/md5sums"
+  chmod 644 "$root/DEBIAN"/*
+  dpkg-deb --build --root-owner-group "$root" "$package" > /dev/null
+  echo "$package"
+}
+
+root=$scratch/flow
+cat > "$scratch/ports" << 'TEXT'
+           the contributors of clap
+           2015 Andrew Gallant
+           2015-2023 Ulrik Sverdrup "bluss"
+           2015 Danny Guo, 2016 Titus Wormer, 2018 Akash Kurdekar
+License: Expat
+Comment: The program contains ports of the Rust crates clap, memchr, arrayvec
+ and strsim, whose holders are named above, under the same licence.
+TEXT
+libc=$(libc_of "$program")
 put 755 "$program" usr/bin/flow
 strip --remove-section=.comment --remove-section=.note "$root/usr/bin/flow"
 put 644 man/flow.1 usr/share/man/man1/flow.1
@@ -44,50 +118,10 @@ put 644 CHANGELOG.md usr/share/doc/flow/NEWS.md
 find README.md docs examples -type f -not -path '*/out/*' -not -name '*.pyc' | while IFS= read -r page; do
   put 644 "$page" "usr/share/doc/flow/$page"
 done
-
-{
-  echo 'Format: https://www.debian.org/doc/packaging-manuals/copyright-format/1.0/'
-  echo 'Upstream-Name: flow'
-  echo
-  echo 'Files: *'
-  sed -n 's/^Copyright (c) /Copyright: /p' LICENSE
-  cat << 'TEXT'
-           the contributors of clap
-           2015 Andrew Gallant
-           2015-2023 Ulrik Sverdrup "bluss"
-           2015 Danny Guo, 2016 Titus Wormer, 2018 Akash Kurdekar
-License: Expat
-Comment: The program contains ports of the Rust crates clap, memchr, arrayvec
- and strsim, whose holders are named above, under the same licence.
-TEXT
-  echo
-  echo 'License: Expat'
-  sed -e '1,/^Copyright/d' -e 's/^$/./' -e 's/^/ /' LICENSE | sed '1{/^ \.$/d}'
-} > "$scratch/copyright"
-put 644 "$scratch/copyright" usr/share/doc/flow/copyright
 python3 scripts/package_pages.py "$root/usr/share/doc/flow"
-
-{
-  echo "flow ($version) unstable; urgency=medium"
-  echo
-  echo '  * What changed stands in NEWS.md.'
-  echo
-  echo " -- $maintainer  $(date -R -u -d "@$SOURCE_DATE_EPOCH")"
-} > "$scratch/changelog"
-put 644 "$scratch/changelog" usr/share/doc/flow/changelog
-gzip -9 -n "$root/usr/share/man/man1/flow.1" "$root/usr/share/doc/flow/changelog" "$root/usr/share/doc/flow/NEWS.md"
-
-size=$(du -k -s "$root" | cut -f 1)
-mkdir "$root/DEBIAN"
-cat > "$root/DEBIAN/control" <<TEXT
-Package: flow
-Version: $version
-Architecture: amd64
-Maintainer: $maintainer
-Installed-Size: $size
-Depends: libc6 (>= ${libc#GLIBC_})
-Section: math
-Priority: optional
+pack flow amd64 math << TEXT
+Depends: libc6 (>= $libc)
+Conflicts: libopm-simulators-bin
 Description: proved maximum flows, minimum cuts and edge connectivity
  Reads a network in the DIMACS maximum flow format and prints a maximum flow, a
  minimum cut or the edge connectivity, or checks the solution that another
@@ -96,9 +130,60 @@ Description: proved maximum flows, minimum cuts and edge connectivity
  Every number that it prints is proved, from the bytes that come in to the bytes
  that go out. It is written in Rattle, which is Rust with contracts.
 TEXT
-(cd "$root" && find usr -type f -print0 | sort -z | xargs -0 md5sum) > "$root/DEBIAN/md5sums"
-chmod 644 "$root/DEBIAN/control" "$root/DEBIAN/md5sums"
 
-package=$folder/flow_${version}_amd64.deb
-dpkg-deb --build --root-owner-group "$root" "$package" > /dev/null
-echo "$package"
+echo 'License: Expat' > "$scratch/ports"
+root=$scratch/libprovedflow0
+place=usr/lib/x86_64-linux-gnu
+libc=$(libc_of "$libraries/libprovedflow.so.0")
+put 644 "$libraries/libprovedflow.so.0" "$place/libprovedflow.so.0"
+pack libprovedflow0 amd64 libs << TEXT
+Depends: libc6 (>= $libc)
+Multi-Arch: same
+Description: proved maximum flows, minimum cuts and edge connectivity: library
+ Finds greatest flows, minimum cuts and the edge connectivity of networks that
+ lie in the arrays of a program, and checks flows.
+ .
+ Each function that it exports is proved to keep what its contract promises. It
+ is written in Rattle, which is Rust with contracts.
+TEXT
+
+root=$scratch/libprovedflow-dev
+put 644 c/provedflow.h usr/include/provedflow.h
+put 644 "$libraries/libprovedflow.a" "$place/libprovedflow.a"
+ln -s libprovedflow.so.0 "$root/$place/libprovedflow.so"
+cat > "$scratch/provedflow.pc" << TEXT
+prefix=/usr
+includedir=\${prefix}/include
+libdir=\${prefix}/lib/x86_64-linux-gnu
+
+Name: provedflow
+Description: proved maximum flows, minimum cuts and edge connectivity
+Version: $version
+Cflags: -I\${includedir}
+Libs: -L\${libdir} -lprovedflow
+TEXT
+put 644 "$scratch/provedflow.pc" "$place/pkgconfig/provedflow.pc"
+put 644 docs/C.md usr/share/doc/libprovedflow-dev/C.md
+python3 scripts/package_pages.py "$root/usr/share/doc/libprovedflow-dev"
+pack libprovedflow-dev amd64 libdevel << TEXT
+Depends: libprovedflow0 (= $version), libc6-dev
+Description: proved maximum flows, minimum cuts and edge connectivity: headers
+ The header for C99 and C++, the static library, and what pkg-config reads.
+TEXT
+
+root=$scratch/python3-provedflow
+for file in python/provedflow/*.py; do
+  put 644 "$file" "usr/lib/python3/dist-packages/provedflow/$(basename "$file")"
+done
+put 644 docs/PYTHON.md usr/share/doc/python3-provedflow/PYTHON.md
+python3 scripts/package_pages.py "$root/usr/share/doc/python3-provedflow"
+pack python3-provedflow all python << TEXT
+Depends: python3 (>= 3.9), libprovedflow0 (>= $version)
+Suggests: python3-numpy, python3-scipy, python3-networkx
+Description: proved maximum flows, minimum cuts and edge connectivity: Python
+ Greatest flows, minimum cuts and the edge connectivity of networks that lie in
+ lists or in NumPy's arrays, of SciPy's matrices, of NetworkX's graphs, and of
+ grids of pixels.
+TEXT
+
+python3 scripts/wheel.py "$folder" "$libraries/libprovedflow.so.0"

@@ -100,8 +100,15 @@ add limits python3 scripts/limits.py
 # The manual page and the completions say what the program's help says.
 add pages python3 scripts/pages.py crates/flow/out/flow
 
+# The library for C, its header against the crate's exports, and the package for Python over it.
+add header python3 scripts/header.py
+[ -f crates/flow_c/out/libflow_c.a ] || (cd crates/flow_c && rt lib > /dev/null) || exit 1
+bash scripts/library.sh "$folder/library" crates/flow_c/out/libflow_c.a > /dev/null || exit 1
+add library python3 scripts/try_library.py "$folder/library" crates/flow/out/flow
+add bindings python3 scripts/bindings.py "$folder/library/libprovedflow.so.0"
+
 # Each command that the documents show prints what they show.
-add documents python3 scripts/documents.py crates/flow/out/flow
+add documents python3 scripts/documents.py --library "$folder/library" crates/flow/out/flow
 
 # The generator and the runner of the benchmarks, on tiny problems.
 add bench python3 bench/smoke.py crates/flow/out/flow

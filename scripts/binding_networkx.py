@@ -1,32 +1,25 @@
-#!/usr/bin/env python3
-"""Tries `flow` as a flow function of NetworkX: by NetworkX's own tests, and side by side with its functions.
+"""`provedflow.networkx` by NetworkX's own tests, and side by side with its functions.
 
-    python3 examples/networkx/try_networkx.py [PROGRAM]
-
-PROGRAM is `flow`; else it is looked for as flow_networkx.py says. NetworkX's tests are those of the installed
-package, with `flow` in place of the flow functions that they try; a test counts where it calls `flow`. They want a
-few calls of `pytest`; where that isn't installed, those few are stood in for here. The last line is `networkx: N
-passed, M failed`, or `networkx: 0 passed, 0 failed, skipped: NetworkX isn't installed`.
+NetworkX's tests are those of the installed package, with `flow_func` in place of the flow functions that they try; a
+test counts where it calls it. They want a few calls of `pytest`; where that isn't installed, those few are stood in for
+here.
 """
 
 import contextlib
+import gc
 import importlib
+import importlib.util
 import inspect
-import os
 import random
 import sys
 import types
 from decimal import Decimal
 from fractions import Fraction
 
-try:
-    import networkx as nx
-except ImportError:
-    print("networkx: 0 passed, 0 failed, skipped: NetworkX isn't installed")
-    sys.exit(0)
+import networkx as nx
 
-import flow_networkx
-from flow_networkx import flow
+from provedflow import networkx as ours
+from provedflow.networkx import flow_func
 
 THEIR_TESTS = (
     "networkx.algorithms.flow.tests.test_maxflow",
@@ -37,42 +30,43 @@ THEIR_TESTS = (
     "networkx.algorithms.connectivity.tests.test_disjoint_paths",
 )
 REPLACED = ("boykov_kolmogorov", "dinitz", "edmonds_karp")
-"""NetworkX's functions that tests call by name with parameters that `flow` has too."""
+"""NetworkX's functions that tests call by name with parameters that `flow_func` has too."""
 NOT_OURS = {"TestMaxFlowMinCutInterface.test_minimum_cut_no_cutoff", "test_brandes_erlebach", "test_cutoff"}
 """Tests that ask of NetworkX 2 what it does with a cutoff for its own functions alone: it hands it to no other."""
 SEED = 1970
 
 
 class Count:
-    """What passed and what failed."""
+    """How many of NetworkX's own tests passed and failed."""
 
-    def __init__(self):
-        self.passed = 0
-        self.failed = 0
+    def __init__(self, checks):
+        self.checks, self.tried = checks, 0
 
-    def try_(self, name, test):
-        """Runs a test, and tells one that fails."""
+    def try_(self, name, test, calls=None):
+        """Runs a test, and counts it; with `calls` only where it made some, or failed."""
+        why = ""
         try:
             test()
-            self.passed += 1
         except KeyboardInterrupt:
             raise
         except BaseException as failure:  # pytest's own failures are no Exceptions
-            self.failed += 1
-            print(f"networkx: {name} failed: {type(failure).__name__}: {failure}")
+            why = f"{type(failure).__name__}: {failure}"
+        if calls is None or calls or why:
+            self.tried += 1
+            self.checks.true(name, not why, why)
 
 
 def their_tests(count):
-    """NetworkX's own tests, with `flow` in place of its functions."""
+    """NetworkX's own tests, with `flow_func` in place of its functions."""
     if importlib.util.find_spec("pytest") is None:
         sys.modules["pytest"] = stand_in_for_pytest()
     calls = []
 
     def counted(*words, **named):
         calls.append(words)
-        return flow(*words, **named)
+        return flow_func(*words, **named)
 
-    counted.__name__ = "flow"
+    counted.__name__ = "flow_func"
     for name in THEIR_TESTS:
         module = importlib.import_module(name)
         module.flow_funcs = [counted]
@@ -83,12 +77,8 @@ def their_tests(count):
         for test_name, test in tests_of(module):
             if nx.__version__.startswith("2.") and test_name in NOT_OURS:
                 continue
-            before = Count()
             calls.clear()
-            before.try_(f"{name}.{test_name}", test)
-            if calls:
-                count.passed += before.passed
-                count.failed += before.failed
+            count.try_(f"{name}.{test_name}", test, calls)
 
 
 def tests_of(module):
@@ -148,21 +138,29 @@ def raising(expected):
 
 
 def side_by_side(graph, s, t, capacity="capacity"):
-    """All four calls of NetworkX answer the same by `flow` as by NetworkX's own function."""
+    """All four calls of NetworkX answer the same by `flow_func` as by NetworkX's own function, and so do the calls of
+    the package."""
     try:
         value, (_, sink_side) = nx.minimum_cut(graph, s, t, capacity=capacity)
     except nx.NetworkXUnbounded:
         for call in (nx.maximum_flow, nx.maximum_flow_value, nx.minimum_cut, nx.minimum_cut_value):
-            raises(nx.NetworkXUnbounded, call, graph, s, t, capacity=capacity, flow_func=flow)
+            raises(nx.NetworkXUnbounded, call, graph, s, t, capacity=capacity, flow_func=flow_func)
+        for call in (ours.maximum_flow, ours.minimum_cut):
+            raises(nx.NetworkXUnbounded, call, graph, s, t, capacity)
         return
-    found, flows = nx.maximum_flow(graph, s, t, capacity=capacity, flow_func=flow)
+    found, flows = nx.maximum_flow(graph, s, t, capacity=capacity, flow_func=flow_func)
     assert found == value, (found, value)
-    assert nx.maximum_flow_value(graph, s, t, capacity=capacity, flow_func=flow) == value
-    assert nx.minimum_cut_value(graph, s, t, capacity=capacity, flow_func=flow) == value
+    assert nx.maximum_flow_value(graph, s, t, capacity=capacity, flow_func=flow_func) == value
+    assert nx.minimum_cut_value(graph, s, t, capacity=capacity, flow_func=flow_func) == value
     # NetworkX tells the minimum cut of the least sink side, which the graph alone determines.
     sides = set(graph) - sink_side, sink_side
-    assert nx.minimum_cut(graph, s, t, capacity=capacity, flow_func=flow) == (value, sides)
+    assert nx.minimum_cut(graph, s, t, capacity=capacity, flow_func=flow_func) == (value, sides)
+    assert ours.minimum_cut(graph, s, t, capacity) == (value, sides)
     assert_feasible(graph, s, t, capacity, value, flows)
+    found, flows = ours.maximum_flow(graph, s, t, capacity)
+    assert found == value, (found, value)
+    assert_feasible(graph, s, t, capacity, value, flows)
+    assert all(not flows[v].get(u) for u, row in flows.items() for v, amount in row.items() if u != v and amount)
 
 
 def assert_feasible(graph, s, t, capacity, value, flows):
@@ -225,11 +223,11 @@ def infinite_capacities():
 def refused_graphs():
     for kind in (nx.MultiGraph, nx.MultiDiGraph):
         graph = kind([(0, 1), (0, 1)])
-        raises(nx.NetworkXError, nx.maximum_flow, graph, 0, 1, flow_func=flow)
+        raises(nx.NetworkXError, nx.maximum_flow, graph, 0, 1, flow_func=flow_func)
     graph = nx.DiGraph([(0, 1)])
-    raises(nx.NetworkXError, flow, graph, 0, 0)
-    raises(nx.NetworkXError, flow, graph, 0, 2)
-    raises(nx.NetworkXError, flow, graph, 2, 0)
+    raises(nx.NetworkXError, flow_func, graph, 0, 0)
+    raises(nx.NetworkXError, flow_func, graph, 0, 2)
+    raises(nx.NetworkXError, flow_func, graph, 2, 0)
 
 
 def great_capacities():
@@ -237,10 +235,10 @@ def great_capacities():
     graph = nx.DiGraph()
     nx.add_path(graph, "sat", capacity=10 ** 21)
     graph.add_edge("s", "t", capacity=2 ** 64)
-    assert nx.maximum_flow_value(graph, "s", "t", flow_func=flow) == 10 ** 21 + 2 ** 64
+    assert nx.maximum_flow_value(graph, "s", "t", flow_func=flow_func) == 10 ** 21 + 2 ** 64
     side_by_side(graph, "s", "t")
     graph["s"]["t"]["capacity"] = 10 ** 30
-    raises(nx.NetworkXError, flow, graph, "s", "t")
+    raises(nx.NetworkXError, flow_func, graph, "s", "t")
 
 
 def kinds_of_answers():
@@ -256,12 +254,12 @@ def kinds_of_answers():
         graph = nx.DiGraph()
         for node, amount in enumerate(amounts):
             nx.add_path(graph, ("s", node, "t"), capacity=amount)
-        found = nx.maximum_flow_value(graph, "s", "t", flow_func=flow)
+        found = nx.maximum_flow_value(graph, "s", "t", flow_func=flow_func)
         assert found == value and type(found) is kind, (amounts, found)
     graph = nx.DiGraph()
     nx.add_path(graph, "sat", capacity=1e300)
     nx.add_path(graph, "sbt", capacity=1e-300)
-    raises(nx.NetworkXError, flow, graph, "s", "t")
+    raises(nx.NetworkXError, flow_func, graph, "s", "t")
 
 
 def cut_of_floats_is_exact():
@@ -272,7 +270,7 @@ def cut_of_floats_is_exact():
     graph.add_edge("a", "c")
     graph.add_edge("b", "c")
     graph.add_edge("c", "t", capacity=0.3)
-    assert nx.minimum_cut(graph, "s", "t", flow_func=flow) == (0.3, ({"s", "a", "b", "c"}, {"t"}))
+    assert nx.minimum_cut(graph, "s", "t", flow_func=flow_func) == (0.3, ({"s", "a", "b", "c"}, {"t"}))
 
 
 def almost_full_edge_is_not_full():
@@ -282,7 +280,7 @@ def almost_full_edge_is_not_full():
         graph.add_edge("s", node, capacity=amount)
         graph.add_edge(node, "d")
     graph.add_edge("d", "t", capacity=1 + 2.0 ** -52)
-    assert nx.minimum_cut(graph, "s", "t", flow_func=flow) == (1 + 2.0 ** -52, ({"s"}, set("abcdt")))
+    assert nx.minimum_cut(graph, "s", "t", flow_func=flow_func) == (1 + 2.0 ** -52, ({"s"}, set("abcdt")))
 
 
 def cutoffs():
@@ -290,7 +288,7 @@ def cutoffs():
     nx.set_edge_attributes(graph, 3, "capacity")
     # By hand: the value is 12, four edges of 3 at node 0.
     for cutoff, value in ((None, 12), (float("inf"), 12), (20, 12), (7, 7), (6.5, 7), (0, 0), (-1, 0)):
-        assert nx.maximum_flow_value(graph, 0, 4, flow_func=flow, cutoff=cutoff) == value, cutoff
+        assert nx.maximum_flow_value(graph, 0, 4, flow_func=flow_func, cutoff=cutoff) == value, cutoff
 
 
 def residual_network():
@@ -298,25 +296,74 @@ def residual_network():
     graph.add_edge("s", "a", capacity=3)
     graph.add_edge("a", "s", capacity=1)
     graph.add_edge("a", "t", capacity=2)
-    R = flow(graph, "s", "t")
-    assert flow(graph, "s", "t", residual=R) is R
+    R = flow_func(graph, "s", "t")
+    assert flow_func(graph, "s", "t", residual=R) is R
     assert set(R.edges) == {("s", "a"), ("a", "s"), ("a", "t"), ("t", "a")}
-    assert R.graph == {"inf": 18, "flow_value": 2, "algorithm": "flow"}
+    assert R.graph == {"inf": 18, "flow_value": 2, "algorithm": "flow_func"}
     assert all(R[u][v]["flow"] == -R[v][u]["flow"] for u, v in R.edges)
     assert R["s"]["a"] == {"capacity": 3, "flow": 2} and R["t"]["a"] == {"capacity": 0, "flow": -2}
 
 
-def missing_program():
-    raises((nx.NetworkXError, OSError), flow, nx.DiGraph([(0, 1, {"capacity": 1})]), 0, 1, program="/no/such/program")
+def connectivity_of_graphs():
+    """`edge_connectivity` answers what NetworkX's does, for graphs and for a pair of nodes."""
+    chance = random.Random(SEED)
+    for number in range(80):
+        graph = random_graph(chance, (nx.DiGraph, nx.Graph)[number % 2], (1,))
+        graph.remove_edges_from(list(nx.selfloop_edges(graph)))
+        assert ours.edge_connectivity(graph) == nx.edge_connectivity(graph), sorted(graph.edges)
+        assert ours.edge_connectivity(graph, 0, 1) == nx.edge_connectivity(graph, 0, 1), sorted(graph.edges)
+    # By hand: a ring of five has two ways between any two nodes; of three parallel edges each counts.
+    assert ours.edge_connectivity(nx.cycle_graph(5)) == 2
+    assert ours.edge_connectivity(nx.MultiGraph([(0, 1)] * 3)) == 3
+    assert ours.edge_connectivity(nx.empty_graph(1)) == 0
+    raises(nx.NetworkXPointlessConcept, ours.edge_connectivity, nx.Graph())
+    for ends in ((0, 0), (0, 9), (0, None)):
+        raises(nx.NetworkXError, ours.edge_connectivity, nx.cycle_graph(5), *ends)
 
 
-def main():
-    if len(sys.argv) > 1:
-        os.environ["FLOW"] = os.path.abspath(sys.argv[1])
-    flow_networkx.find_program()
-    count = Count()
+def capacities_that_are_none():
+    """What is no number is told with its edge, whoever asks."""
+    for amount, word in ((None, "None"), ("7", "'7'"), (float("nan"), "nan"), ([], "[]"), (1j, "1j"),
+                         (Decimal("nan"), "Decimal('NaN')")):
+        graph = nx.DiGraph([("s", "t", {"capacity": 1}), ("s", "a", {"capacity": amount})])
+        for call in (ours.maximum_flow, ours.minimum_cut, flow_func):
+            try:
+                call(graph, "s", "t")
+            except nx.NetworkXError as failure:
+                assert "('s', 'a')" in str(failure) and word in str(failure), (call, failure)
+            else:
+                raise AssertionError(f"{amount!r} was taken")
+
+
+def collector_of_garbage():
+    """The collector runs again after a call, and after one that failed; and stays off where it was off."""
+    graph = nx.DiGraph([(0, 1, {"capacity": 1})])
+    bad = nx.DiGraph([(0, 1, {"capacity": None})])
+    for call in (ours.maximum_flow, ours.minimum_cut, flow_func):
+        for running in (True, False):
+            (gc.enable if running else gc.disable)()
+            try:
+                call(graph, 0, 1)
+                assert gc.isenabled() == running
+                raises(nx.NetworkXError, call, bad, 0, 1)
+                assert gc.isenabled() == running
+            finally:
+                gc.enable()
+
+
+def too_large_graphs():
+    """More nodes than fit are told before anything is solved."""
+    graph = nx.empty_graph(1_000_001, create_using=nx.DiGraph)
+    for call in (ours.maximum_flow, ours.minimum_cut, ours.edge_connectivity):
+        raises(nx.NetworkXError, call, graph, 0, 1)
+
+
+def check_all(checks):
+    """All trials of this file."""
+    count = Count(checks)
     their_tests(count)
-    print(f"networkx: {count.passed} of NetworkX's own tests passed, {count.failed} failed (NetworkX {nx.__version__})")
+    checks.true("NetworkX's own tests were found", count.tried > 20, f"only {count.tried} of them call a flow function")
+    print(f"bindings: {count.tried} of NetworkX's own tests call a flow function (NetworkX {nx.__version__})")
     whole, halves = (0, 1, 2, 3, 5, 8, 10 ** 12, -1), (0.0, 0.25, 0.5, 1.5, 3, -0.5)
     count.try_("random directed graphs", lambda: random_graphs(nx.DiGraph, whole))
     count.try_("random undirected graphs", lambda: random_graphs(nx.Graph, whole))
@@ -324,11 +371,5 @@ def main():
     count.try_("random graphs of fractions", lambda: random_graphs(nx.Graph, (Fraction(1, 3), Fraction(5, 7), 2)))
     for test in (nodes_of_any_kind, attribute_of_another_name, infinite_capacities, refused_graphs, great_capacities,
                  kinds_of_answers, cut_of_floats_is_exact, almost_full_edge_is_not_full, cutoffs, residual_network,
-                 missing_program):
+                 connectivity_of_graphs, capacities_that_are_none, collector_of_garbage, too_large_graphs):
         count.try_(test.__name__.replace("_", " "), test)
-    print(f"networkx: {count.passed} passed, {count.failed} failed")
-    sys.exit(1 if count.failed else 0)
-
-
-if __name__ == "__main__":
-    main()

@@ -1,0 +1,30 @@
+"""Maximum flows, minimum cuts and edge connectivity, by a solver that is proved.
+
+    >>> import provedflow
+    >>> provedflow.maximum_flow([0, 0, 1, 1, 2], [1, 2, 2, 3, 3], [3, 2, 1, 2, 3], 0, 3)
+    Flow(value=5, flows=[3, 2, 1, 2, 3])
+
+A network is given by arrays: arc i leads from node src[i] to node dst[i] and may carry up to capacities[i] units.
+Nodes are the numbers from 0 on. Parallel and opposite arcs, self-loops, arcs into a source and out of a sink are
+accepted, and so are several sources and sinks. Limits: 2 to 1,000,000 nodes, at most 8,000,000 arcs, or 4,000,000 where
+links are counted, capacities from 0 to 18,446,744,073,709,551,615 (2^64 - 1). A value is an int of any size.
+
+An array is a NumPy array of integers, another object with a buffer of machine integers (as array.array), or any
+sequence of ints. Answers are NumPy arrays where one of the arrays is, and else lists. A contiguous array of 32 bits for
+ends and of 64 bits for capacities and flows is read where it lies, with no copy; other kinds of integers are converted,
+and nothing is ever rounded or wrapped around. While a call runs, no other thread may write its arrays; calls on
+different arrays may run at once, and other Python threads go on meanwhile.
+
+`provedflow.scipy`, `provedflow.networkx` and `provedflow.pixels` take sparse matrices, graphs and pictures. The work is
+done by the C library libprovedflow.so.0, which is looked for where the environment variable PROVEDFLOW_LIBRARY says,
+then beside this package, then where the system looks for libraries. What is proved of its answers, and what isn't,
+stands in the project's README.
+"""
+
+from provedflow.calls import Cut, Flow, Verdict, check, edge_connectivity, maximum_flow, minimum_cut
+from provedflow.library import (
+    GREATEST_CAPACITY, MOST_ARCS, MOST_LINKS, MOST_NODES, FlowError, LibraryNotFound)
+
+__all__ = ["Cut", "Flow", "FlowError", "GREATEST_CAPACITY", "LibraryNotFound", "MOST_ARCS", "MOST_LINKS", "MOST_NODES",
+           "Verdict", "check", "edge_connectivity", "maximum_flow", "minimum_cut"]
+__version__ = "0.1.0"

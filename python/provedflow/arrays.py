@@ -1,0 +1,120 @@
+"""Arrays of machine integers, as the C library reads and writes them, out of what Python has.
+
+NumPy is never imported here: an array of it can be handed in only where it is loaded.
+"""
+
+import array
+import operator
+import sys
+
+from provedflow.library import GREATEST_CAPACITY, FlowError
+
+NODE, AMOUNT = "I", "Q"
+"""The kinds of elements, as the module array names them: of 32 bits for nodes, of 64 for capacities and flows."""
+BYTES = {NODE: 4, AMOUNT: 8}
+GREATEST = {NODE: 2 ** 32 - 1, AMOUNT: GREATEST_CAPACITY}
+TYPES = {NODE: "uint32", AMOUNT: "uint64", "B": "uint8"}
+
+
+def numpy_of(things):
+    """The module NumPy, if one of these is an array of it; else None."""
+    numpy = sys.modules.get("numpy")
+    return numpy if numpy and any(isinstance(thing, numpy.ndarray) for thing in things) else None
+
+
+class Lent:
+    """A list that the library reads or writes: its address, its length, and what keeps the memory in being."""
+
+    __slots__ = ("address", "length", "keeper")
+
+    def __init__(self, keeper):
+        self.keeper = keeper
+        if isinstance(keeper, array.array):
+            self.address, self.length = keeper.buffer_info()
+        else:
+            self.address, self.length = keeper.ctypes.data, keeper.size
+        # An empty list has no memory, and the library wants an address that is aligned and not 0.
+        self.address = self.address if self.length else 8
+
+
+def read(thing, kind, name):
+    """The elements of an array or a sequence, as a list for the library.
+
+    Raises TypeError where an element isn't a whole number, and FlowError where one is out of range or the array has
+    more than one axis.
+    """
+    numpy = sys.modules.get("numpy")
+    if numpy and isinstance(thing, numpy.ndarray):
+        return Lent(read_numpy(numpy, thing, kind, name))
+    if isinstance(thing, (str, bytes)):
+        raise TypeError(f"{name} has to be an array or a sequence of whole numbers, and is a text")
+    if isinstance(thing, array.array) and thing.typecode == kind:
+        return Lent(thing)
+    if isinstance(thing, (memoryview, array.array)):
+        thing = list(thing)
+    try:
+        return Lent(array.array(kind, thing))
+    except (TypeError, OverflowError, ValueError):
+        complain(thing, kind, name)
+        raise
+
+
+def complain(thing, kind, name):
+    """Tells the first element that can't be taken."""
+    try:
+        elements = enumerate(thing)
+    except TypeError:
+        raise TypeError(f"{name} has to be an array or a sequence of whole numbers, and is {thing!r}") from None
+    for place, element in elements:
+        try:
+            number = operator.index(element)
+        except TypeError:
+            raise TypeError(f"{name}[{place}] has to be a whole number, and is {element!r}") from None
+        if not 0 <= number <= GREATEST[kind]:
+            raise out_of_range(f"{name}[{place}]", number, kind) from None
+
+
+def out_of_range(place, number, kind):
+    """The error about a number that is too small or too great."""
+    what = "a node" if kind == NODE else f"a whole number from 0 to {GREATEST_CAPACITY}"
+    return FlowError(f"{place} has to be {what}, and is {number}")
+
+
+def read_numpy(numpy, thing, kind, name):
+    """The same of a NumPy array: itself where its elements lie as the library reads them, else a converted copy."""
+    if thing.ndim != 1:
+        raise FlowError(f"{name} has to have one axis, and has the shape {thing.shape}")
+    if thing.dtype.kind == "O":
+        return numpy.frombuffer(read(thing.tolist(), kind, name).keeper, TYPES[kind])
+    if thing.dtype.kind not in "iu":
+        raise TypeError(f"{name} has to have whole numbers, and is an array of {thing.dtype}")
+    if thing.size and thing.dtype.kind == "i" and thing.min() < 0:
+        place = int(thing.argmin())
+        raise out_of_range(f"{name}[{place}]", int(thing[place]), kind)
+    if thing.dtype.itemsize > BYTES[kind] and thing.size and thing.max() > GREATEST[kind]:
+        place = int(thing.argmax())
+        raise out_of_range(f"{name}[{place}]", int(thing[place]), kind)
+    fits = thing.dtype.itemsize == BYTES[kind] and thing.dtype.isnative
+    if fits and thing.flags.c_contiguous and thing.flags.aligned:
+        return thing
+    return numpy.ascontiguousarray(thing, TYPES[kind])
+
+
+def room(numpy, kind, length):
+    """A list for the library to write: a NumPy array where there is that module, else an array of Python."""
+    if numpy:
+        return Lent(numpy.empty(length, TYPES[kind]))
+    return Lent(array.array(kind, bytes(length * array.array(kind).itemsize)))
+
+
+def answer(lent):
+    """What the library has written, as an answer to the caller."""
+    return lent.keeper.tolist() if isinstance(lent.keeper, array.array) else lent.keeper
+
+
+def terminals(thing, name):
+    """The nodes of a terminal or of several, as a list for the library."""
+    try:
+        return read([operator.index(thing)], NODE, name)
+    except TypeError:
+        return read(thing, NODE, name)

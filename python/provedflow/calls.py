@@ -1,0 +1,233 @@
+"""The four calls, over arrays."""
+
+import ctypes
+import operator
+from collections import namedtuple
+
+from provedflow.arrays import AMOUNT, NODE, Lent, answer, numpy_of, read, room, terminals
+from provedflow.library import (
+    ARC, MEMORY, MOST_ARCS, MOST_LINKS, MOST_NODES, OK, TERMINALS, FlowError, library)
+
+Flow = namedtuple("Flow", "value flows")
+Flow.__doc__ = """A flow of the greatest value."""
+Flow.value.__doc__ = """The value, an int."""
+Flow.flows.__doc__ = """What each arc carries, in the order of the arcs: 64 bits each, or a list of ints."""
+
+Cut = namedtuple("Cut", "value side flows")
+Cut.__doc__ = """A minimum cut, with a flow of the same value."""
+Cut.value.__doc__ = """The capacity of the arcs that lead from the sources' side to the other, an int."""
+Cut.side.__doc__ = """For each node whether it lies on the sources' side: an array of bool, or a list of bools."""
+Cut.flows.__doc__ = """What each arc carries in a flow of the greatest value."""
+
+Verdict = namedtuple("Verdict", "word value place")
+Verdict.__doc__ = """What is to be said of a flow."""
+Verdict.word.__doc__ = """'greatest', 'feasible', 'over' or 'unbalanced'."""
+Verdict.value.__doc__ = """The value of a feasible flow, an int, negative where more comes into the sources than leaves
+them; else None."""
+Verdict.place.__doc__ = """The first arc that carries too much, or the first node that is unbalanced; else None."""
+
+WORDS = ("greatest", "feasible", "over", "unbalanced")
+"""The verdicts by their numbers."""
+
+
+def maximum_flow(src, dst, capacities, sources, sinks, nodes=None):
+    """Finds the greatest value of a flow from the sources to the sinks, and such a flow.
+
+    - src, dst: the two ends of each arc, nodes from 0; arrays of one length, the number of arcs.
+    - capacities: how much each arc may carry, from 0 to 2^64 - 1, in any unit; an array of the same length.
+    - sources, sinks: a node, or an array of different nodes; no node is both.
+    - nodes: how many nodes there are; else one more than the greatest that is named, and at least 2.
+
+    Answers Flow(value, flows). Takes some 100 bytes for each arc while it runs.
+
+    Raises FlowError (a ValueError) where that is no network with its terminals, TypeError where something isn't a whole
+    number, MemoryError, and LibraryNotFound.
+
+    >>> maximum_flow([0, 0, 1], [1, 1, 2], [2 ** 64 - 1, 5, 2 ** 63], 0, 2)
+    Flow(value=9223372036854775808, flows=[9223372036854775808, 0, 9223372036854775808])
+    """
+    given = Network(src, dst, sources, sinks, nodes, capacities)
+    flows, words = room(given.numpy, AMOUNT, given.arcs), Words()
+    given.ask("provedflow_flow_lists", *given.lists(), flows, *words.addresses())
+    return Flow(words.value(), answer(flows))
+
+
+def minimum_cut(src, dst, capacities, sources, sinks, nodes=None, *, nearest="sources"):
+    """Finds a minimum cut between the sources and the sinks: the parameters are those of `maximum_flow`.
+
+    Where there are several, it is the one nearest the sources, whose sources' side lies within that of each other; with
+    nearest="sinks" the one nearest the sinks.
+
+    Answers Cut(value, side, flows). Raises what `maximum_flow` raises.
+
+    >>> minimum_cut([0, 1, 2], [1, 2, 3], [4, 1, 1], 0, 3)
+    Cut(value=1, side=[True, True, False, False], flows=[1, 1, 1])
+    >>> minimum_cut([0, 1, 2], [1, 2, 3], [4, 1, 1], 0, 3, nearest="sinks").side
+    [True, True, True, False]
+    """
+    if nearest not in ("sources", "sinks"):
+        raise ValueError(f"nearest has to be 'sources' or 'sinks', and is {nearest!r}")
+    given = Network(src, dst, sources, sinks, nodes, capacities)
+    flows, words = room(given.numpy, AMOUNT, given.arcs), Words()
+    side = room(given.numpy, "B", given.nodes)
+    given.ask("provedflow_cut_lists", *given.lists(), int(nearest == "sinks"), flows, side, *words.addresses())
+    marks = answer(side)
+    return Cut(words.value(), marks.view("bool") if given.numpy else list(map(bool, marks)), answer(flows))
+
+
+def edge_connectivity(src, dst, nodes=None, *, sources=None, sinks=None, directed=True):
+    """Finds how many arcs have to go before some node is cut off from another.
+
+    It is the least number of arcs that leave a set of nodes that is neither empty nor all. With sources and sinks it is
+    how many have to go before every sink is cut off from every source: only sets count that have all sources inside and
+    all sinks outside. With directed=False arcs have no direction: those count that have exactly one end in the set.
+
+    - src, dst, nodes: as of `maximum_flow`; there are no capacities, each of parallel arcs counts, and there are
+      at most 4,000,000 arcs.
+    - sources, sinks: a node or an array of nodes each, or both left out.
+
+    Answers an int. Raises what `maximum_flow` raises.
+
+    >>> edge_connectivity([0, 1, 2, 0], [1, 2, 0, 1])
+    1
+    >>> edge_connectivity([0, 1, 2, 0], [1, 2, 0, 1], directed=False)
+    2
+    >>> edge_connectivity([0, 1, 2, 0], [1, 2, 0, 1], sources=0, sinks=1)
+    2
+    """
+    pair = sources is not None or sinks is not None
+    if pair and (sources is None or sinks is None):
+        raise ValueError("sources and sinks have to be named both, or neither")
+    given = Network(src, dst, sources if pair else (), sinks if pair else (), nodes)
+    links = ctypes.c_uint64()
+    given.ask("provedflow_links_lists", *given.lists(), int(not directed), int(pair), ctypes.addressof(links))
+    return links.value
+
+
+def check(src, dst, capacities, sources, sinks, flows, nodes=None):
+    """Says of a flow, wherever it comes from, whether it is one of the greatest value.
+
+    - flows: what each arc carries, whole numbers from 0 to 2^64 - 1; an array as long as src.
+    - the others: as of `maximum_flow`.
+
+    Answers Verdict(word, value, place). Its word is the first of these that applies: 'over' where an arc carries more
+    than its capacity, 'unbalanced' where what comes into a node that is no terminal isn't what leaves it, 'feasible'
+    where another flow has a greater value, 'greatest'. The place of the first two is an arc and a node. Raises what
+    `maximum_flow` raises.
+
+    >>> check([0, 1], [1, 2], [4, 3], 0, 2, [3, 3])
+    Verdict(word='greatest', value=3, place=None)
+    >>> check([0, 1], [1, 2], [4, 3], 0, 2, [2, 1])
+    Verdict(word='unbalanced', value=None, place=1)
+    """
+    given = Network(src, dst, sources, sinks, nodes, capacities, read(flows, AMOUNT, "flows"))
+    verdict, words = ctypes.c_uint32(), Words()
+    given.ask("provedflow_check_lists", *given.lists(), ctypes.addressof(verdict), *words.addresses())
+    word = WORDS[verdict.value]
+    if word in ("greatest", "feasible"):
+        return Verdict(word, words.signed_value(), None)
+    return Verdict(word, None, words.value())
+
+
+class Words:
+    """The two words of a value, for the library to write."""
+
+    def __init__(self):
+        self.words = (ctypes.c_uint64 * 2)()
+
+    def addresses(self):
+        """Where the upper and the lower word lie."""
+        first = ctypes.addressof(self.words)
+        return first, first + 8
+
+    def value(self):
+        """The value, an int."""
+        return (self.words[0] << 64) + self.words[1]
+
+    def signed_value(self):
+        """The value, an int that may be negative: the words are those of 128 bits in two's complement."""
+        return self.value() - (self.words[0] >> 63 << 128)
+
+
+class Network:
+    """The lists of a call."""
+
+    def __init__(self, src, dst, sources, sinks, nodes, capacities=None, flows=None):
+        given = (src, dst, sources, sinks) + (() if capacities is None else (capacities,))
+        self.numpy = numpy_of(given)
+        self.src, self.dst = read(src, NODE, "src"), read(dst, NODE, "dst")
+        self.capacities = None if capacities is None else read(capacities, AMOUNT, "capacities")
+        self.flows = flows
+        self.sources, self.sinks = terminals(sources, "sources"), terminals(sinks, "sinks")
+        self.arcs = self.src.length
+        self.nodes = self.count_nodes() if nodes is None else operator.index(nodes)
+        self.check_lengths()
+
+    def lists(self):
+        """The lists as the library takes them, with the number of nodes before them."""
+        arcs = [self.src, self.dst, *([] if self.capacities is None else [self.capacities])]
+        return [self.nodes, *arcs, self.sources, self.sinks, *([] if self.flows is None else [self.flows])]
+
+    def count_nodes(self):
+        """One more than the greatest node that is named, and at least 2."""
+        return max([2] + [1 + int(max_of(ends)) for ends in (self.src, self.dst, self.sources, self.sinks)])
+
+    def check_lengths(self):
+        """Sees that the lists fit each other and the limits, so that what the library is told is so."""
+        lengths = {"dst": self.dst.length}
+        if self.capacities is not None:
+            lengths["capacities"] = self.capacities.length
+        if self.flows is not None:
+            lengths["flows"] = self.flows.length
+        for name, length in lengths.items():
+            if length != self.arcs:
+                raise FlowError(f"src has {self.arcs} elements and {name} has {length}; both have one for each arc")
+        most = MOST_LINKS if self.capacities is None else MOST_ARCS
+        if self.arcs > most:
+            raise FlowError(f"there are {self.arcs} arcs, and at most {most} are taken")
+        if not 2 <= self.nodes <= MOST_NODES:
+            raise FlowError(f"there are {self.nodes} nodes, and 2 to {MOST_NODES} are taken")
+
+    def ask(self, name, *words):
+        """Calls the library, and raises what it refuses."""
+        flat = []
+        for word in words:
+            flat += [word.address, word.length] if isinstance(word, Lent) else [word]
+        status = getattr(library(), name)(*flat)
+        if status == MEMORY:
+            raise MemoryError("there isn't enough memory for this network")
+        if status == ARC:
+            raise FlowError(self.bad_arc())
+        if status == TERMINALS:
+            raise FlowError(self.bad_terminal())
+        if status != OK:
+            raise FlowError(f"the library refuses the network with status {status}")
+
+    def bad_arc(self):
+        """What is wrong with the first arc that has an end that is no node."""
+        for place, ends in enumerate(zip(self.src.keeper, self.dst.keeper)):
+            for name, node in zip(("src", "dst"), ends):
+                if node >= self.nodes:
+                    return f"{name}[{place}] is {node}, and the nodes are 0 to {self.nodes - 1}"
+        return "an end of an arc is no node"
+
+    def bad_terminal(self):
+        """What is wrong with the first terminal that can't be taken."""
+        seen = {}
+        for name, lent in (("sources", self.sources), ("sinks", self.sinks)):
+            if not lent.length:
+                return f"there are no {name}"
+            for place, node in enumerate(lent.keeper.tolist()):
+                if node >= self.nodes:
+                    return f"{name}[{place}] is {node}, and the nodes are 0 to {self.nodes - 1}"
+                if node in seen:
+                    return f"{name}[{place}] is {node}, and so is {seen[node]}; no node may stand there twice"
+                seen[node] = f"{name}[{place}]"
+        return "a source or a sink can't be taken"
+
+
+def max_of(lent):
+    """The greatest element of a list, or 0."""
+    if not lent.length:
+        return 0
+    return lent.keeper.max() if hasattr(lent.keeper, "max") else max(lent.keeper)

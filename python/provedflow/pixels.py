@@ -1,0 +1,205 @@
+"""Minimum cuts of grids of pixels and voxels: NumPy arrays of weights in, a mask out.
+
+    import numpy as np
+    from provedflow.pixels import Grid
+
+    grid = Grid(picture.shape, neighbours=8)
+    grid.join(lambda here, there, step: 100 // (1 + (here - there) ** 2), of=picture)
+    grid.add_terminals(sources, sinks)
+    value, mask = grid.cut()
+
+A grid has any number of axes. Each pixel is joined with neighbours by edges, and with two terminals, the source and the
+sink. A cut puts each pixel on one of two sides, and costs the weights of the edges between the sides: the mask is true
+for the pixels on the sink's side, as with PyMaxflow. Weights are whole numbers from 0 to 2^64 - 1.
+
+A pixel's weights to both terminals cost one arc: the lesser of the two is paid by every cut, so it is added to the
+value, and only what the other is more becomes an arc. So a grid takes one arc for each pixel and two for each pair of
+neighbours: of 8,000,000 arcs and 1,000,000 nodes there is room for 1,000 x 999 pixels with 4 neighbours, 940 x 940 with
+8, 99 x 99 x 99 voxels with 6, and 67 x 67 x 67 with 26.
+"""
+
+import operator
+from collections import namedtuple
+from itertools import product
+from math import prod
+
+import numpy as np
+
+from provedflow.calls import minimum_cut
+from provedflow.library import GREATEST_CAPACITY, MOST_ARCS, MOST_NODES
+
+Cut = namedtuple("Cut", "value mask")
+Cut.value.__doc__ = """What the cut costs, an int."""
+Cut.mask.__doc__ = """An array of bool in the grid's shape: true for a pixel on the sink's side."""
+
+NEIGHBOURS = {(1, 2): 1, (2, 4): 1, (2, 8): 2, (3, 6): 1, (3, 18): 2, (3, 26): 3}
+"""How many axes a step to a neighbour may go along, by the number of axes and the number of neighbours."""
+
+
+def steps(axes, neighbours):
+    """One step for each pair of neighbours, as a tuple of -1, 0 and 1 for the axes, in the order of the axes.
+
+    - axes: how many axes a grid has.
+    - neighbours: 2 for a row, 4 or 8 for a picture, 6, 18 or 26 for a volume. Raises ValueError for others.
+
+    >>> steps(2, 8)
+    [(0, 1), (1, -1), (1, 0), (1, 1)]
+    """
+    if (axes, neighbours) not in NEIGHBOURS:
+        known = ", ".join(str(number) for count, number in NEIGHBOURS if count == axes) or "none"
+        raise ValueError(f"a grid of {axes} axes with {neighbours} neighbours isn't known here ({known})")
+    all_steps = [step for step in product((-1, 0, 1), repeat=axes) if step > (0,) * axes]
+    return [step for step in all_steps if sum(map(abs, step)) <= NEIGHBOURS[axes, neighbours]]
+
+
+def pairs(pixels, step):
+    """Two views of an array: the pixels that have a neighbour at a step, and these neighbours, in the same order.
+
+    >>> here, there = pairs(np.arange(6).reshape(2, 3), (0, 1))
+    >>> here.tolist(), there.tolist()
+    ([[0, 1], [3, 4]], [[1, 2], [4, 5]])
+    """
+    here = tuple(slice(max(0, -part), min(size, size - part)) for size, part in zip(pixels.shape, step))
+    there = tuple(slice(max(0, part), min(size, size + part)) for size, part in zip(pixels.shape, step))
+    return pixels[here], pixels[there]
+
+
+class Grid:
+    """A grid of pixels, with edges between neighbours and to the two terminals.
+
+    - shape: how many pixels there are along each axis.
+    - neighbours: how many neighbours a pixel has: 2 in a row, 4 or 8 in a picture, 6, 18 or 26 in a volume; else edges
+      are joined step by step.
+
+    Raises ValueError where a grid of this shape with so many neighbours has more nodes or arcs than fit; this is told
+    before anything is made.
+
+    >>> grid = Grid((4,))
+    >>> grid.join_step((1,), np.array([5, 2, 7]))
+    >>> grid.add_terminals([9, 0, 0, 0], [0, 0, 0, 9])
+    >>> value, mask = grid.cut()
+    >>> value, mask.tolist()
+    (2, [False, False, True, True])
+    """
+
+    def __init__(self, shape, neighbours=None):
+        self.shape = tuple(map(operator.index, shape))
+        self.steps = [] if neighbours is None else steps(len(self.shape), neighbours)
+        check_room(self.shape, self.steps, neighbours)
+        self.neighbours = neighbours
+        self.joined = []
+        self.terminals = [np.zeros(self.shape, np.uint64), np.zeros(self.shape, np.uint64)]
+
+    def join(self, weights, of=None):
+        """Joins each pixel with its neighbours.
+
+        - weights: one number for all edges; or a function that is called with the arrays `here` and `there` and a step,
+          and answers the weights of these edges, an array of the same shape or a number; or a pair of numbers or such
+          functions, for the ways there and back.
+        - of: the picture that `here` and `there` are parts of, an array whose first axes are those of the grid.
+        """
+        there_and_back = weights if isinstance(weights, tuple) else (weights,)
+        for step in self.steps:
+            ways = [way(*pairs(np.asarray(of), step), step) if callable(way) else way for way in there_and_back]
+            self.join_step(step, *ways)
+
+    def join_step(self, step, weights, back=None):
+        """Joins each pixel with the one at a step, by edges of a weight there, and back of another or else the same.
+
+        - step: how far along each axis, as (0, 1) for the next pixel of a row; or the number of an axis, for the next
+          pixel along it. Steps of any length are taken.
+        - weights, back: a number, or an array in the shape of `pairs(pixels, step)`, of whole numbers from 0.
+        """
+        if not isinstance(step, tuple):
+            step = tuple(int(axis == operator.index(step) % len(self.shape)) for axis in range(len(self.shape)))
+        shape = tuple(size - abs(part) for size, part in zip(self.shape, step))
+        check_room(self.shape, [done for done, _, _ in self.joined] + [step], None)
+        there = as_weights(weights, shape, f"the weights of the step {step}")
+        back = there if back is None else as_weights(back, shape, f"the weights of the step {step} back")
+        self.joined.append((step, there, back))
+
+    def add_terminals(self, sources, sinks):
+        """Joins each pixel with the source and with the sink; weights that were there before are replaced.
+
+        - sources, sinks: a number, or an array in the grid's shape, of whole numbers from 0. The source's is what it
+          costs to be on the sink's side, and the other way round.
+        """
+        self.terminals = [as_weights(sources, self.shape, "sources"), as_weights(sinks, self.shape, "sinks")]
+
+    def cut(self, nearest="source"):
+        """Finds a minimum cut.
+
+        - nearest: where several cuts cost the least, "source" tells the one with the fewest pixels on the source's
+          side, and "sink" the one with the fewest on the sink's.
+
+        Answers Cut(value, mask). Raises MemoryError, and provedflow.LibraryNotFound where the C library isn't there.
+        """
+        if nearest not in ("source", "sink"):
+            raise ValueError(f"nearest has to be 'source' or 'sink', and is {nearest!r}")
+        pixels = prod(self.shape)
+        lesser = np.minimum(*self.terminals)
+        found = minimum_cut(*self.arcs(lesser), pixels, pixels + 1, pixels + 2, nearest=f"{nearest}s")
+        return Cut(found.value + exact_sum(lesser), ~found.side[:pixels].reshape(self.shape))
+
+    def arcs(self, lesser):
+        """The ends and the capacities of all arcs, those of capacity 0 left out. The source is the node after the last
+        pixel, and the sink the one after that."""
+        pixels = prod(self.shape)
+        nodes = np.arange(pixels, dtype=np.uint32).reshape(self.shape)
+        parts = []
+        for step, there, back in self.joined:
+            here, other = pairs(nodes, step)
+            parts += [kept(here, other, there), kept(other, here, back)]
+        sources, sinks = (weights - lesser for weights in self.terminals)
+        parts += [kept(np.broadcast_to(np.uint32(pixels), self.shape), nodes, sources),
+                  kept(nodes, np.broadcast_to(np.uint32(pixels + 1), self.shape), sinks)]
+        return [np.concatenate(lists) for lists in zip(*parts)]
+
+
+def kept(srcs, dsts, weights):
+    """The arcs between the nodes of two arrays that have a weight."""
+    if weights.all():
+        return srcs.ravel(), dsts.ravel(), weights.ravel()
+    some = weights > 0
+    return srcs[some], dsts[some], weights[some]
+
+
+def as_weights(weights, shape, name):
+    """Weights as an array of this shape of 64 bits each."""
+    weights = np.asarray(weights)
+    if weights.dtype.kind not in "iu" and not (weights.dtype.kind == "O" and weights.size):
+        raise ValueError(f"{name} have to be whole numbers, and are of the kind {weights.dtype}")
+    if weights.dtype.kind == "O" and not all(isinstance(weight, int) for weight in weights.flat):
+        raise ValueError(f"{name} have to be whole numbers")
+    if weights.size and (weights.min() < 0 or int(weights.max()) > GREATEST_CAPACITY):
+        raise ValueError(f"{name} go from {weights.min()} to {weights.max()}, and 0 to {GREATEST_CAPACITY} are taken")
+    if weights.ndim and weights.shape != shape:
+        raise ValueError(f"{name} have to have the shape {shape}, and have {weights.shape}")
+    return np.broadcast_to(weights.astype(np.uint64), shape)
+
+
+def exact_sum(weights):
+    """The sum of weights of 64 bits, which may take more."""
+    return (int((weights >> np.uint64(32)).sum()) << 32) + int((weights & np.uint64(2 ** 32 - 1)).sum())
+
+
+def fits(shape, all_steps):
+    """Whether a grid has no more nodes and arcs than a network may have."""
+    links = sum(prod(max(0, size - abs(part)) for size, part in zip(shape, step)) for step in all_steps)
+    return prod(shape) <= MOST_NODES - 2 and prod(shape) + 2 * links <= MOST_ARCS
+
+
+def check_room(shape, all_steps, neighbours):
+    """Sees that a grid's nodes and arcs fit, and tells in pixels what would."""
+    if not shape or min(shape) < 1:
+        raise ValueError(f"a grid has one pixel or more along each axis, and this shape is {shape}")
+    if fits(shape, all_steps):
+        return
+    pixels, most = prod(shape), min(MOST_NODES - 2, MOST_ARCS // (1 + 2 * len(all_steps)))
+    side = int(most ** (1 / len(shape)))
+    while fits((side + 1,) * len(shape), all_steps):
+        side += 1
+    square = " x ".join([f"{side:,}"] * len(shape))
+    joined = f" with {neighbours} neighbours" if neighbours else f" with {len(all_steps)} steps to neighbours"
+    raise ValueError(f"a grid of {' x '.join(f'{size:,}' for size in shape)} pixels{joined} doesn't fit: it has "
+                     f"{pixels:,} pixels, and {most:,} fit surely, as {square}")

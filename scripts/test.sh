@@ -89,7 +89,6 @@ add hostile python3 scripts/hostile.py crates/flow/out/flow crates/growths/out/g
 
 # What the built program answers, against a second reading of the definitions.
 add independent python3 scripts/independent.py crates/flow/out/flow
-add multigraphs python3 scripts/multigraphs.py crates/flow/out/flow
 
 # The page of definitions tells what the contracts of `run` and of the streams reach.
 add definitions python3 scripts/definitions.py
@@ -106,6 +105,9 @@ add header python3 scripts/header.py
 bash scripts/library.sh "$folder/library" crates/flow_c/out/libflow_c.a > /dev/null || exit 1
 add library python3 scripts/try_library.py "$folder/library" crates/flow/out/flow
 add bindings python3 scripts/bindings.py "$folder/library/libprovedflow.so.0"
+
+# The connectivity, against all sets of nodes of small networks and against flows in composed ones.
+add multigraphs python3 scripts/multigraphs.py crates/flow/out/flow "$folder/library/libprovedflow.so.0"
 
 # Each command that the documents show prints what they show.
 add documents python3 scripts/documents.py --library "$folder/library" crates/flow/out/flow

@@ -1,1 +1,4 @@
-
+pub mod MarkLemmas
+pub mod FaultLemmas
+pub mod FlowSums
+pub mod CheckLemmas

@@ -1,5 +1,5 @@
 -- Networks that stand in lists which a caller lends. The lists count nodes from 0, networks count them from 1.
-use Rattle.std.specs.Prelude.{◌≡◌, ℕ, zero, suc, ◌+◌, ◌×◌, Bool, List, length, map, replicate, slice_index, if◌then◌else◌}
+use Rattle.std.specs.Prelude.{◌≡◌, ◌==◌, ℕ, suc, ◌+◌, Bool, not, List, length, map, replicate, slice_index, if◌then◌else◌}
 use Rattle.std.specs.List.{range_with_len}
 use Rattle.flow_net.specs.declared.networks.Arc.{Arc}
 use Rattle.flow_net.specs.Nets.{Net, Instance}
@@ -36,3 +36,7 @@ abbrev pub IsCutInto : Instance → Bool → ℕ → List ℕ → List ℕ → T
 IsCutInto p sink value flow side =
     IsSolution p value flow × ((marks : List Bool) × (side ≡ map bit marks) × IsMarkedCut p sink value marks
     × (length marks ≡ p.net.nodes))
+
+-- a number as an answer to a question: all but 0 mean yes
+abbrev pub is_yes : ℕ → Bool
+is_yes n = not (n == 0)

@@ -1,11 +1,11 @@
 -- Why lists are refused, and the status that tells it.
-use Rattle.std.specs.Prelude.{◌≡◌, ◌≢◌, ℕ, suc, ◌<◌, ◌≤◌, ◌⊎◌, ◌×◌, ◌++◌, [], List, length, map, slice_index, ⊤}
+use Rattle.std.specs.Prelude.{◌≡◌, ℕ, ◌<◌, ◌≤◌, ◌⊎◌, ◌++◌, [], ⊤, List, length, slice_index}
 use Rattle.std.specs.List.{All}
 use Rattle.flow_net.specs.declared.limits.TheConstants.{FEWEST_NODES, MOST_NODES, MOST_ARCS_BOTH_WAYS}
 use Rattle.flow_net.specs.Limits.{AreDistinct}
 use Rattle.flow_c.specs.Lists.{from_one}
 use Rattle.flow_c.specs.declared.refusals.Refusal.{Refusal}
-use Rattle.flow_c.specs.declared.refusals.Refusal.TheVariants.{Nodes, Lengths, Arc, Terminal, Memory}
+use Rattle.flow_c.specs.declared.refusals.Refusal.TheVariants.{Nodes, Lengths, BadEnd, Terminal, Memory}
 
 -- there are too few or too many nodes
 abbrev pub IsBadCount : ℕ → Type 0
@@ -37,7 +37,7 @@ HasBadTerminals n sources sinks = (length sources ≡ 0) ⊎ ((length sinks ≡ 
 abbrev pub IsReason : Type 0 → ℕ → List ℕ → List ℕ → List ℕ → List ℕ → Refusal → Type 0
 IsReason Lens n src dst sources sinks Nodes = IsBadCount n
 IsReason Lens n src dst sources sinks Lengths = Lens → ⊥
-IsReason Lens n src dst sources sinks Arc = HasBadEnd n src dst
+IsReason Lens n src dst sources sinks BadEnd = HasBadEnd n src dst
 IsReason Lens n src dst sources sinks Terminal = HasBadTerminals n sources sinks
 IsReason Lens n src dst sources sinks Memory = ⊤
 
@@ -45,6 +45,30 @@ IsReason Lens n src dst sources sinks Memory = ⊤
 abbrev pub status_number : Refusal → ℕ
 status_number Nodes = 1
 status_number Lengths = 2
-status_number Arc = 3
+status_number BadEnd = 3
 status_number Terminal = 4
 status_number Memory = 5
+
+-- what a status other than 0 tells, where the lists ought to have such lengths
+pub record IsTold (Lens : Type 0) (n : ℕ) (src dst sources sinks : List ℕ) (status : ℕ) : Type 0 where
+  pub nodes : status ≡ 1 → IsBadCount n
+  pub lengths : status ≡ 2 → Lens → ⊥
+  pub ends : status ≡ 3 → HasBadEnd n src dst
+  pub terminals : status ≡ 4 → HasBadTerminals n sources sinks
+  pub most : status ≤ 5
+
+-- the lists are a network of nodes 0 to n - 1, and have such lengths
+pub record AreArcs (Lens : Type 0) (n : ℕ) (src dst : List ℕ) : Type 0 where
+  pub nodes_least : FEWEST_NODES ≤ n
+  pub nodes_most : n ≤ MOST_NODES
+  pub lengths : Lens
+  pub src_within : All (λ v. v < n) src
+  pub dst_within : All (λ v. v < n) dst
+
+-- the lists are terminals of such a network: a source and a sink or more, all of them nodes, and none twice
+pub record AreEnds (n : ℕ) (sources sinks : List ℕ) : Type 0 where
+  pub some_source : 0 < length sources
+  pub some_sink : 0 < length sinks
+  pub sources_within : All (λ v. v < n) sources
+  pub sinks_within : All (λ v. v < n) sinks
+  pub distinct : AreDistinct (from_one sources ++ from_one sinks)

@@ -1,5 +1,5 @@
 //! Networks from lists that a caller lends.
-ghost use Rattle.std.specs.Prelude.{◌≡◌, ℕ, ◌<◌, ◌≤◌, ◌++◌, [], length, replicate, IfOk, Err, ⊤};
+ghost use Rattle.std.specs.Prelude.{◌≡◌, ◌⊎◌, ℕ, ◌≤◌, ◌++◌, [], length, replicate, IfOk, IfErr};
 ghost use Rattle.std.specs.List.{All};
 ghost use Rattle.flow_net.specs.NodeSets.{one_of};
 ghost use Rattle.flow_net.specs.Limits.{AreDistinct};
@@ -7,7 +7,7 @@ ghost use Rattle.flow_net.specs.MarkedNodes.{marked};
 ghost use Rattle.flow_net.specs.declared.limits.TheConstants.{FEWEST_NODES, MOST_NODES, MOST_ARCS_BOTH_WAYS};
 ghost use Rattle.flow_c.specs.Lists.{listed_net, listed, from_one};
 ghost use Rattle.flow_c.specs.Refusals.{IsReason, HasBadEnd, HasBadTerminal, AreLengths};
-ghost use Rattle.flow_c.specs.declared.refusals.Refusal.TheVariants.{Memory};
+ghost use Rattle.flow_c.specs.declared.refusals.Refusal.TheVariants.{BadEnd, Terminal, Memory};
 
 use crate::refusals::Refusal;
 use flow_net::{Arc, FEWEST_NODES, MOST_ARCS_BOTH_WAYS, MOST_NODES, Network};
@@ -19,7 +19,7 @@ pub(crate) fn filled<T: Clone>(alloc: Global, value: T, len: usize) -> Result<Ve
     ensures len { IfOk result (λ cells. length cells.items ≡ len) }
     ensures all { IfOk result (λ cells. ((y : T) → T.is_clone value y → y ≡ value)
         → cells.items ≡ replicate len value) }
-    ensures refused { (r : Refusal) → result ≡ Err r → r ≡ Memory }
+    ensures refused { IfErr result (λ r. r ≡ Memory) }
 {
     match Vec::from_elem(alloc, value, len) {
         Ok(cells) => Ok(cells),
@@ -41,12 +41,12 @@ fn read_arcs(
     requires dst { length dst.now ≡ length src.now }
     requires cap { length cap.now ≡ length src.now }
     ensures net { IfOk result (λ net. net ≡ listed_net nodes src.now dst.now cap.now) }
-    ensures refused { (r : Refusal) → result ≡ Err r → (r ≡ Memory) ⊎ (r ≡ Arc) × HasBadEnd nodes src.now dst.now }
+    ensures refused { IfErr result (λ r. (r ≡ Memory) ⊎ ((r ≡ BadEnd) × HasBadEnd nodes src.now dst.now)) }
 {
     let mut net = Network::new(alloc, nodes);
     for i in 0..src.len() {
         if src[i] >= nodes || dst[i] >= nodes {
-            return Err(Refusal::Arc);
+            return Err(Refusal::BadEnd);
         }
         let arc = Arc {
             src: src[i] + 1,
@@ -77,8 +77,7 @@ fn read_terminals(
     ensures distinct { IfOk result (λ taken. AreDistinct (before.now ++ taken.items)) }
     ensures marks { IfOk result (λ taken. (v : ℕ) → marked marks.new v ≡ one_of (before.now ++ taken.items) v) }
     ensures count { length marks.new ≡ nodes }
-    ensures refused { (r : Refusal) → result ≡ Err r
-        → (r ≡ Memory) ⊎ (r ≡ Terminal) × HasBadTerminal nodes before.now given.now }
+    ensures refused { IfErr result (λ r. (r ≡ Memory) ⊎ ((r ≡ Terminal) × HasBadTerminal nodes before.now given.now)) }
 {
     let mut taken = Vec::new(alloc);
     for i in 0..given.len() {
@@ -107,9 +106,8 @@ fn read_both(
     ensures sources_within { IfOk result (λ both. All (λ v. (1 ≤ v) × (v ≤ nodes)) both.0.items) }
     ensures sinks_within { IfOk result (λ both. All (λ v. (1 ≤ v) × (v ≤ nodes)) both.1.items) }
     ensures distinct { IfOk result (λ both. AreDistinct (both.0.items ++ both.1.items)) }
-    ensures refused { (r : Refusal) → result ≡ Err r
-        → (r ≡ Memory) ⊎ (r ≡ Terminal) × (HasBadTerminal nodes [] sources.now
-        ⊎ HasBadTerminal nodes (from_one sources.now) sinks.now) }
+    ensures refused { IfErr result (λ r. (r ≡ Memory) ⊎ ((r ≡ Terminal) × (HasBadTerminal nodes [] sources.now
+        ⊎ HasBadTerminal nodes (from_one sources.now) sinks.now))) }
 {
     let mut marks = filled(alloc, false, nodes as usize)?;
     let s = read_terminals(alloc, nodes, sources, &[], marks.as_mut_slice())?;
@@ -129,8 +127,8 @@ pub(crate) fn read_network(
 ) -> Result<FlowNetwork, Refusal>
     ensures network { IfOk result (λ network. network
         ≡ listed nodes src.now dst.now cap.now sources.now sinks.now) }
-    ensures refused { (r : Refusal) → result ≡ Err r → IsReason (AreLengths src.now dst.now cap.now)
-        nodes src.now dst.now sources.now sinks.now r }
+    ensures refused { IfErr result (IsReason (AreLengths src.now dst.now cap.now)
+        nodes src.now dst.now sources.now sinks.now) }
 {
     if nodes < FEWEST_NODES || nodes > MOST_NODES {
         return Err(Refusal::Nodes);

@@ -13,7 +13,7 @@ pub enum Refusal {
     /// Too many arcs, or lists of different lengths.
     Lengths,
     /// An end of an arc is no node.
-    Arc,
+    BadEnd,
     /// A terminal is no node, stands there twice, or is missing.
     Terminal,
     /// Memory was refused.
@@ -35,7 +35,7 @@ pub(crate) fn status_of(refusal: Refusal) -> u32
     match refusal {
         Refusal::Nodes => 1,
         Refusal::Lengths => 2,
-        Refusal::Arc => 3,
+        Refusal::BadEnd => 3,
         Refusal::Terminal => 4,
         Refusal::Memory => 5,
     }

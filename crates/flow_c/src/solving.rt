@@ -1,5 +1,5 @@
 //! Answers into lists that a caller lends.
-ghost use Rattle.std.specs.Prelude.{◌≡◌, ◌×◌, ◌≤◌, ℕ, length, map, replicate, IfOk, OnErr, Err};
+ghost use Rattle.std.specs.Prelude.{◌≡◌, ◌≤◌, length, map, IfOk, OnErr, IfErr};
 ghost use Rattle.flow_net.specs.NodeSets.{IsLeastOver};
 ghost use Rattle.flow_net.specs.declared.limits.TheConstants.{MOST_ARCS};
 ghost use Rattle.flow_tools.specs.running.Answers.{IsSeparating};
@@ -38,9 +38,8 @@ pub(crate) fn solve_lists(
     ensures ok { IfOk result (λ value. IsSolution (listed nodes src.now dst.now cap.now sources.now sinks.now)
         value flow.new) }
     ensures flow { OnErr result (flow.new ≡ flow.old) }
-    ensures refused { (r : Refusal) → result ≡ Err r
-        → IsReason (AreLengths src.now dst.now cap.now × (length flow.old ≡ length src.now))
-        nodes src.now dst.now sources.now sinks.now r }
+    ensures refused { IfErr result (IsReason (AreLengths src.now dst.now cap.now × (length flow.old ≡ length src.now))
+        nodes src.now dst.now sources.now sinks.now) }
 {
     if flow.len() != src.len() {
         return Err(Refusal::Lengths);
@@ -68,9 +67,8 @@ pub(crate) fn cut_lists(
         (is_sink nearest) value flow.new side.new) }
     ensures flow { OnErr result (flow.new ≡ flow.old) }
     ensures side { OnErr result (side.new ≡ side.old) }
-    ensures refused { (r : Refusal) → result ≡ Err r
-        → IsReason (AreLengths src.now dst.now cap.now × (length flow.old ≡ length src.now)
-        × (length side.old ≡ nodes)) nodes src.now dst.now sources.now sinks.now r }
+    ensures refused { IfErr result (IsReason (AreLengths src.now dst.now cap.now × (length flow.old ≡ length src.now)
+        × (length side.old ≡ nodes)) nodes src.now dst.now sources.now sinks.now) }
 {
     if flow.len() != src.len() || side.len() != nodes as usize {
         return Err(Refusal::Lengths);
@@ -96,9 +94,8 @@ pub(crate) fn count_links(
     ensures ok { IfOk result (IsLeastOver
         (IsSeparating (listed nodes src.now dst.now (ones src.now) sources.now sinks.now) pair)
         (counted undirected (listed_net nodes src.now dst.now (ones src.now)))) }
-    ensures refused { (r : Refusal) → result ≡ Err r
-        → IsReason ((length src.now ≤ MOST_ARCS) × (length dst.now ≡ length src.now))
-        nodes src.now dst.now sources.now sinks.now r }
+    ensures refused { IfErr result (IsReason ((length src.now ≤ MOST_ARCS) × (length dst.now ≡ length src.now))
+        nodes src.now dst.now sources.now sinks.now) }
 {
     if src.len() > MOST_ARCS as usize || dst.len() != src.len() {
         return Err(Refusal::Lengths);

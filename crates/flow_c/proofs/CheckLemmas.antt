@@ -1,7 +1,9 @@
 -- What the check of a flow finds.
 use Rattle.std.proofs.Common.{◌≡◌, ℕ, zero, suc, ◌+◌, ◌-◌, ◌^◌, ◌≤◌, ◌<◌, Bool, true, false, ◌||◌, List, length, get_or}
 use Rattle.std.proofs.Common.{refl, ◌∙◌, sym, ap, subst, inl, inr, Option, Some, None, MatchOption, arith}
-use Rattle.std.proofs.lemmas.List.{get_or_default}
+use Rattle.std.proofs.Common.{replicate}
+use Rattle.std.proofs.lemmas.Bool.{cases_lt}
+use Rattle.std.proofs.lemmas.List.{get_or_default, get_or_past, get_or-replicate, length-replicate}
 use Rattle.flow_net.specs.Nets.{Net, Instance}
 use Rattle.flow_net.specs.NodeSets.{one_of, just}
 use Rattle.flow_net.specs.MarkedNodes.{marked}
@@ -85,3 +87,44 @@ greatest_told net s t xs w word below g =
       | inr e ↦ absurd (omega (arith, e, g.1, below))
     ] in
     (subst (HasValue net s xs) same g.1, subst (IsGreatest net s t) same g.2)
+
+-- of cells that are all clear none is marked
+unmarked : (n v : ℕ) → marked (replicate n false) v ≡ false
+unmarked n zero = refl
+unmarked n (suc i) = elim (cases_lt i n) [
+  | inl l ↦ get_or-replicate n i false false l
+  | inr g ↦
+      let e = length-replicate {A = Bool} n false in get_or_past (replicate n false) i false (omega (arith, e, g))
+]
+
+first_marked : (n : ℕ) (zeros marks : List Bool) (s : List ℕ) → zeros ≡ replicate n false
+    → ((v : ℕ) → marked marks v ≡ (marked zeros v || one_of s v)) → (v : ℕ) → marked marks v ≡ one_of s v
+first_marked n zeros marks s e m v =
+    m v ∙ ap (λ b. b || one_of s v) (ap (λ cells. marked cells v) e ∙ unmarked n v)
+
+-- what is found of the balance by marks and sums
+pub balance_here : (p : Instance) (net : Net) (s t xs : List ℕ) (zeros first marks : List Bool)
+    (entering leaving : List ℕ) → net ≡ p.net → s ≡ p.sources → t ≡ p.sinks → zeros ≡ replicate p.net.nodes false
+    → ((v : ℕ) → marked first v ≡ (marked zeros v || one_of s v))
+    → ((v : ℕ) → marked marks v ≡ (marked first v || one_of t v)) → length marks ≡ p.net.nodes
+    → ((k : ℕ) → k < net.nodes → get_or entering k 0 ≡ into (just (k + 1)) net.arcs xs)
+    → ((k : ℕ) → k < net.nodes → get_or leaving k 0 ≡ out_of (just (k + 1)) net.arcs xs) → (found : Option ℕ)
+    → MatchOption found (AreEqualUnless marks entering leaving (length marks)) (IsFirstUnequal marks entering leaving)
+    → MatchOption found (AreBalanced p xs) (IsFirstUnbalanced p xs)
+balance_here p net s t xs zeros first marks entering leaving en es et clear a b many ins outs found h =
+    balance_found p xs marks entering leaving many
+    (λ v. b v ∙ ap (λ c. c || one_of t v) (first_marked p.net.nodes zeros first s clear a v)
+    ∙ ap (λ ws. one_of ws v || one_of t v) es ∙ ap (λ ws. one_of p.sources v || one_of ws v) et)
+    (subst (λ n. (k : ℕ) → k < n.nodes → get_or entering k 0 ≡ into (just (k + 1)) n.arcs xs) en ins)
+    (subst (λ n. (k : ℕ) → k < n.nodes → get_or leaving k 0 ≡ out_of (just (k + 1)) n.arcs xs) en outs) found h
+
+-- what the sums tell of the value
+pub value_here : (p : Instance) (net : Net) (s xs : List ℕ) (zeros marks : List Bool) (out in' w : ℕ) → net ≡ p.net
+    → s ≡ p.sources → zeros ≡ replicate p.net.nodes false
+    → ((v : ℕ) → marked marks v ≡ (marked zeros v || one_of s v)) → out ≡ out_of (marked marks) net.arcs xs
+    → in' ≡ into (marked marks) net.arcs xs → IsDifference out in' w → HasWord p.net (one_of p.sources) xs w
+value_here p net s xs zeros marks out in' w en es clear m eo ei h =
+    word_of p.net (marked marks) (one_of p.sources) xs w
+    (λ v. first_marked p.net.nodes zeros marks s clear m v ∙ ap (λ ws. one_of ws v) es)
+    (subst (λ n. IsDifference (out_of (marked marks) n.arcs xs) (into (marked marks) n.arcs xs) w) en
+    (rw (← eo) (rw (← ei) h)))

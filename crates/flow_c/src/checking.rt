@@ -113,7 +113,30 @@ fn first_unequal(marks: &[bool], entering: &[u128], leaving: &[u128]) -> Option<
     None
 }
 
-/// The first node that is no terminal and that a flow doesn't leave as much as it enters it.
+/// The first node that is no terminal and that a flow doesn't leave as much as it enters it, in cells of zeros.
+fn balance_in(
+    network: &FlowNetwork,
+    given: &[u64],
+    marks: &mut [bool],
+    entering: &mut [u128],
+    leaving: &mut [u128],
+) -> Option<u32>
+    requires fits { Fits network.now.net given.now }
+    requires marks { marks.old ≡ replicate network.now.net.nodes false }
+    requires entering { entering.old ≡ replicate network.now.net.nodes 0 }
+    requires leaving { leaving.old ≡ replicate network.now.net.nodes 0 }
+    ensures { MatchOption result (AreBalanced network.now given.now) (IsFirstUnbalanced network.now given.now) }
+{
+    let net = network.net();
+    // Brings the network's limits, `IsNet`, into the proof.
+    let _ = net.nodes();
+    mark(marks, network.sources());
+    mark(marks, network.sinks());
+    tally(net, given, entering, leaving);
+    first_unequal(marks, entering, leaving)
+}
+
+/// The same, in memory of its own.
 fn first_unbalanced(
     alloc: Global,
     network: &FlowNetwork,
@@ -124,15 +147,17 @@ fn first_unbalanced(
         (IsFirstUnbalanced network.now given.now)) }
     ensures refused { IfErr result (λ r. r ≡ Memory) }
 {
-    let net = network.net();
-    let n = net.nodes() as usize;
+    let n = network.net().nodes() as usize;
     let mut marks = filled(alloc, false, n)?;
     let mut entering = filled(alloc, 0u128, n)?;
     let mut leaving = filled(alloc, 0u128, n)?;
-    mark(marks.as_mut_slice(), network.sources());
-    mark(marks.as_mut_slice(), network.sinks());
-    tally(net, given, entering.as_mut_slice(), leaving.as_mut_slice());
-    Ok(first_unequal(marks.as_slice(), entering.as_slice(), leaving.as_slice()))
+    Ok(balance_in(
+        network,
+        given,
+        marks.as_mut_slice(),
+        entering.as_mut_slice(),
+        leaving.as_mut_slice(),
+    ))
 }
 
 /// A flow where it counts, else 0.
@@ -177,18 +202,27 @@ fn difference(out: u128, entering: u128) -> u128
     }
 }
 
-/// The value of a flow, in two's complement.
+/// The value of a flow, in two's complement, by marks of which none is set.
+fn value_in(network: &FlowNetwork, given: &[u64], marks: &mut [bool]) -> u128
+    requires fits { Fits network.now.net given.now }
+    requires marks { marks.old ≡ replicate network.now.net.nodes false }
+    ensures value { HasWord network.now.net (one_of network.now.sources) given.now result }
+    ensures below { result < 2 ^ 128 }
+{
+    mark(marks, network.sources());
+    let (out, entering) = sums(network.net(), given, marks);
+    difference(out, entering)
+}
+
+/// The same, in memory of its own.
 fn value_of(alloc: Global, network: &FlowNetwork, given: &[u64]) -> Result<u128, Refusal>
     requires fits { Fits network.now.net given.now }
     ensures value { IfOk result (λ w. HasWord network.now.net (one_of network.now.sources) given.now w) }
     ensures below { IfOk result (λ w. w < 2 ^ 128) }
     ensures refused { IfErr result (λ r. r ≡ Memory) }
 {
-    let net = network.net();
-    let mut marks = filled(alloc, false, net.nodes() as usize)?;
-    mark(marks.as_mut_slice(), network.sources());
-    let (out, entering) = sums(net, given, marks.as_slice());
-    Ok(difference(out, entering))
+    let mut marks = filled(alloc, false, network.net().nodes() as usize)?;
+    Ok(value_in(network, given, marks.as_mut_slice()))
 }
 
 /// Whether a flow of greater value than a feasible flow's exists.

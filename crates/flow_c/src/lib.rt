@@ -70,13 +70,12 @@ pub extern "C" fn provedflow_flow_lists(
     ensures refused { AreArcs (AreLengths src.now dst.now cap.now × (length flow.old ≡ length src.now))
         nodes src.now dst.now → AreEnds nodes sources.now sinks.now → (result ≡ 0) ⊎ (result ≡ 5) }
 {
-    match solve_lists(alloc, nodes, src, dst, cap, sources, sinks, flow) {
-        Ok(value) => {
-            write_value(value, high, low);
-            0
-        }
-        Err(refusal) => status_of(refusal),
-    }
+    let value = match solve_lists(alloc, nodes, src, dst, cap, sources, sinks, flow) {
+        Ok(value) => value,
+        Err(refusal) => return status_of(refusal),
+    };
+    write_value(value, high, low);
+    0
 }
 
 /// Finds a minimum cut beside such a flow: `side` gets a 1 for each node in its source side, and a 0 for the others. It
@@ -114,15 +113,14 @@ pub extern "C" fn provedflow_cut_lists(
     } else {
         Side::Source
     };
-    match cut_lists(
+    let value = match cut_lists(
         alloc, nodes, src, dst, cap, sources, sinks, nearest, flow, side,
     ) {
-        Ok(value) => {
-            write_value(value, high, low);
-            0
-        }
-        Err(refusal) => status_of(refusal),
-    }
+        Ok(value) => value,
+        Err(refusal) => return status_of(refusal),
+    };
+    write_value(value, high, low);
+    0
 }
 
 /// Counts links: the least number of arcs that leave a set of nodes which is neither empty nor all, or where
@@ -159,12 +157,10 @@ pub extern "C" fn provedflow_links_lists(
         count_links(alloc, nodes, src, dst, &[0], &[1], undirected != 0, false)
     };
     match found {
-        Ok(count) => {
-            *links = count;
-            0
-        }
-        Err(refusal) => status_of(refusal),
+        Ok(count) => *links = count,
+        Err(refusal) => return status_of(refusal),
     }
+    0
 }
 
 /// Checks a flow. `verdict` gets 0 where it is feasible and its value the greatest, 1 where it is feasible and its value
@@ -196,12 +192,11 @@ pub extern "C" fn provedflow_check_lists(
     ensures refused { AreArcs (AreLengths src.now dst.now cap.now × (length flow.now ≡ length src.now))
         nodes src.now dst.now → AreEnds nodes sources.now sinks.now → (result ≡ 0) ⊎ (result ≡ 5) }
 {
-    match check_lists(alloc, nodes, src, dst, cap, sources, sinks, flow) {
-        Ok(checked) => {
-            *verdict = checked.verdict;
-            write_value(checked.told, high, low);
-            0
-        }
-        Err(refusal) => status_of(refusal),
-    }
+    let checked = match check_lists(alloc, nodes, src, dst, cap, sources, sinks, flow) {
+        Ok(checked) => checked,
+        Err(refusal) => return status_of(refusal),
+    };
+    *verdict = checked.verdict;
+    write_value(checked.told, high, low);
+    0
 }

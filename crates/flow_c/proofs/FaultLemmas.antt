@@ -122,6 +122,7 @@ two_ends n least = record {
     within : (v : ℕ) → v < n → All (λ w. w < n) (v ∷ [])
     within v h zero d l = h
     within v h (suc k) d l = absurd (omega (arith, l))
+
     apart : AreDistinct (1 ∷ 2 ∷ [])
     apart zero zero l m e = omega (arith, l)
     apart zero (suc zero) l m e = omega (arith, e)

@@ -6,7 +6,7 @@ use Rattle.std.proofs.lemmas.Bool.{cases_eq, cases_lt, ne_eqb}
 use Rattle.std.proofs.lemmas.List.{get_or_past}
 use Rattle.flow_net.specs.declared.networks.Arc.{Arc}
 use Rattle.flow_net.specs.declared.limits.TheConstants.{GREATEST_CAPACITY}
-use Rattle.flow_net.specs.Nets.{Net, arc_at}
+use Rattle.flow_net.specs.Nets.{Net}
 use Rattle.flow_net.specs.Limits.{IsNet}
 use Rattle.flow_net.specs.NodeSets.{just}
 use Rattle.flow_net.specs.Flows.{flow_over, Fits}

@@ -10,7 +10,7 @@
 //! was refused. Unless it is 0 nothing is written. Each number that is lent is tested before it is used.
 #![tactic(auto)]
 
-ghost use Rattle.std.specs.Prelude.{◌≡◌, ◌≢◌, ◌+◌, ◌*◌, ◌^◌, ◌≤◌, ◌⊎◌, length};
+ghost use Rattle.std.specs.Prelude.{◌≡◌, ◌≢◌, ◌+◌, ◌*◌, ◌^◌, ◌≤◌, ◌⊎◌, [], ◌∷◌, length};
 ghost use Rattle.flow_net.specs.NodeSets.{one_of, IsLeastOver};
 ghost use Rattle.flow_net.specs.Cuts.{IsCut};
 ghost use Rattle.flow_net.specs.Connectivity.{IsProper};
@@ -46,7 +46,7 @@ fn write_value(value: u128, high: &mut u64, low: &mut u64)
 }
 
 /// Finds a flow of the greatest value: `flow` gets what each arc carries, `high` and `low` the upper and the lower 64
-/// bits of the value. There are at most 8,000,000 arcs.
+/// bits of the value. There may be [`MOST_ARCS_BOTH_WAYS`](flow_net::MOST_ARCS_BOTH_WAYS) arcs.
 #[unsafe(no_mangle)]
 pub extern "C" fn provedflow_flow_lists(
     alloc: Global,
@@ -79,8 +79,8 @@ pub extern "C" fn provedflow_flow_lists(
 }
 
 /// Finds a minimum cut beside such a flow: `side` gets a 1 for each node in its source side, and a 0 for the others. It
-/// is the cut nearest the sources, or where `nearest_sinks` isn't 0 the one nearest the sinks. There are at most
-/// 8,000,000 arcs.
+/// is the cut nearest the sources, or where `nearest_sinks` isn't 0 the one nearest the sinks. There may be
+/// [`MOST_ARCS_BOTH_WAYS`](flow_net::MOST_ARCS_BOTH_WAYS) arcs.
 #[unsafe(no_mangle)]
 pub extern "C" fn provedflow_cut_lists(
     alloc: Global,
@@ -125,7 +125,8 @@ pub extern "C" fn provedflow_cut_lists(
 
 /// Counts links: the least number of arcs that leave a set of nodes which is neither empty nor all, or where
 /// `undirected` isn't 0 that have exactly one end in it. Where `pair` isn't 0 only the sets count that have every
-/// source inside and every sink outside; where it is 0 the terminals aren't looked at. There are at most 4,000,000 arcs.
+/// source inside and every sink outside; where it is 0 the terminals aren't looked at. There may be
+/// [`MOST_ARCS`](flow_net::MOST_ARCS) arcs.
 #[unsafe(no_mangle)]
 pub extern "C" fn provedflow_links_lists(
     alloc: Global,
@@ -145,14 +146,25 @@ pub extern "C" fn provedflow_links_lists(
         → IsLeastOver (IsProper (listed_net nodes src.now dst.now (ones src.now)))
         (counted (is_yes undirected) (listed_net nodes src.now dst.now (ones src.now))) links.new }
     ensures links { result ≢ 0 → links.new ≡ links.old }
-    ensures told { pair ≢ 0 → IsTold ((length src.now ≤ MOST_ARCS) × (length dst.now ≡ length src.now))
+    ensures told_pair { pair ≢ 0 → IsTold ((length src.now ≤ MOST_ARCS) × (length dst.now ≡ length src.now))
         nodes src.now dst.now sources.now sinks.now result }
+    ensures told_whole { pair ≡ 0 → IsTold ((length src.now ≤ MOST_ARCS) × (length dst.now ≡ length src.now))
+        nodes src.now dst.now (0 ∷ []) (1 ∷ []) result }
     ensures refused { AreArcs ((length src.now ≤ MOST_ARCS) × (length dst.now ≡ length src.now))
         nodes src.now dst.now → (pair ≢ 0 → AreEnds nodes sources.now sinks.now)
         → (result ≡ 0) ⊎ (result ≡ 5) }
 {
     let found = if pair != 0 {
-        count_links(alloc, nodes, src, dst, sources, sinks, undirected != 0, true)
+        count_links(
+            alloc,
+            nodes,
+            src,
+            dst,
+            sources,
+            sinks,
+            undirected != 0,
+            true,
+        )
     } else {
         count_links(alloc, nodes, src, dst, &[0], &[1], undirected != 0, false)
     };
@@ -167,7 +179,7 @@ pub extern "C" fn provedflow_links_lists(
 /// isn't, 2 where an arc's flow passes its capacity, and 3 where what enters a node that is no terminal isn't what
 /// leaves it. `high` and `low` get the upper and the lower 64 bits of the value, which are those of a negative number
 /// where more enters the sources than leaves them; with a verdict of 2 they get the first such arc, and with 3 the first
-/// such node. There are at most 8,000,000 arcs.
+/// such node. There may be [`MOST_ARCS_BOTH_WAYS`](flow_net::MOST_ARCS_BOTH_WAYS) arcs.
 #[unsafe(no_mangle)]
 pub extern "C" fn provedflow_check_lists(
     alloc: Global,

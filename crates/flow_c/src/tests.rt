@@ -6,7 +6,9 @@ use std::alloc::Global;
 
 /// Four nodes. A flow of the greatest value from node 0 to node 3, 5, has to fill every arc.
 const SRC: &[u32] = &[0, 0, 1, 1, 2];
+
 const DST: &[u32] = &[1, 2, 2, 3, 3];
+
 const CAP: &[u64] = &[3, 2, 1, 2, 3];
 
 /// What stands in a number before a call.
@@ -17,7 +19,16 @@ fn is_solved(alloc: Global) -> bool {
     let mut flow = [OLD, OLD, OLD, OLD, OLD];
     let (mut high, mut low) = (OLD, OLD);
     let status = provedflow_flow_lists(
-        alloc, 4, SRC, DST, CAP, &[0], &[3], &mut flow, &mut high, &mut low,
+        alloc,
+        4,
+        SRC,
+        DST,
+        CAP,
+        &[0],
+        &[3],
+        &mut flow,
+        &mut high,
+        &mut low,
     );
     status == 0 && high == 0 && low == 5 && flow == [3, 2, 1, 2, 3]
 }
@@ -28,7 +39,16 @@ fn is_wide(alloc: Global) -> bool {
     let (mut high, mut low) = (OLD, OLD);
     let cap = [u64::MAX, u64::MAX];
     let status = provedflow_flow_lists(
-        alloc, 2, &[0, 0], &[1, 1], &cap, &[0], &[1], &mut flow, &mut high, &mut low,
+        alloc,
+        2,
+        &[0, 0],
+        &[1, 1],
+        &cap,
+        &[0],
+        &[1],
+        &mut flow,
+        &mut high,
+        &mut low,
     );
     status == 0 && high == 1 && low == u64::MAX - 1 && flow == cap
 }
@@ -102,7 +122,15 @@ fn has_links(alloc: Global, undirected: u32, pair: u32, wanted: u64) -> bool {
         provedflow_links_lists(alloc, 3, &src, &dst, &[], &[], undirected, 0, &mut links)
     } else {
         provedflow_links_lists(
-            alloc, 3, &src, &dst, &[0], &[2], undirected, pair, &mut links,
+            alloc,
+            3,
+            &src,
+            &dst,
+            &[0],
+            &[2],
+            undirected,
+            pair,
+            &mut links,
         )
     };
     status == 0 && links == wanted
@@ -120,7 +148,17 @@ fn is_checked(alloc: Global, flow: [u64; 5], wanted: (u32, u64)) -> bool {
     let mut verdict = 9;
     let (mut high, mut low) = (OLD, OLD);
     let status = provedflow_check_lists(
-        alloc, 4, SRC, DST, CAP, &[0], &[3], &flow, &mut verdict, &mut high, &mut low,
+        alloc,
+        4,
+        SRC,
+        DST,
+        CAP,
+        &[0],
+        &[3],
+        &flow,
+        &mut verdict,
+        &mut high,
+        &mut low,
     );
     status == 0 && verdict == wanted.0 && high == 0 && low == wanted.1
 }
@@ -130,7 +168,17 @@ fn is_negative(alloc: Global) -> bool {
     let mut verdict = 9;
     let (mut high, mut low) = (OLD, OLD);
     let status = provedflow_check_lists(
-        alloc, 2, &[1], &[0], &[3], &[0], &[1], &[3], &mut verdict, &mut high, &mut low,
+        alloc,
+        2,
+        &[1],
+        &[0],
+        &[3],
+        &[0],
+        &[1],
+        &[3],
+        &mut verdict,
+        &mut high,
+        &mut low,
     );
     status == 0 && verdict == 1 && high == u64::MAX && low == u64::MAX - 2
 }

@@ -1,5 +1,5 @@
 -- `balance_in`: the cells hold what enters each node and what leaves it, and the terminals are marked.
-use Rattle.std.proofs.Common.{◌≡◌, ◌∙◌, length, arith, rules}
+use Rattle.std.proofs.Common.{◌≡◌, length, arith, rules}
 use Rattle.std.proofs.lemmas.Grind.{common_steps}
 use Rattle.flow_c.proofs.CheckLemmas.{balance_here}
 use Rattle.flow_c.proofs.checking.balance_in.Goals as goal

@@ -1,5 +1,5 @@
 -- `tally`: a cell with an arc's flow added fits 128 bits, and holds what one arc more carries.
-use Rattle.std.proofs.Common.{◌-◌, ◌+◌, ◌<◌, ◌∙◌, length, arith, rules, set, length-set, get_or}
+use Rattle.std.proofs.Common.{◌-◌, ◌+◌, ◌<◌, ◌∙◌, length, arith, rules, length-set}
 use Rattle.std.proofs.lemmas.Grind.{common_steps}
 use Rattle.flow_net.specs.Limits.{IsArcWithin}
 use Rattle.flow_net.specs.NodeSets.{just}

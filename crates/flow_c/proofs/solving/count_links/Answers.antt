@@ -1,6 +1,5 @@
 -- `count_links`: there are no more arcs than a problem has.
 use Rattle.std.proofs.Common.{arith}
-use Rattle.flow_c.specs.Lists.{ones}
 use Rattle.flow_c.proofs.ListLemmas.{arcs_of}
 use Rattle.flow_c.proofs.solving.count_links.Goals as goal
 

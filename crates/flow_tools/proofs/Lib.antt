@@ -2,3 +2,4 @@
 pub use Rattle.flow_tools.proofs.streams.SendLemmas
 pub use Rattle.flow_tools.proofs.streams.StreamParts
 pub use Rattle.flow_tools.proofs.connecting.ConnectAnswers
+pub use Rattle.flow_tools.proofs.checking.NodeSumLemmas

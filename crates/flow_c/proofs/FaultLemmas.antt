@@ -1,0 +1,132 @@
+-- What a status tells, and that good lists have no fault.
+use Rattle.std.proofs.Common.{◌≡◌, ◌≢◌, ◌≤◌, ◌<◌, ℕ, zero, suc, ◌⊎◌, List, [], ◌∷◌, ◌++◌, length, inl, inr, arith, sym, ◌∙◌}
+use Rattle.std.proofs.Common.{length-append, refl}
+use Rattle.std.proofs.lemmas.List.{get_or_append_left}
+use Rattle.std.specs.List.{All}
+use Rattle.flow_net.specs.Limits.{AreDistinct}
+use Rattle.flow_c.specs.Lists.{from_one}
+use Rattle.flow_c.specs.declared.refusals.Refusal.{Refusal}
+use Rattle.flow_c.specs.declared.refusals.Refusal.TheVariants.{Nodes, Lengths, BadEnd, Terminal, Memory}
+use Rattle.flow_c.specs.Refusals.{IsBadCount, HasBadEnd, HasBadTerminal, HasBadTerminals, IsReason, status_number}
+use Rattle.flow_c.specs.Refusals.{IsTold, AreArcs, AreEnds}
+
+-- an answer tells nothing
+pub told_nothing : (L : Type 0) (n : ℕ) (src dst sources sinks : List ℕ) → IsTold L n src dst sources sinks 0
+told_nothing L n src dst sources sinks = record {
+  nodes = λ e. absurd (omega (arith, e));
+  lengths = λ e. absurd (omega (arith, e));
+  ends = λ e. absurd (omega (arith, e));
+  terminals = λ e. absurd (omega (arith, e));
+  most = omega arith;
+}
+
+-- the status of a refusal tells its reason
+pub told_by : (L : Type 0) (n : ℕ) (src dst sources sinks : List ℕ) (r : Refusal)
+    → IsReason L n src dst sources sinks r → IsTold L n src dst sources sinks (status_number r)
+told_by L n src dst sources sinks Nodes h = record {
+  nodes = λ e. h;
+  lengths = λ e. absurd (omega (arith, e));
+  ends = λ e. absurd (omega (arith, e));
+  terminals = λ e. absurd (omega (arith, e));
+  most = omega arith;
+}
+told_by L n src dst sources sinks Lengths h = record {
+  nodes = λ e. absurd (omega (arith, e));
+  lengths = λ e. h;
+  ends = λ e. absurd (omega (arith, e));
+  terminals = λ e. absurd (omega (arith, e));
+  most = omega arith;
+}
+told_by L n src dst sources sinks BadEnd h = record {
+  nodes = λ e. absurd (omega (arith, e));
+  lengths = λ e. absurd (omega (arith, e));
+  ends = λ e. h;
+  terminals = λ e. absurd (omega (arith, e));
+  most = omega arith;
+}
+told_by L n src dst sources sinks Terminal h = record {
+  nodes = λ e. absurd (omega (arith, e));
+  lengths = λ e. absurd (omega (arith, e));
+  ends = λ e. absurd (omega (arith, e));
+  terminals = λ e. h;
+  most = omega arith;
+}
+told_by L n src dst sources sinks Memory h = record {
+  nodes = λ e. absurd (omega (arith, e));
+  lengths = λ e. absurd (omega (arith, e));
+  ends = λ e. absurd (omega (arith, e));
+  terminals = λ e. absurd (omega (arith, e));
+  most = omega arith;
+}
+
+no_bad_end : (n : ℕ) (src dst : List ℕ) → length dst ≡ length src → All (λ v. v < n) src → All (λ v. v < n) dst
+    → HasBadEnd n src dst → ⊥
+no_bad_end n src dst same a b bad = elim bad.2 [
+  | inl high ↦ let low = a bad.0 0 bad.1 in omega (arith, high, low)
+  | inr high ↦ let at = bad.1 in let low = b bad.0 0 (omega (arith, same, at)) in omega (arith, high, low)
+]
+
+no_bad_terminal : (n : ℕ) (before given : List ℕ) → All (λ v. v < n) given → AreDistinct (before ++ from_one given)
+    → HasBadTerminal n before given → ⊥
+no_bad_terminal n before given a distinct bad = elim bad [
+  | inl out ↦ let low = a out.0 0 out.1 in let high = out.2 in omega (arith, high, low)
+  | inr two ↦ distinct two.0 two.1 two.2 two.3 two.4
+]
+
+front_distinct : (xs ys : List ℕ) → AreDistinct (xs ++ ys) → AreDistinct xs
+front_distinct xs ys distinct = λ i j lt high same.
+    let total = length-append xs ys in
+    distinct i j lt (omega (arith, high, total))
+    (get_or_append_left xs ys 0 i (omega (arith, lt, high)) ∙ same ∙ sym (get_or_append_left xs ys 0 j high))
+
+no_bad_terminals : (n : ℕ) (sources sinks : List ℕ) → AreEnds n sources sinks → HasBadTerminals n sources sinks → ⊥
+no_bad_terminals n sources sinks g bad = elim bad [
+  | inl e ↦ let some = g.some_source in omega (arith, e, some)
+  | inr rest ↦ elim rest [
+    | inl e ↦ let some = g.some_sink in omega (arith, e, some)
+    | inr two ↦ elim two [
+      | inl a ↦
+          no_bad_terminal n [] sources g.sources_within (front_distinct (from_one sources) (from_one sinks) g.distinct) a
+      | inr b ↦ no_bad_terminal n (from_one sources) sinks g.sinks_within g.distinct b
+    ]
+  ]
+]
+
+-- good lists are refused for want of memory alone
+pub good_lists : (L : Type 0) (n k : ℕ) (src dst sources sinks : List ℕ) → (L → length dst ≡ length src)
+    → IsTold L n src dst sources sinks k → AreArcs L n src dst → AreEnds n sources sinks → (k ≡ 0) ⊎ (k ≡ 5)
+good_lists L n zero src dst sources sinks same told arcs ends = inl refl
+good_lists L n (suc zero) src dst sources sinks same told arcs ends = elim (told.nodes refl) [
+  | inl low ↦ let least = arcs.nodes_least in absurd (omega (arith, low, least))
+  | inr high ↦ let most = arcs.nodes_most in absurd (omega (arith, high, most))
+]
+good_lists L n (suc (suc zero)) src dst sources sinks same told arcs ends = absurd (told.lengths refl arcs.lengths)
+good_lists L n (suc (suc (suc zero))) src dst sources sinks same told arcs ends =
+    absurd (no_bad_end n src dst (same arcs.lengths) arcs.src_within arcs.dst_within (told.ends refl))
+good_lists L n (suc (suc (suc (suc zero)))) src dst sources sinks same told arcs ends =
+    absurd (no_bad_terminals n sources sinks ends (told.terminals refl))
+good_lists L n (suc (suc (suc (suc (suc zero))))) src dst sources sinks same told arcs ends = inr refl
+good_lists L n (suc (suc (suc (suc (suc (suc k)))))) src dst sources sinks same told arcs ends =
+    let most = told.most in absurd (omega (arith, most))
+
+-- nodes 0 and 1 are good terminals
+pub two_ends : (n : ℕ) → 2 ≤ n → AreEnds n (0 ∷ []) (1 ∷ [])
+two_ends n least = record {
+  some_source = omega arith;
+  some_sink = omega arith;
+  sources_within = within 0 (omega (arith, least));
+  sinks_within = within 1 (omega (arith, least));
+  distinct = apart;
+}
+  where
+    within : (v : ℕ) → v < n → All (λ w. w < n) (v ∷ [])
+    within v h zero d l = h
+    within v h (suc k) d l = absurd (omega (arith, l))
+
+    apart : AreDistinct (1 ∷ 2 ∷ [])
+    apart zero zero l m e = omega (arith, l)
+    apart zero (suc zero) l m e = omega (arith, e)
+    apart zero (suc (suc j)) l m e = omega (arith, m)
+    apart (suc i) zero l m e = omega (arith, l)
+    apart (suc i) (suc zero) l m e = omega (arith, l)
+    apart (suc i) (suc (suc j)) l m e = omega (arith, m)

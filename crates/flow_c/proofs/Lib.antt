@@ -1,0 +1,5 @@
+pub mod MarkLemmas
+pub mod ListLemmas
+pub mod FaultLemmas
+pub mod FlowSums
+pub mod CheckLemmas

@@ -1,5 +1,5 @@
 -- What a status tells, and that good lists have no fault.
-use Rattle.std.proofs.Common.{◌≡◌, ◌≢◌, ◌≤◌, ◌<◌, ℕ, zero, suc, ◌⊎◌, List, [], ◌∷◌, ◌++◌, length, inl, inr, arith, sym, ◌∙◌}
+use Rattle.std.proofs.Common.{◌≡◌, ◌≤◌, ◌<◌, ℕ, zero, suc, ◌⊎◌, List, [], ◌∷◌, ◌++◌, length, inl, inr, arith, sym, ◌∙◌}
 use Rattle.std.proofs.Common.{length-append, refl}
 use Rattle.std.proofs.lemmas.List.{get_or_append_left}
 use Rattle.std.specs.List.{All}
@@ -7,7 +7,7 @@ use Rattle.flow_net.specs.Limits.{AreDistinct}
 use Rattle.flow_c.specs.Lists.{from_one}
 use Rattle.flow_c.specs.declared.refusals.Refusal.{Refusal}
 use Rattle.flow_c.specs.declared.refusals.Refusal.TheVariants.{Nodes, Lengths, BadEnd, Terminal, Memory}
-use Rattle.flow_c.specs.Refusals.{IsBadCount, HasBadEnd, HasBadTerminal, HasBadTerminals, IsReason, status_number}
+use Rattle.flow_c.specs.Refusals.{HasBadEnd, HasBadTerminal, HasBadTerminals, IsReason, status_number}
 use Rattle.flow_c.specs.Refusals.{IsTold, AreArcs, AreEnds}
 
 -- an answer tells nothing

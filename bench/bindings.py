@@ -2,9 +2,10 @@
 """What calls from Python take, beside SciPy's and NetworkX's own: bindings.py LIBRARY [WORD ...]
 
 LIBRARY is the shared library that scripts/library.sh makes; only problems whose names have one of the WORDs are run.
-Needs NumPy, SciPy and NetworkX. Each problem is made first, and then each call on it is timed, wall, from the matrix,
-graph or arrays of weights to the answer in the same kind; a call runs in a process of its own, whose greatest memory is
-told, with the problem in it. The values have to be the same. The table goes to standard output, in Markdown.
+Needs NumPy, SciPy and NetworkX. Each problem is made first, and then each call on it is timed, from the matrix, graph or
+arrays of weights to the answer in the same kind, in seconds by the wall's clock and of the processor; a call runs in a
+process of its own, whose greatest memory is told, with the problem in it. The values have to be the same. The table
+goes to standard output, in Markdown.
 """
 
 import json
@@ -130,11 +131,12 @@ CALLS = {"image": 2, "random network": 2, "random graph": 4, "links": 1, "pixels
 
 
 def run_one(name, place):
-    """Makes a problem and times one call on it; prints the call's name, value, seconds and megabytes."""
+    """Makes a problem and times one call on it; prints the call's name, value, seconds (wall, and of the processor) and
+    megabytes."""
     call, solve = list(PROBLEMS[name]().items())[place]
-    start = time.perf_counter()
+    start = time.perf_counter(), time.process_time()
     value = solve()
-    seconds = time.perf_counter() - start
+    seconds = [now - then for now, then in zip((time.perf_counter(), time.process_time()), start)]
     megabytes = resource.getrusage(resource.RUSAGE_SELF).ru_maxrss / 1024
     print(json.dumps([call, value, seconds, megabytes]))
 
@@ -156,13 +158,13 @@ def main():
     if len(sys.argv) < 2:
         sys.exit(__doc__)
     library, words = str(pathlib.Path(sys.argv[1]).resolve()), sys.argv[2:]
-    print("| Problem | Call | Seconds | Megabytes | Value |\n|---|---|---|---|---|")
+    print("| Problem | Call | Seconds | Of the processor | Megabytes | Value |\n|---|---|---|---|---|---|")
     for name in PROBLEMS:
         if words and not any(word in name for word in words):
             continue
         values = set()
-        for call, value, seconds, megabytes in measured(name, library):
-            print(f"| {name} | {call} | {seconds:.2g} | {megabytes:.0f} | {value} |", flush=True)
+        for call, value, (wall, processor), megabytes in measured(name, library):
+            print(f"| {name} | {call} | {wall:.3g} | {processor:.3g} | {megabytes:,.0f} | {value:,} |", flush=True)
             values.add(value)
         if len(values) > 1:
             sys.exit(f"{name}: the values differ: {values}")

@@ -2,9 +2,10 @@
 """What calls from Python take, beside SciPy's and NetworkX's own: bindings.py LIBRARY [WORD ...]
 
 LIBRARY is the shared library that scripts/library.sh makes; only problems whose names have one of the WORDs are run.
-Needs NumPy, SciPy and NetworkX. Each problem is made first, and then each call on it is timed, wall, from the matrix,
-graph or arrays of weights to the answer in the same kind; a call runs in a process of its own, whose greatest memory is
-told, with the problem in it. The values have to be the same. The table goes to standard output, in Markdown.
+Needs NumPy, SciPy and NetworkX. Each problem is made first, and then each call on it is timed, from the matrix, graph
+or arrays of weights to the answer in the same kind, in seconds by the wall's clock and of the processor; a call runs in
+a process of its own, whose greatest memory is told, with the problem in it. The values have to be the same. The table
+goes to standard output, in Markdown.
 """
 
 import json
@@ -47,30 +48,17 @@ def grid_of(shape, neighbours):
     return {"provedflow.pixels": solve}
 
 
-def image_matrix(shape):
-    """The same picture as a sparse matrix, with a source and a sink."""
+def image_matrix(arcs):
+    """A picture of discs to be cut out, of the benchmarks' family `segmentation`, as a sparse matrix."""
+    import random
     import numpy as np
     import provedflow.scipy
-    from provedflow.pixels import pairs, steps
+    from grids import segmentation
     from scipy.sparse import coo_matrix
     from scipy.sparse.csgraph import maximum_flow
-    pixels = picture(np, shape, np.random.default_rng(SEED))
-    nodes = np.arange(pixels.size).reshape(shape)
-    rows, columns, weights = [], [], []
-    for step in steps(2, 4):
-        (here, there), (one, other) = pairs(nodes, step), pairs(pixels, step)
-        likeness = (1 + 60 * np.exp(-((one - other) / 30.0) ** 2)).astype(np.int32).ravel()
-        rows += [here.ravel(), there.ravel()]
-        columns += [there.ravel(), here.ravel()]
-        weights += [likeness, likeness]
-    bright, source, sink = pixels.ravel() > 127, pixels.size, pixels.size + 1
-    more = np.abs(2 * pixels.ravel() - 255).astype(np.int32)
-    rows += [np.full(bright.sum(), source), nodes.ravel()[~bright]]
-    columns += [nodes.ravel()[bright], np.full((~bright).sum(), sink)]
-    weights += [more[bright], more[~bright]]
-    size = pixels.size + 2
-    ends = np.concatenate(rows), np.concatenate(columns)
-    matrix = coo_matrix((np.concatenate(weights), ends), (size, size)).tocsr()
+    nodes, source, sink, found = segmentation(random.Random(SEED), arcs, 4)
+    rows, columns, weights = np.array(found, dtype=np.int32).T
+    matrix = coo_matrix((weights, (rows, columns)), (nodes, nodes)).tocsr()
     return {"provedflow.scipy": lambda: provedflow.scipy.maximum_flow(matrix, source, sink).flow_value,
             "SciPy": lambda: int(maximum_flow(matrix, source, sink).flow_value)}
 
@@ -116,7 +104,7 @@ def random_links(edges):
 
 
 PROBLEMS = {
-    "image of 512 x 512 pixels": lambda: image_matrix((512, 512)),
+    "image of 262,000 pixels": lambda: image_matrix(1_310_720),
     "random network, 50,000 arcs": lambda: random_matrix(50_000),
     "random network, 1,000,000 arcs": lambda: random_matrix(1_000_000),
     "random graph, 400,000 edges": lambda: random_graph(400_000),
@@ -125,16 +113,17 @@ PROBLEMS = {
     "868 x 600 pixels, 8 neighbours": lambda: grid_of((868, 600), 8),
     "99 x 99 x 99 voxels, 6 neighbours": lambda: grid_of((99, 99, 99), 6),
 }
-CALLS = {"image": 2, "random network": 2, "random graph": 4, "links": 1, "pixels": 1, "voxels": 1}
+CALLS = {"image": 2, "random network": 2, "links": 1, "random graph": 4, "pixels": 1, "voxels": 1}
 """How many calls there are on a problem, by a word of its name."""
 
 
 def run_one(name, place):
-    """Makes a problem and times one call on it; prints the call's name, value, seconds and megabytes."""
+    """Makes a problem and times one call on it; prints the call's name, value, seconds (wall, and of the processor) and
+    megabytes."""
     call, solve = list(PROBLEMS[name]().items())[place]
-    start = time.perf_counter()
+    start = time.perf_counter(), time.process_time()
     value = solve()
-    seconds = time.perf_counter() - start
+    seconds = [now - then for now, then in zip((time.perf_counter(), time.process_time()), start)]
     megabytes = resource.getrusage(resource.RUSAGE_SELF).ru_maxrss / 1024
     print(json.dumps([call, value, seconds, megabytes]))
 
@@ -156,13 +145,13 @@ def main():
     if len(sys.argv) < 2:
         sys.exit(__doc__)
     library, words = str(pathlib.Path(sys.argv[1]).resolve()), sys.argv[2:]
-    print("| Problem | Call | Seconds | Megabytes | Value |\n|---|---|---|---|---|")
+    print("| Problem | Call | Seconds | Of the processor | Megabytes | Value |\n|---|---|---|---|---|---|")
     for name in PROBLEMS:
         if words and not any(word in name for word in words):
             continue
         values = set()
-        for call, value, seconds, megabytes in measured(name, library):
-            print(f"| {name} | {call} | {seconds:.2g} | {megabytes:.0f} | {value} |", flush=True)
+        for call, value, (wall, processor), megabytes in measured(name, library):
+            print(f"| {name} | {call} | {wall:.3g} | {processor:.3g} | {megabytes:,.0f} | {value:,} |", flush=True)
             values.add(value)
         if len(values) > 1:
             sys.exit(f"{name}: the values differ: {values}")

@@ -1,10 +1,11 @@
 #!/usr/bin/env bash
 # Makes the library for C and C++ and puts it into a folder with its header: library.sh DIR [ARCHIVE]
 # DIR gets libprovedflow.so.0 with the link libprovedflow.so, libprovedflow.a and provedflow.h. ARCHIVE is what `rt lib`
-# made of the crate flow_c; where none is handed in, scripts/prove.sh proves and builds it first. To its code comes the
-# kit's heap, which calls malloc, realloc and free, and nothing else: there is no C of ours in the library. It needs the
-# C library alone, its code may lie anywhere in memory, and of its names only provedflow_* can be seen from outside.
-# Progress goes to standard error. The one line of standard output is the path of the shared library.
+# made of the crate flow_c; where none is handed in, scripts/prove.sh proves and builds it, unless nothing has changed
+# since it did. To its code comes the kit's heap, which calls malloc, realloc and free, and nothing else: there is no C
+# of ours in the library. It needs the C library alone, its code may lie anywhere in memory, and of its names only
+# provedflow_* can be seen from outside. Progress goes to standard error. The one line of standard output is the path of
+# the shared library.
 set -eu
 if [ $# -lt 1 ] || [ $# -gt 2 ]; then
   echo "usage: bash scripts/library.sh DIR [ARCHIVE]" >&2
@@ -19,8 +20,13 @@ folder=$(cd "$1" && pwd)
 archive=$(if [ $# -eq 2 ]; then realpath "$2"; fi)
 cd "$(dirname "$0")/.."
 if [ -z "$archive" ]; then
-  bash scripts/prove.sh flow_c
-  archive=$PWD/crates/flow_c/out/libflow_c.a
+  archive=crates/flow_c/out/libflow_c.a
+  proved=$archive.proved
+  if ! [ -f "$proved" ] || [ "$(bash scripts/sum.sh "$archive")" != "$(cat "$proved")" ]; then
+    bash scripts/prove.sh flow_c
+    bash scripts/sum.sh "$archive" > "$proved"
+  fi
+  archive=$PWD/$archive
 fi
 scratch=$(mktemp -d)
 trap 'rm -rf "$scratch"' EXIT

@@ -101,8 +101,8 @@ add pages python3 scripts/pages.py crates/flow/out/flow
 
 # The library for C, its header against the crate's exports, and the package for Python over it.
 add header python3 scripts/header.py
-[ -f crates/flow_c/out/libflow_c.a ] || (cd crates/flow_c && rt lib > /dev/null) || exit 1
-bash scripts/library.sh "$folder/library" crates/flow_c/out/libflow_c.a > /dev/null || exit 1
+say "the library for C"
+bash scripts/library.sh "$folder/library" > /dev/null || exit 1
 add library python3 scripts/try_library.py "$folder/library" crates/flow/out/flow
 add bindings python3 scripts/bindings.py "$folder/library/libprovedflow.so.0"
 

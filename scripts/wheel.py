@@ -16,6 +16,8 @@ import sys
 import time
 import zipfile
 
+from package_pages import MARKED
+
 ROOT = pathlib.Path(__file__).resolve().parent.parent
 PACKAGE = ROOT / "python" / "provedflow"
 OLDEST = (2, 17)
@@ -51,7 +53,7 @@ License: MIT
 Requires-Python: >=3.9
 Description-Content-Type: text/markdown
 
-{(ROOT / "docs" / "PYTHON.md").read_text()}"""
+{MARKED.sub("", (ROOT / "docs" / "PYTHON.md").read_text())}"""
 
 
 def record(files, name):

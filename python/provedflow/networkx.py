@@ -36,7 +36,6 @@ from itertools import islice
 from numbers import Integral, Rational, Real
 
 import networkx as nx
-from networkx.algorithms.flow.utils import build_residual_network, detect_unboundedness
 
 from provedflow import calls
 from provedflow.library import GREATEST_CAPACITY, MOST_ARCS, MOST_LINKS, MOST_NODES
@@ -130,24 +129,66 @@ def flow_func(G, s, t, capacity="capacity", residual=None, value_only=False, cut
     check_ends(G, s, t)
     with collector_paused():
         if residual is None:
-            check_capacities([(u, v, amount) for u, v, amount in G.edges(data=capacity, default=INFINITE)])
-        R = build_residual_network(G, capacity) if residual is None else residual
-        detect_unboundedness(R, s, t)
-        rows = dict(R.adjacency())
-        edges = [(u, v, attr) for u, row in rows.items() for v, attr in row.items()]
-        kind = kind_of(attr["capacity"] for _, _, attr in edges)
-        arcs = [arc for arc in edges if arc[2]["capacity"] > 0]
-        amounts, scale = whole_amounts([attr["capacity"] for _, _, attr in arcs], kind)
-        numbers = {node: number for number, node in enumerate(rows)}
-        ends = numbers[s], numbers[t]
-        src, dst = [numbers[u] for u, _, _ in arcs], [numbers[v] for _, v, _ in arcs]
-        value, flows = solve(len(numbers), src, dst, amounts, *ends, limit_of(cutoff, scale))
-        set_flows(rows, edges, arcs, flows)
-        if kind is not int:
-            set_in_kind(rows, edges, arcs, amounts, scale, kind)
-    R.graph["flow_value"] = in_kind(Fraction(value, scale), kind)
-    R.graph["algorithm"] = "flow_func"
+            rows, infinite = residual_rows(G, capacity)
+        else:
+            rows, infinite = dict(residual.adjacency()), residual.graph["inf"]
+            for attr in (attr for row in rows.values() for attr in row.values()):
+                attr["flow"] = 0
+        check_bounded(s, t, {u: [v for v, attr in row.items() if attr["capacity"] == infinite]
+                             for u, row in rows.items()})
+        value = send(rows, s, t, cutoff)
+        R = graph_of(rows, infinite) if residual is None else residual
+    R.graph.update(flow_value=value, algorithm="flow_func")
     return R
+
+
+def residual_rows(G, capacity):
+    """The edges of the residual network of a graph, as NetworkX's `build_residual_network` tells them, with no flow:
+    a dict of attributes for each, in a dict of dicts; and the number that stands for an infinite capacity there."""
+    check_kind(G)
+    edges = list(G.edges(data=capacity, default=INFINITE))
+    check_capacities(edges)
+    edges = [edge for edge in edges if edge[2] > 0 and edge[0] != edge[1]]
+    infinite = 3 * sum(amount for _, _, amount in edges if amount != INFINITE) or 1
+    rows = {u: {} for u in G}
+    both_ways = not G.is_directed()
+    for u, v, amount in edges:
+        most = infinite if amount == INFINITE else amount
+        if v in rows[u]:
+            rows[u][v]["capacity"] = most
+        else:
+            rows[u][v] = {"capacity": most, "flow": 0}
+            rows[v][u] = {"capacity": most if both_ways else 0, "flow": 0}
+    return rows, infinite
+
+
+def graph_of(rows, infinite):
+    """The residual network of these rows. They become its own, where `add_edges_from` would copy each attribute."""
+    R = nx.DiGraph(inf=infinite)
+    R.add_nodes_from(rows)
+    for u, row in rows.items():
+        R._succ[u].update(row)
+        for v, attr in row.items():
+            R._pred[v][u] = attr
+    return R
+
+
+def send(rows, s, t, cutoff):
+    """Sets the flows of a residual network without flows to a maximum flow, and answers its value."""
+    arcs = [(u, v, attr) for u, row in rows.items() for v, attr in row.items() if attr["capacity"] > 0]
+    given = [attr["capacity"] for _, _, attr in arcs]
+    kind = kind_of(given)
+    amounts, scale = whole_amounts(given, kind)
+    numbers = {node: number for number, node in enumerate(rows)}
+    src, dst = [numbers[u] for u, _, _ in arcs], [numbers[v] for _, v, _ in arcs]
+    value, flows = solve(len(numbers), src, dst, amounts, numbers[s], numbers[t], limit_of(cutoff, scale))
+    for (u, v, attr), units in zip(arcs, flows):
+        if units:
+            attr["flow"] += units
+            rows[v][u]["flow"] -= units
+    if kind is not int:
+        set_in_kind(rows, arcs, amounts, scale, kind)
+    return in_kind(Fraction(value, scale), kind)
 
 
 @contextlib.contextmanager
@@ -167,8 +208,7 @@ class Problem:
 
     def __init__(self, G, s, t, capacity):
         check_ends(G, s, t)
-        if G.is_multigraph():
-            raise nx.NetworkXError("MultiGraph and MultiDiGraph not supported (yet).")
+        check_kind(G)
         check_size(len(G), 0)
         self.numbers = {node: number for number, node in enumerate(G)}
         self.ends = self.numbers[s], self.numbers[t]
@@ -201,13 +241,7 @@ class Problem:
         rows = {}
         for u, v in ways + ([(v, u) for u, v in ways] if self.both_ways else []):
             rows.setdefault(u, []).append(v)
-        seen, waiting = {self.ends[0]}, [self.ends[0]]
-        while waiting:
-            new = [v for v in rows.get(waiting.pop(), ()) if v not in seen]
-            seen.update(new)
-            waiting += new
-        if self.ends[1] in seen:
-            raise nx.NetworkXUnbounded("Infinite capacity path, flow unbounded above.")
+        check_bounded(*self.ends, rows)
 
     def all_ways(self):
         """The arcs; an edge without direction is an arc each way."""
@@ -257,6 +291,23 @@ def check_ends(G, s, t):
             raise nx.NetworkXError(f"node {node} not in graph")
     if s == t:
         raise nx.NetworkXError("source and sink are the same node")
+
+
+def check_kind(G):
+    """Sees that a graph has no parallel edges."""
+    if G.is_multigraph():
+        raise nx.NetworkXError("MultiGraph and MultiDiGraph not supported (yet).")
+
+
+def check_bounded(s, t, rows):
+    """Sees that no path leads from s to t by edges of infinite capacity: the nodes that these lead to from each."""
+    seen, waiting = {s}, [s]
+    while waiting:
+        new = [v for v in rows.get(waiting.pop(), ()) if v not in seen]
+        seen.update(new)
+        waiting += new
+    if t in seen:
+        raise nx.NetworkXUnbounded("Infinite capacity path, flow unbounded above.")
 
 
 def check_size(nodes, arcs, most=MOST_ARCS):
@@ -364,21 +415,13 @@ def solve(nodes, srcs, dsts, amounts, source, sink, limit):
     return found.value, joined(found.flows, parts)
 
 
-def set_flows(rows, edges, arcs, flows):
-    """Sets the flow of each edge: what its arc carries less what the opposite one does."""
-    for _, _, attr in edges:
-        attr["flow"] = 0
-    for (u, v, attr), units in zip(arcs, flows):
-        if units:
-            attr["flow"] += units
-            rows[v][u]["flow"] -= units
-
-
-def set_in_kind(rows, edges, arcs, amounts, scale, kind):
-    """Sets the flows, which are whole numbers of 1/scale, to answers of a kind."""
+def set_in_kind(rows, arcs, amounts, scale, kind):
+    """Sets the flows of a residual network, which are whole numbers of 1/scale, to answers of a kind."""
     for (u, v, attr), amount in zip(arcs, amounts):
         if attr["flow"] > 0:
             attr["flow"] = edge_flow(attr["flow"], amount, attr["capacity"], scale, kind)
             rows[v][u]["flow"] = 0 - attr["flow"]
-    for _, _, attr in edges:
-        attr["flow"] = attr["flow"] or in_kind(Fraction(0), kind)
+    nothing = in_kind(Fraction(0), kind)
+    for row in rows.values():
+        for attr in row.values():
+            attr["flow"] = attr["flow"] or nothing

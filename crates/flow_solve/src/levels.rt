@@ -43,10 +43,8 @@
 //! In a dense network the phases follow the near sends. The trees grow no farther than until the nearest source and
 //! sink are found to be far apart, since then much flow goes far, and paths one by one bring little. There the waves
 //! begin.
-ghost use Rattle.std.specs.Prelude.{◌≡◌, ◌+◌, ◌*◌, ◌≤◌, length};
+ghost use Rattle.std.specs.Prelude.{◌+◌, ◌*◌, ◌≤◌, length};
 ghost use Rattle.flow_solve.specs.Bounds.{levels_bound};
-ghost use Rattle.flow_solve.specs.Task.{HasFlow, IsTask};
-ghost use Rattle.flow_solve.specs.Steps.{TakesSteps};
 
 pub(crate) mod near_sends;
 pub(crate) mod phases;
@@ -59,7 +57,7 @@ use crate::method::Method;
 use crate::solving::{Raise, solve};
 use crate::task::Task;
 use flow_net::{FlowTable, Network};
-use near_sends::{Sent, send_near};
+use near_sends::send_near;
 use phases::run_phases;
 use trees::grow_trees;
 use waves::send_waves;
@@ -100,19 +98,29 @@ fn share_of_rest(net: &Network, given: u64) -> u64
         .min(REST_SHARE * m)
 }
 
-/// Raises a flow by the stages that repair what they have built: search trees, and waves where these don't finish.
-fn repair(task: Task<'_>, flow: &mut FlowTable, cells: &mut [u32], sent: Sent, share: u64) -> u128
-    requires task { IsTask task }
-    requires cells { length cells.old ≡ 5 * task.packed.net.now.nodes }
-    requires flow { HasFlow task flow.old.flows sent.value }
-    ensures flow { HasFlow task.entry flow.new.flows result }
-    ensures steps { TakesSteps flow.old flow.new (sent.left + share) }
+/// How much the stages that repair may take.
+#[derive(Clone, Copy)]
+struct Shares {
+    /// The trees.
+    trees: u64,
+    /// The waves.
+    waves: u64,
+}
+
+/// How much the stages that repair may take, where the near sends have left so much of what was given: nothing in a
+/// dense network.
+fn share_out(net: &Network, given: u64, left: u64) -> Shares
+    requires given { given ≤ net.now.nodes * net.now.nodes * length net.now.arcs }
+    ensures trees { result.trees ≤ left }
+    ensures waves { result.waves + given ≤ net.now.nodes * net.now.nodes * length net.now.arcs }
 {
-    let reached = grow_trees(task, flow, cells, sent.value, sent.left);
-    if reached.is_finished {
-        return reached.value;
+    if is_dense(net) {
+        return Shares { trees: 0, waves: 0 };
     }
-    send_waves(task, flow, cells, reached.value, share)
+    Shares {
+        trees: left,
+        waves: share_of_rest(net, given),
+    }
 }
 
 /// Augments along shortest paths, level by level, in phases: a search backwards from the sinks ranks the nodes, the
@@ -127,12 +135,9 @@ impl Raise for Levels {
         let net = task.packed.net;
         let given = allowance(net);
         let sent = send_near(task, flow, cells, value, given);
-        let value = if is_dense(net) {
-            sent.value
-        } else {
-            let share = share_of_rest(net, given);
-            repair(task, flow, cells, sent, share)
-        };
+        let Shares { trees, waves } = share_out(net, given, sent.left);
+        let grown = grow_trees(task, flow, cells, sent.value, trees);
+        let value = send_waves(task, flow, cells, grown, waves);
         run_phases(task, flow, cells, value)
     }
 }

@@ -153,8 +153,8 @@ fn are_apart(first: u32, between: u32, end: u32) -> bool
     first / 2 != between / 2 && between / 2 != end / 2 && first / 2 != end / 2
 }
 
-/// Sends on along an arc and then over the last half-arc of the node that it leads to, at most so much, what comes over a
-/// source's half-arc to the node that it leaves. Answers how much that is.
+/// Sends on along an arc and then over the last half-arc of the node that it leads to, at most so much, what comes over
+/// a source's half-arc to the node that it leaves. Answers how much that is.
 fn send_over_two(
     task: Task<'_>,
     flow: &mut FlowTable,

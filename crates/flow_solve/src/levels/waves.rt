@@ -112,8 +112,8 @@ fn sweep(packed: Packed<'_>, flow: &mut FlowTable, cells: &mut [u32], wave: &mut
 const LEAST_REACH: u32 = 16;
 
 /// How many levels it stands above it in the first wave. Then all excess is near where it began and has most of its way
-/// to go: a few levels more save whole searches on long road maps, and cost frames and netlists a tenth of what they
-/// pass. With 32 or more these pass a quarter more and up to twice as many.
+/// to go: with 24 levels long road maps need one or two searches fewer than with 16, and take a third less time; frames
+/// and netlists pass a tenth to a quarter more half-arcs in their place. With 64 long frames pass twice as many.
 const FIRST_REACH: u32 = 24;
 
 /// The next wave's reach: twice as far where the last one took less than its search, so that chains of dead ends don't

@@ -284,18 +284,21 @@ def short(name):
             'none': ''}.get(name, name)
 
 
+def place(path, begin=BEGIN, end=END):
+    """A document with a place for a text; it ends the program where it has none."""
+    page = path.read_text(encoding='utf-8')
+    if page.count(begin) != 1 or page.count(end) != 1:
+        raise SystemExit(f'{path.name} has no place between one {begin} and one {end}')
+    return path
+
+
 def places(top):
-    """The two documents that tables are put into; it ends the program where one has no place for them."""
-    pages = [top / 'docs' / 'BENCHMARKS.md', top / 'README.md']
-    for path in pages:
-        page = path.read_text(encoding='utf-8')
-        if page.count(BEGIN) != 1 or page.count(END) != 1:
-            raise SystemExit(f'{path.name} has no place between one {BEGIN} and one {END}')
-    return pages
+    """The two documents that tables are put into."""
+    return [place(top / 'docs' / 'BENCHMARKS.md'), place(top / 'README.md')]
 
 
-def put(path, text):
+def put(path, text, begin=BEGIN, end=END):
     """Puts a text between the two markers of a document."""
     page = path.read_text(encoding='utf-8')
-    pattern = re.compile(re.escape(BEGIN) + '.*?' + re.escape(END), re.S)
-    path.write_text(pattern.sub(lambda _: f'{BEGIN}\n{text}\n{END}', page), encoding='utf-8')
+    pattern = re.compile(re.escape(begin) + '.*?' + re.escape(end), re.S)
+    path.write_text(pattern.sub(lambda _: f'{begin}\n{text}\n{end}', page), encoding='utf-8')

@@ -3,10 +3,11 @@
 
 With no option it proves and builds flow (minutes, unless that is done), makes the problems, measures for as long as is
 left of twenty minutes, and prints the tables; with --write it puts the tables and the picture into docs/BENCHMARKS.md,
-docs/benchmarks.svg and README.md. With --night no time is set, and every solver runs. Debian's packages of the other
-solvers: liblemon-utils, glpk-utils, python3-igraph, python3-networkx, python3-scipy, libmaxflow-dev and
-libboost-graph-dev with g++; of the photographs python3-skimage. The packages are those that apt lists. The values of
-all solvers must agree: where two differ, the status is 1.
+docs/benchmarks.svg and README.md. With --night no time is set, and every solver runs. With --stages it measures the
+program without each stage of its method in the place of other solvers. Debian's packages of the other solvers:
+liblemon-utils, glpk-utils, python3-igraph, python3-networkx, python3-scipy, libmaxflow-dev and libboost-graph-dev with
+g++; of the photographs python3-skimage. The packages are those that apt lists. The values of all solvers must agree:
+where two differ, the status is 1.
 """
 import argparse
 import concurrent.futures
@@ -28,6 +29,7 @@ sys.dont_write_bytecode = True
 import generate  # noqa: E402
 import report  # noqa: E402
 import solvers  # noqa: E402
+import stages  # noqa: E402
 
 # Arcs of a problem, and the nodes of a network for connect.
 SIZES = {'tiny': (200, 60), 'small': (50000, 10000), 'medium': (500000, 100000), 'large': (3000000, 1000000)}
@@ -250,6 +252,8 @@ def options():
     parser.add_argument('--solvers', nargs='+', default=[], metavar='NAME', help='besides flow (all that are found)')
     parser.add_argument('--also', nargs=2, action='append', default=[], metavar=('NAME', 'COMMAND'),
                         help='one more solver of flows, whose last word will be the file and which prints s VALUE')
+    parser.add_argument('--stages', action='store_true',
+                        help='the program without each stage of its method, each proved and built, at the middle size')
     parser.add_argument('--no-instructions', action='store_true', help='leave valgrind out')
     parser.add_argument('--write', action='store_true', help="write the documents' tables and the picture")
     given = parser.parse_args()
@@ -298,15 +302,38 @@ def measured_parts(bench, flow, version):
     return found
 
 
-def main():
-    given = options()
-    if given.write:
-        report.places(HERE.parent)
-    bench = Bench(given, Clock(given.minutes))
-    given.folder.mkdir(parents=True, exist_ok=True)
-    flow = given.flow or built_flow(given.folder / 'bin')
-    flow = str(Path(flow).resolve())
-    found = measured_parts(bench, flow, solvers.output_of(flow, '--version').removeprefix('flow '))
+def measured_stages(bench, own):
+    """The table of what each family takes without each stage of the method, at the middle size as generated."""
+    given = bench.given
+    given.orders = list(generate.ORDERS[:1])
+    size = SIZES[given.sizes[len(given.sizes) // 2]][0]
+    flows, photographs, *_ = chosen(given)
+    programs = stages.programs(given.folder / 'stages')
+    bench.make([(family, size, given.seed) for family in flows]
+               + [(family, 1, given.seed) for family in photographs])
+    others = [solvers.Solver(name, own.version, [program, 'solve', '--value']) for name, program in programs.items()]
+    found = bench.part(flows, size, size, own, others) + bench.part(photographs, 1, 'photographs', own, others)
+    text = (f'Run of {datetime.date.today().isoformat()} on {machine()}. Seed {given.seed}; seconds of the processor, '
+            f'the least of {given.repeat} runs in turn, or of as many as begin within a second.')
+    return f'{text}\n\n{stages.table(found, programs)}'
+
+
+def run_stages(bench, own):
+    """Measures the stages, and prints their table or writes it."""
+    page = HERE.parent / 'docs' / 'BENCHMARKS.md'
+    if bench.given.write:
+        report.place(page, stages.BEGIN, stages.END)
+    text = measured_stages(bench, own)
+    if bench.given.write:
+        report.put(page, text, stages.BEGIN, stages.END)
+    else:
+        print(text)
+
+
+def run_all(bench, flow, version):
+    """Measures all parts, and prints their tables or writes them."""
+    given = bench.given
+    found = measured_parts(bench, flow, version)
     told = report.Report(found, given, machine(), datetime.date.today().isoformat(),
                          '' if given.no_instructions else instructions(flow))
     if given.write:
@@ -314,6 +341,21 @@ def main():
     else:
         (given.folder / 'benchmarks.svg').write_text(told.picture(), encoding='utf-8')
         print(told.tables())
+
+
+def main():
+    given = options()
+    if given.write and not given.stages:
+        report.places(HERE.parent)
+    bench = Bench(given, Clock(given.minutes))
+    given.folder.mkdir(parents=True, exist_ok=True)
+    flow = given.flow or built_flow(given.folder / 'bin')
+    flow = str(Path(flow).resolve())
+    version = solvers.output_of(flow, '--version').removeprefix('flow ')
+    if given.stages:
+        run_stages(bench, solvers.Solver('flow', version, [flow, 'solve', '--value']))
+    else:
+        run_all(bench, flow, version)
     print('\n'.join(bench.wrong) or 'all values agree', file=sys.stderr)
     return 1 if bench.wrong else 0
 

@@ -25,6 +25,7 @@ import packages  # noqa: E402
 import report  # noqa: E402
 import run as run_module  # noqa: E402
 import solvers  # noqa: E402
+import stages  # noqa: E402
 
 ARCS = 200
 NODES = 60
@@ -293,6 +294,19 @@ def ratios():
     holds('nothing is told where nothing can be', ratio({'flow': 1}, {'a': 'failed'}).cell() == '-')
 
 
+def taken_out():
+    """Each stage's edit finds its text, and what is told of a problem without a stage."""
+    for stage, (name, old, new) in stages.EDITS.items():
+        holds(f'the text that takes {stage} out stands once', (stages.TOP / name).read_text('utf-8').count(old) == 1)
+        holds(f'the text in its place takes {stage} out', new != old)
+    problem = run_module.Problem.__new__(run_module.Problem)
+    problem.family, problem.arcs = 'any', 1000
+    problem.times, problem.stopped = {'flow': 2, 'a': 4, 'b': 2.05, 'c': 1}, {'d': 30}
+    row = stages.table([problem], 'abcd').splitlines()[-1]
+    holds('what a stage brings is told in times, in bold where it is more than noise',
+          row == '| any | 1,000 | 2.00 | **2.0** | 1.0 | 0.50 | **> 15** |')
+
+
 def instructions(flow):
     """The counts of instructions, where valgrind is installed."""
     if not shutil.which('valgrind'):
@@ -324,6 +338,7 @@ def main():
         listed_packages()
         several_terminals(folder)
         ratios()
+        taken_out()
         runner(flow, folder)
         failures(flow, folder)
         documents(folder)

@@ -3,7 +3,7 @@
 //!
 //! At each node next to a sink stands its *last half-arc*, one that leads there, until it is filled. The half-arcs of
 //! the sources are gone over one by one: what remains on one is sent on over the last half-arc of its node, and then
-//! over the half-arcs to nodes that have one, until nothing of it is left.
+//! along the arcs to nodes that have one, until nothing of it is left.
 ghost use Rattle.std.specs.Prelude.{◌≡◌, ◌≢◌, ℕ, ◌+◌, ◌-◌, ◌*◌, ◌/◌, ◌<◌, ◌≤◌, IsTrue, length, slice_index};
 ghost use Rattle.std.specs.List.{All};
 ghost use Rattle.flow_net.specs.Nets.{IsNode};
@@ -153,8 +153,8 @@ fn are_apart(first: u32, between: u32, end: u32) -> bool
     first / 2 != between / 2 && between / 2 != end / 2 && first / 2 != end / 2
 }
 
-/// Sends on over a half-arc and then the last half-arc of the node that it leads to, at most so much, what comes over a
-/// source's half-arc to the node that it leaves. Answers how much that is.
+/// Sends on along an arc and then over the last half-arc of the node that it leads to, at most so much, what comes over
+/// a source's half-arc to the node that it leaves. Answers how much that is.
 fn send_over_two(
     task: Task<'_>,
     flow: &mut FlowTable,
@@ -177,6 +177,10 @@ fn send_over_two(
     ensures room { most ≤ result + residual task.entry.packed.net.now flow.new.flows first }
 {
     let packed = task.packed;
+    // Against an arc something remains only where it was just sent, and to read its end would be one more far read.
+    if between % 2 == 1 {
+        return 0;
+    }
     let node = head(packed.net, between);
     let end = last[node as usize - 1];
     if end as usize >= packed.halves.len() {

@@ -16,7 +16,8 @@ use crate::task::Task;
 use flow_net::FlowTable;
 
 /// How many times the number of arcs a wave may take before the next search: some times what a search does, since in a
-/// wave that goes on for long most nodes are lifted where nothing leads on.
+/// wave that goes on for long most nodes are lifted where nothing leads on. With half or twice as many, networks with
+/// long ways take from a tenth less to a sixth more, some with the one and some with the other.
 const FUEL: u64 = 16;
 
 /// How many nodes have excess.

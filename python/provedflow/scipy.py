@@ -43,8 +43,7 @@ def maximum_flow(csgraph, source, sink, *, method="dinic"):
     """
     matrix = checked(csgraph, source, sink)
     rows = np.repeat(np.arange(matrix.shape[0], dtype=np.uint32), np.diff(matrix.indptr))
-    columns = matrix.indices.astype(np.uint32, copy=False)
-    value, flows = flow_of_arcs(rows, columns, matrix.data, [source], [sink], max(matrix.shape[0], 2))
+    value, flows = flow_of_arcs(rows, matrix.indices, matrix.data, source, sink, matrix.shape[0])
     if flows.size and flows.max() > np.iinfo(np.int64).max:
         raise OverflowError("an arc carries 2^63 or more, which the flow's int64 can't tell")
     there = csr_matrix((flows.view(np.int64), matrix.indices, matrix.indptr), shape=matrix.shape)

@@ -3,9 +3,9 @@
 
 LIBRARY is the shared library that scripts/library.sh makes. Calls over arrays are held against the definitions, by
 trial of all sets of nodes; those for SciPy and NetworkX against these libraries, and grids by trial of all masks. Every
-example of a docstring is run, and every block of Python of docs/PYTHON.md and of examples/python/README.md, which has
-to print what the block `text` after it shows. NumPy, SciPy and NetworkX are used where they are installed; what is left
-out for want of one is told in a line that begins with SKIPPED. The last line is 'bindings: N passed, M failed'.
+example of a docstring is run, and every block of Python of the pages below, which has to print what the block `text`
+after it shows. NumPy, SciPy and NetworkX are used where they are installed; what is left out for want of one is told in
+a line that begins with SKIPPED. The last line is 'bindings: N passed, M failed'.
 """
 
 import importlib
@@ -24,7 +24,8 @@ sys.path[:0] = [str(PACKAGE)]
 import binding_arrays
 from binding_checks import Checks
 
-PAGES = ("docs/PYTHON.md", "examples/python/README.md")
+PAGES = {"README.md": 0, "docs/PYTHON.md": 5, "examples/python/README.md": 3}
+"""The pages, each with how many blocks of Python it has at least."""
 NEEDS = {"provedflow": None, "provedflow.calls": None, "provedflow.scipy": "scipy", "provedflow.networkx": "networkx",
          "provedflow.pixels": "numpy"}
 """The modules with examples, and what each needs."""
@@ -50,10 +51,10 @@ def docstrings(checks):
 
 def pages(checks):
     """Runs the blocks of Python of the pages, and compares what they print."""
-    for page in PAGES:
+    for page, least in PAGES.items():
         text = (ROOT / page).read_text(encoding="utf-8")
         blocks = re.findall(r"```python\n(.*?)```(?:(?:(?!```).)*?```text\n(.*?)```)?", text, re.DOTALL)
-        checks.true(f"{page} has examples", bool(blocks), "no block of Python")
+        checks.true(f"{page} has examples", len(blocks) >= least, f"only {len(blocks)} blocks of Python")
         for number, (code, shown) in enumerate(blocks, 1):
             missing = [name for name in ("numpy", "scipy", "networkx")
                        if re.search(rf"^(?:import|from) (?:provedflow\.)?{name}\b", code, re.M) and not is_there(name)]

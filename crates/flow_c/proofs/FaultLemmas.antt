@@ -86,7 +86,8 @@ no_bad_terminals n sources sinks g bad = elim bad [
     | inl e ↦ let some = g.some_sink in omega (arith, e, some)
     | inr two ↦ elim two [
       | inl a ↦
-          no_bad_terminal n [] sources g.sources_within (front_distinct (from_one sources) (from_one sinks) g.distinct) a
+          no_bad_terminal n [] sources g.sources_within (front_distinct (from_one sources)
+          (from_one sinks) g.distinct) a
       | inr b ↦ no_bad_terminal n (from_one sources) sinks g.sinks_within g.distinct b
     ]
   ]

@@ -62,7 +62,8 @@ pub tallied : (end : Arc → ℕ) (arcs : List Arc) (xs cells : List ℕ) (i n :
 tallied end arcs xs cells i n l same count low high h k in_range =
     let step : i + 1 ≡ suc i = omega arith in
     let more = flow_over-more (λ a. just (k + 1) (end a)) arcs xs i l same in
-    rw step (go (end (get_or arcs i no_arc)) (get_or xs i 0) (flow_over (λ a. just (k + 1) (end a)) (take i arcs) (take i xs))
+    rw step (go (end (get_or arcs i no_arc)) (get_or xs i 0) (flow_over (λ a. just (k + 1) (end a)) (take i arcs)
+    (take i xs))
     (flow_over (λ a. just (k + 1) (end a)) (take (suc i) arcs) (take (suc i) xs)) low high (h k in_range) more)
   where
     go : (v x old new : ℕ) → 1 ≤ v → v ≤ n → get_or cells k 0 ≡ old → new ≡ old + cond (just (k + 1) v) x 0

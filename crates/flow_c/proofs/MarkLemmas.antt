@@ -3,7 +3,8 @@ use Rattle.std.proofs.Common.{◌≡◌, ◌<◌, ℕ, zero, suc, ◌+◌, ◌||
 use Rattle.std.proofs.Common.{get_or, set, ◌∙◌, sym, ap, inl, inr, arith, eqb, eq-eqb, append_assoc, take}
 use Rattle.std.proofs.Common.{add-one}
 use Rattle.std.proofs.lemmas.Bool.{cases_eq, ne_eqb}
-use Rattle.std.proofs.lemmas.List.{get_or-set_same, get_or-set_other, map-append, take-append-drop, get_or_append_left, get_or-append-add}
+use Rattle.std.proofs.lemmas.List.{get_or-set_same, get_or-set_other, map-append, take-append-drop, get_or_append_left}
+use Rattle.std.proofs.lemmas.List.{get_or-append-add}
 use Rattle.std.proofs.lemmas.List.{get_or-map, length-map, length-take-le}
 use Rattle.std.proofs.Common.{drop, length-append}
 use Rattle.std.proofs.lemmas.List.Folds.{list_any-append}
@@ -53,7 +54,8 @@ pub distinct-more : (marks : List Bool) (before taken : List ℕ) (n : ℕ)
 distinct-more marks before taken n same free distinct =
     let parts = list_any-append (λ w. eqb w (suc n)) before taken in
     let at = same (suc n) in
-    AreDistinct-sink (record { sources = before; sinks = taken }) (n + 1) distinct (rw add-one (sym parts ∙ sym at ∙ free))
+    AreDistinct-sink (record { sources = before; sinks = taken }) (n + 1) distinct (rw add-one
+    (sym parts ∙ sym at ∙ free))
 
 -- the list of those taken is one longer
 pub taken-more : (given : List ℕ) (i : ℕ) → i < length given

@@ -1,6 +1,6 @@
 -- Forests that grow from one root: what their cells hold, and the flows by which they come to nodes without an arc.
-use Rattle.std.specs.Prelude.{◌≡◌, ℕ, zero, suc, ◌+◌, ◌-◌, ◌*◌, ◌/◌, ◌%◌, ◌≤◌, ◌<◌, ◌==◌, Bool, false, List, length}
-use Rattle.std.specs.Prelude.{slice_index, slice_index_or, Option, MatchOption, IsTrue, IsFalse}
+use Rattle.std.specs.Prelude.{◌≡◌, ℕ, zero, suc, ◌+◌, ◌*◌, ◌/◌, ◌%◌, ◌≤◌, ◌<◌, ◌==◌, Bool, false, List, length}
+use Rattle.std.specs.Prelude.{slice_index, slice_index_or, ◌⊎◌, ◌≢◌, Option, MatchOption, IsTrue, IsFalse}
 use Rattle.std.specs.List.{count_by}
 use Rattle.flow_net.specs.declared.networks.Arc.{Arc}
 use Rattle.flow_net.specs.Nets.{Net, IsNode}
@@ -10,15 +10,15 @@ use Rattle.flow_net.specs.Flows.{out_of, into, IsFeasible}
 use Rattle.flow_net.specs.Connectivity.{leaving, IsProper}
 use Rattle.flow_net.specs.Cuts.{leaves, IsCut}
 use Rattle.flow_net.specs.Forests.{entering, AreEntered, HasSpread, IsEven, IsEitherWay, turned}
-use Rattle.flow_net.specs.Residual.{Table, head_of, residual}
+use Rattle.flow_net.specs.Limits.{IsNet}
+use Rattle.flow_net.specs.Residual.{Table, residual}
 use Rattle.flow_solve.specs.declared.forests.Ground.{Ground}
 use Rattle.flow_solve.specs.declared.forests.growing.TheConstants.{DONE}
 use Rattle.flow_solve.specs.declared.forests.joining.Budgeted.{Budgeted}
 use Rattle.flow_solve.specs.declared.forests.joining.TheConstants.{SEEN}
 use Rattle.flow_solve.specs.declared.residual.half_arcs.Direction.{Direction}
 use Rattle.flow_solve.specs.declared.residual.half_arcs.Direction.TheVariants.{Forwards, Backwards}
-use Rattle.flow_solve.specs.residual.Packs.{IsPacked, group_of}
-use Rattle.flow_solve.specs.residual.HalfArcs.{crossed}
+use Rattle.flow_solve.specs.residual.HalfArcs.{near_end, far_end}
 use Rattle.flow_solve.specs.Steps.{PaysSteps, TakesSteps}
 
 -- a set of nodes that is neither empty nor all has so many arcs out of it
@@ -68,44 +68,63 @@ seen_in cells = marked_with SEEN cells
 abbrev pub KeepsDone : List ℕ → List ℕ → Type 0
 KeepsDone before after = (v : ℕ) → done_in after v ≡ done_in before v
 
--- a place of a node's half-arcs, from a place on, at which one leads on
-pub record IsNextFrom (ground : Ground) (halves : List ℕ) (node from p : ℕ) : Type 0 where
-  pub begins : from ≤ p
-  pub ends : p < slice_index ground.first.now node
-  pub leads : LeadsOn ground.direction (slice_index halves p)
+-- no cell holds a half-arc
+abbrev pub IsEmptied : Net → List ℕ → Type 0
+IsEmptied net rows = (p : ℕ) → p < length rows → 2 * length net.arcs ≤ slice_index rows p
 
--- half-arcs side by side, and cells for each node: up to which place its half-arcs are taken, and whether the forest
--- has come to it
-pub record IsStand (ground : Ground) (halves taken state : List ℕ) : Type 0 where
-  pub packed : IsPacked ground.net.now ground.first.now halves
+-- no cell holds this one
+abbrev pub IsMissing : ℕ → List ℕ → Type 0
+IsMissing h rows = (p : ℕ) → p < length rows → slice_index rows p ≢ h
+
+-- no half-arc stands in two cells
+abbrev pub StandOnce : Net → List ℕ → Type 0
+StandOnce net rows = (p q : ℕ) → p < length rows → q < length rows → slice_index rows p < 2 * length net.arcs
+    → slice_index rows p ≡ slice_index rows q → p ≡ q
+
+-- a cell was written, if it exists
+pub record HasWritten (before : List ℕ) (at number : ℕ) (after : List ℕ) : Type 0 where
+  pub size : length after ≡ length before
+  pub cells : (p : ℕ) → (slice_index after p ≡ slice_index before p) ⊎ ((p ≡ at) × (slice_index after p ≡ number))
+
+-- a half-arc was put into a cell, or nothing was
+pub record HasPut (net : Net) (before : List ℕ) (h : ℕ) (after : List ℕ) : Type 0 where
+  pub once : IsMissing h before → StandOnce net before → StandOnce net after
+  pub others : (g : ℕ) → g < 2 * length net.arcs → g ≢ h → IsMissing g before → IsMissing g after
+
+-- no half-arc was
+pub record KeepsHalves (net : Net) (before after : List ℕ) : Type 0 where
+  pub once : StandOnce net before → StandOnce net after
+  pub others : (g : ℕ) → g < 2 * length net.arcs → IsMissing g before → IsMissing g after
+
+-- rows of half-arcs, and a cell for each node: whether the forest has come to it
+pub record IsStand (ground : Ground) (rows state : List ℕ) : Type 0 where
+  pub limits : IsNet ground.net.now
   pub root : IsNode ground.net.now ground.root
-  pub taken_size : length taken ≡ ground.net.now.nodes
-  pub state_size : length state ≡ ground.net.now.nodes
-  pub begun : (v : ℕ) → v < ground.net.now.nodes → slice_index ground.first.now v ≤ slice_index taken v
+  pub once : StandOnce ground.net.now rows
+  pub size : length state ≡ ground.net.now.nodes
 
--- the arcs of half-arcs that aren't taken are unmarked
-abbrev pub AreFree : Ground → (ℕ → Bool) → List ℕ → List ℕ → Type 0
-AreFree ground marks halves taken = (v p : ℕ) → v < ground.net.now.nodes → slice_index taken v ≤ p
-    → p < slice_index ground.first.now (v + 1) → LeadsOn ground.direction (slice_index halves p)
-    → IsFalse (marks (slice_index halves p / 2))
+-- the arcs of half-arcs that may be taken are unmarked
+abbrev pub AreFree : Ground → (ℕ → Bool) → List ℕ → Type 0
+AreFree ground marks rows = (p : ℕ) → p < length rows → slice_index rows p < 2 * length ground.net.now.arcs
+    → LeadsOn ground.direction (slice_index rows p) → IsFalse (marks (slice_index rows p / 2))
 
 -- c forests are done, which have taken half-arcs
-pub record IsGrove (ground : Ground) (k c : ℕ) (halves taken : List ℕ) : Type 0 where
+pub record IsGrove (ground : Ground) (k c : ℕ) (rows : List ℕ) : Type 0 where
   pub marks : ℕ → Bool
   pub entered : AreEntered (facing ground.direction ground.net.now) ground.root k marks c
-  pub free : AreFree ground marks halves taken
+  pub free : AreFree ground marks rows
 
 -- c forests are done, and one more has come to some nodes
-pub record IsForest (ground : Ground) (k c : ℕ) (halves taken state : List ℕ) : Type 0 where
+pub record IsForest (ground : Ground) (k c : ℕ) (rows state : List ℕ) : Type 0 where
   pub marks : ℕ → Bool
   pub spread : HasSpread (facing ground.direction ground.net.now) ground.root k marks c (done_in state)
-  pub free : AreFree ground marks halves taken
+  pub free : AreFree ground marks rows
 
 -- it has come to more
-pub record HasGrown (ground : Ground) (halves taken state halves' taken' state' : List ℕ) : Type 0 where
-  pub stand : IsStand ground halves' taken' state'
+pub record HasGrown (ground : Ground) (rows state rows' state' : List ℕ) : Type 0 where
+  pub stand : IsStand ground rows' state'
   pub more : (v : ℕ) → IsTrue (done_in state v) → IsTrue (done_in state' v)
-  pub forest : (k c : ℕ) → IsForest ground k c halves taken state → IsForest ground k c halves' taken' state'
+  pub forest : (k c : ℕ) → IsForest ground k c rows state → IsForest ground k c rows' state'
 
 -- so much leaves a node, forwards, or enters it, backwards, more than the other way
 abbrev pub sends : Direction → Net → ℕ → List ℕ → ℕ → Type 0
@@ -117,11 +136,11 @@ pub record IsRaised (dir : Direction) (net : Net) (w : ℕ) (done : ℕ → Bool
   pub feasible : IsFeasible net (just w) done xs
   pub sent : sends dir net w xs value
 
--- each half-arc with a residual capacity that a search may go over from a node leads to a node that it has seen
+-- where a half-arc has a residual capacity and leads from a node that a search has seen, it leads to one that it has
+-- seen
 abbrev pub IsPassed : Ground → List ℕ → List ℕ → ℕ → Type 0
-IsPassed ground xs state v = (h : ℕ) → h < 2 * length ground.net.now.arcs → group_of ground.net.now h ≡ v - 1
-    → 1 ≤ residual ground.net.now xs (crossed ground.direction h)
-    → slice_index state (head_of ground.net.now h - 1) ≡ SEEN
+IsPassed ground xs state h = IsTrue (seen_in state (near_end ground.direction ground.net.now h))
+    → 1 ≤ residual ground.net.now xs h → IsTrue (seen_in state (far_end ground.direction ground.net.now h))
 
 -- how many arcs lead out of a set, forwards, or into it, backwards
 abbrev pub parted : Direction → Net → (ℕ → Bool) → ℕ

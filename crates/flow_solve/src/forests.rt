@@ -15,22 +15,22 @@
 //! more can be raised, and at the end of a forest whether it has all nodes. All looks and pushes are counted against a
 //! number that the caller sets; where it is used up, or a test fails, the answer is none.
 //!
-//! With `n` nodes the `5·n` cells in front of the packed half-arcs are, in this order:
+//! With `n` nodes and `m` arcs the cells that are lent hold the rows, a cell for each node, and hints:
 //!
 //! | Cells | What they hold |
 //! |---|---|
-//! | `n` | for each node up to which place its half-arcs are taken by forests |
+//! | `2·m` | for each node its half-arcs, as [`rows`] says |
 //! | `n` | whether the forest has come to a node, and whether a search has seen it |
-//! | `n` | where a forest goes on at a node that it has come to; for another the half-arc by which a search came |
+//! | `4·n + 1` | four hints for each node |
 //! | `n` | the nodes that the forest goes back to; the queue of a search |
-//! | `n` | the nodes near which the next one is looked for |
+//! | `1` | spare |
 ghost use Rattle.std.specs.Prelude.{◌≡◌, ℕ, Bool, ◌+◌, ◌*◌, ◌≤◌, ◌<◌, ◌-◌, IfSome, IsTrue, if◌then◌else◌, length};
 ghost use Rattle.std.specs.List.{All};
 ghost use Rattle.flow_net.specs.Nets.{IsNode};
 ghost use Rattle.flow_net.specs.Flows.{Fits};
 ghost use Rattle.flow_net.specs.Connectivity.{leaving, IsProper};
 ghost use Rattle.flow_net.specs.LeastCuts.{IsConnectivity};
-ghost use Rattle.flow_solve.specs.residual.Packs.{IsPacked};
+ghost use Rattle.flow_net.specs.Limits.{IsNet};
 ghost use Rattle.flow_solve.specs.Bounds.{work_cells};
 ghost use Rattle.flow_solve.specs.Forests.{AreAbove, IsEulerian, IsForest, IsGrove, IsReached, IsStand, PaysIfAny};
 ghost use Rattle.flow_solve.specs.Forests.{done_in};
@@ -38,26 +38,27 @@ ghost use Rattle.flow_solve.specs.Forests.{done_in};
 pub(crate) mod degrees;
 mod growing;
 mod joining;
+mod rows;
 
 use crate::residual::half_arcs::Direction;
-use crate::residual::packing::pack;
-use degrees::{are_even, has_balanced_degrees};
+use degrees::{are_even, goes_both_ways, has_balanced_degrees};
 use flow_net::{FlowTable, Network};
 use growing::{DONE, Front, begin, grow, is_whole, next_node, reach};
 use joining::{Budgeted, raise};
+use rows::fill_rows;
 
 /// Where forests grow.
 #[derive(Clone, Copy)]
 pub(crate) struct Ground<'a> {
     /// The network.
     pub net: &'a Network,
-    /// For each node the place of its first half-arc, and at the end that of the first self-loop.
-    pub first: &'a [u32],
     /// The node from which each forest grows.
     pub root: u32,
     /// Which way a search goes from a node to those that a forest has come to. Backwards, the forests grow along arcs;
     /// forwards, against them.
     pub direction: Direction,
+    /// Whether the second half of the arcs are those of the first turned round, as a hint.
+    pub paired: bool,
 }
 
 /// Joins the nodes that a forest hasn't come to, one after the other, and lets the forest grow on from each, as long as
@@ -65,8 +66,7 @@ pub(crate) struct Ground<'a> {
 /// where looks and pushes are used up or a test fails.
 fn join_others(
     ground: Ground<'_>,
-    halves: &mut [u32],
-    taken: &mut [u32],
+    rows: &mut [u32],
     state: &mut [u32],
     hints: &mut [u32],
     flow: &mut FlowTable,
@@ -76,13 +76,13 @@ fn join_others(
 ) -> Option<Budgeted>
     requires fits { Fits ground.net.now flow.old.flows }
     requires unit { All (λ a. a.cap ≡ 1) ground.net.now.arcs }
-    requires stand { IsStand ground halves.old taken.old state.old }
+    requires stand { IsStand ground rows.old state.old }
     requires done { IsTrue (done_in state.old ground.root) }
     requires reached { IsReached ground.net.now least.value }
     ensures fits { Fits ground.entry.net.now flow.new.flows }
-    ensures stand { IfSome result (λ _. IsStand ground.entry halves.new taken.new state.new) }
-    ensures forest { IfSome result (λ r. (c : ℕ) → IsForest ground.entry least.value c halves.old taken.old state.old
-        → IsForest ground.entry r.value c halves.new taken.new state.new) }
+    ensures stand { IfSome result (λ _. IsStand ground.entry rows.new state.new) }
+    ensures forest { IfSome result (λ r. (c : ℕ) → IsForest ground.entry least.value c rows.old state.old
+        → IsForest ground.entry r.value c rows.new state.new) }
     ensures reached { IfSome result (λ r. IsReached ground.entry.net.now r.value) }
     ensures fewer { IfSome result (λ r. r.value ≤ least.value) }
     ensures paid { PaysIfAny flow.old least.left flow.new result }
@@ -95,10 +95,10 @@ fn join_others(
     let mut front = front;
     let mut least = least;
     while front.count < nodes && least.value > count {
-        front = next_node(ground, halves, state, hints, front);
-        least = raise(ground, halves, state, hints, flow, front.node, least)?;
+        front = next_node(ground, rows, state, hints, front);
+        least = raise(ground, rows, state, hints, flow, front.node, least)?;
         front = reach(ground, state, hints, front);
-        front = grow(ground, halves, taken, state, hints, front);
+        front = grow(ground, rows, state, hints, front);
     }
     Some(least)
 }
@@ -108,8 +108,7 @@ fn join_others(
 /// used up or a test fails.
 fn grow_forest(
     ground: Ground<'_>,
-    halves: &mut [u32],
-    taken: &mut [u32],
+    rows: &mut [u32],
     state: &mut [u32],
     hints: &mut [u32],
     flow: &mut FlowTable,
@@ -118,23 +117,21 @@ fn grow_forest(
 ) -> Option<Budgeted>
     requires fits { Fits ground.net.now flow.old.flows }
     requires unit { All (λ a. a.cap ≡ 1) ground.net.now.arcs }
-    requires stand { IsStand ground halves.old taken.old state.old }
+    requires stand { IsStand ground rows.old state.old }
     requires reached { IsReached ground.net.now least.value }
     ensures fits { Fits ground.entry.net.now flow.new.flows }
-    ensures stand { IfSome result (λ _. IsStand ground.entry halves.new taken.new state.new) }
-    ensures kept { IfSome result (λ r. IsGrove ground.entry least.value count halves.old taken.old
-        → IsGrove ground.entry r.value count halves.new taken.new) }
-    ensures grove { IfSome result (λ r. count < r.value → IsGrove ground.entry least.value count halves.old taken.old
-        → IsGrove ground.entry r.value (count + 1) halves.new taken.new) }
+    ensures stand { IfSome result (λ _. IsStand ground.entry rows.new state.new) }
+    ensures kept { IfSome result (λ r. IsGrove ground.entry least.value count rows.old
+        → IsGrove ground.entry r.value count rows.new) }
+    ensures grove { IfSome result (λ r. count < r.value → IsGrove ground.entry least.value count rows.old
+        → IsGrove ground.entry r.value (count + 1) rows.new) }
     ensures reached { IfSome result (λ r. IsReached ground.entry.net.now r.value) }
     ensures fewer { IfSome result (λ r. r.value ≤ least.value) }
     ensures paid { PaysIfAny flow.old least.left flow.new result }
 {
     let front = begin(ground, state, hints);
-    let front = grow(ground, halves, taken, state, hints, front);
-    let least = join_others(
-        ground, halves, taken, state, hints, flow, front, count, least,
-    )?;
+    let front = grow(ground, rows, state, hints, front);
+    let least = join_others(ground, rows, state, hints, flow, front, count, least)?;
     if least.value <= count {
         return Some(least);
     }
@@ -160,7 +157,7 @@ fn forests_for(least: u64, is_even: bool) -> u64
 /// are left; the answer is the same afterwards, or nothing where they are used up or a test fails.
 fn run_pass(
     ground: Ground<'_>,
-    halves: &mut [u32],
+    rows: &mut [u32],
     cells: &mut [u32],
     flow: &mut FlowTable,
     is_even: bool,
@@ -168,26 +165,24 @@ fn run_pass(
 ) -> Option<Budgeted>
     requires fits { Fits ground.net.now flow.old.flows }
     requires unit { All (λ a. a.cap ≡ 1) ground.net.now.arcs }
-    requires packed { IsPacked ground.net.now ground.first.now halves.old }
+    requires limits { IsNet ground.net.now }
     requires root { IsNode ground.net.now ground.root }
-    requires cells { length cells.old ≡ 5 * ground.net.now.nodes }
+    requires cells { ground.net.now.nodes ≤ length cells.old }
     requires even { IsTrue is_even → IsEulerian ground.net.now }
     requires reached { IsReached ground.net.now least.value }
     ensures fits { Fits ground.entry.net.now flow.new.flows }
-    ensures packed { IfSome result (λ _. IsPacked ground.entry.net.now ground.entry.first.now halves.new) }
     ensures above { IfSome result (λ r. AreAbove ground.entry r.value) }
     ensures reached { IfSome result (λ r. IsReached ground.entry.net.now r.value) }
     ensures fewer { IfSome result (λ r. r.value ≤ least.value) }
     ensures paid { PaysIfAny flow.old least.left flow.new result }
 {
     let n = ground.net.nodes() as usize;
-    let (taken, rest) = cells.split_at_mut(n);
-    let (state, hints) = rest.split_at_mut(n);
-    taken.copy_from_slice(&ground.first[..n]);
+    let (state, hints) = cells.split_at_mut(n);
+    fill_rows(ground, rows, hints);
     let mut least = least;
     let mut count = 0;
     while count < forests_for(least.value, is_even) {
-        least = grow_forest(ground, halves, taken, state, hints, flow, count, least)?;
+        least = grow_forest(ground, rows, state, hints, flow, count, least)?;
         if least.value <= count {
             return Some(least);
         }
@@ -196,21 +191,26 @@ fn run_pass(
     Some(least)
 }
 
-/// A node that the most half-arcs leave.
-fn hub(net: &Network, first: &[u32]) -> u32
-    requires size { length first.now ≡ net.now.nodes + 1 }
+/// A node that has the most arcs, by the numbers of those that leave each and of those that enter each.
+fn hub(net: &Network, degrees: &[u32]) -> u32
+    requires size { 2 * net.now.nodes ≤ length degrees.now }
     ensures { IsNode net.now result }
 {
     let mut best = 0;
     let mut most = 0;
     for node in 0..net.nodes() {
-        let count = first[node as usize + 1].saturating_sub(first[node as usize]);
+        let count = degrees[node as usize].wrapping_add(degrees[(net.nodes() + node) as usize]);
         if count > most {
             best = node;
             most = count;
         }
     }
     best + 1
+}
+
+/// Whether a node has more arcs on an average than a number.
+fn has_more_arcs(net: &Network, least: u64) -> bool {
+    net.len() as u64 > least.saturating_mul(net.nodes() as u64)
 }
 
 /// The edge connectivity of a network in which every capacity is 1, where a set of nodes is known that `least` arcs
@@ -237,31 +237,25 @@ pub fn connectivity_by_forests(
     ensures steps { flow.new.steps ≤ flow.old.steps + budget }
     ensures still_fits { Fits net.now flow.new.flows }
 {
-    let n = net.nodes() as usize;
     let m = net.len() as usize;
-    let (cells, rest) = work.split_at_mut(5 * n);
-    let (first, rest) = rest.split_at_mut(n + 1);
-    let (halves, _) = rest.split_at_mut(2 * m);
-    pack(net, first, halves);
+    let (rows, cells) = work.split_at_mut(2 * m);
     let is_balanced = has_balanced_degrees(net, cells);
     let is_even = is_balanced && are_even(net, cells);
-    let root = hub(net, first);
-    let first: &[u32] = first;
     let mut ground = Ground {
         net,
-        first,
-        root,
+        root: hub(net, cells),
         direction: Direction::Backwards,
+        paired: (is_even || has_more_arcs(net, least)) && goes_both_ways(net),
     };
     let start = Budgeted {
         value: least,
         left: budget,
     };
-    let forth = run_pass(ground, halves, cells, flow, is_even, start)?;
+    let forth = run_pass(ground, rows, cells, flow, is_even, start)?;
     if is_balanced {
         return Some(forth.value);
     }
     ground.direction = Direction::Forwards;
-    let back = run_pass(ground, halves, cells, flow, false, forth)?;
+    let back = run_pass(ground, rows, cells, flow, false, forth)?;
     Some(back.value)
 }

@@ -14,7 +14,7 @@
 //! may give up: [`connectivity_by_forests`] answers nothing where the steps that it may take don't suffice. No contract
 //! says that it ever succeeds; callers go another way then.
 //!
-//! With `n` nodes and `m` arcs these cells are, in this order:
+//! With `n` nodes and `m` arcs these cells are, in this order, but for the forests, which lay them out their own way:
 //!
 //! | Cells | What they hold |
 //! |---|---|

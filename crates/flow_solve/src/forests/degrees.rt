@@ -76,7 +76,7 @@ pub(crate) fn has_balanced_degrees(net: &Network, degrees: &mut [u32]) -> bool
 }
 
 /// Whether the second half of the arcs are those of the first turned round, in their order.
-fn goes_both_ways(net: &Network) -> bool
+pub(crate) fn goes_both_ways(net: &Network) -> bool
     ensures { IsTrue result → AreOpposite net.now.arcs }
 {
     let half = net.len() / 2;

@@ -1,16 +1,20 @@
 //! A forest that grows in depth, and the nodes that it comes to.
 //!
-//! Among the half-arcs of a node those that forests have taken stand first: one more changes places with the first that
-//! isn't taken. So no forest goes over them again.
-ghost use Rattle.std.specs.Prelude.{◌≡◌, ◌↔◌, ℕ, ◌+◌, ◌-◌, ◌*◌, ◌<◌, ◌≤◌, IfSome, IsTrue, length};
+//! It passes over half-arcs by the hints of where they lead. Before it takes one it reads the arc itself: whether it
+//! begins at the node, which way it leads and where to. In a row those that forests have taken stand first: one more
+//! changes places with the first that isn't taken. So no forest goes over them again.
+ghost use Rattle.std.specs.Prelude.{◌≡◌, ◌↔◌, ℕ, ◌+◌, ◌-◌, ◌*◌, ◌<◌, ◌≤◌, IsTrue, length};
 ghost use Rattle.std.specs.Prelude.{slice_index, slice_set};
 ghost use Rattle.flow_net.specs.Nets.{IsNode};
-ghost use Rattle.flow_solve.specs.residual.Packs.{IsPacked};
-ghost use Rattle.flow_solve.specs.Forests.{HasGrown, IsNextFrom, IsStand, LeadsOn, done_in};
+ghost use Rattle.flow_net.specs.Residual.{tail_of};
+ghost use Rattle.flow_solve.specs.Forests.{HasGrown, IsStand, LeadsOn, done_in};
 
 use crate::forests::Ground;
+use crate::forests::rows::{
+    FIRST, NEAR, NEXT, NONE, PLACE, RECORD, TAKEN, half_in, queue_at, record, spot_of,
+};
 use crate::residual::cells::{get, put};
-use crate::residual::half_arcs::{Direction, head};
+use crate::residual::half_arcs::{Direction, head, tail};
 use flow_net::MOST_NODES;
 
 /// In the cell of a node that the forest has come to.
@@ -37,43 +41,105 @@ fn leads_on(direction: Direction, half: u32) -> bool
     }
 }
 
-/// Takes the half-arc at a place of a node, and comes to the node behind it.
-fn take(
-    ground: Ground<'_>,
-    halves: &mut [u32],
-    taken: &mut [u32],
-    state: &mut [u32],
-    node: u32,
-    spot: u32,
-)
-    requires stand { IsStand ground halves.old taken.old state.old }
-    requires node { IsNode ground.net.now node }
-    requires done { IsTrue (done_in state.old node) }
-    requires from { slice_index taken.old (node - 1) ≤ spot }
-    requires to { spot < slice_index ground.first.now node }
-    requires leads { LeadsOn ground.direction (slice_index halves.old spot) }
-    ensures { HasGrown ground.entry halves.old taken.old state.old halves.new taken.new state.new }
+/// Takes the half-arc in a cell, and comes to the node behind it.
+fn take(ground: Ground<'_>, rows: &mut [u32], state: &mut [u32], at: usize)
+    requires stand { IsStand ground rows.old state.old }
+    requires at { at < length rows.old }
+    requires half { slice_index rows.old at < 2 * length ground.net.now.arcs }
+    requires leads { LeadsOn ground.direction (slice_index rows.old at) }
+    requires done { IsTrue (done_in state.old (tail_of ground.net.now (slice_index rows.old at))) }
+    ensures { HasGrown ground.entry rows.old state.old rows.new state.new }
 {
-    let half = halves[spot as usize];
-    let next = taken[node as usize - 1];
-    halves.swap(spot as usize, next as usize);
-    taken[node as usize - 1] = next + 1;
+    let half = rows[at];
+    rows[at] = half + TAKEN;
     state[head(ground.net, half) as usize - 1] = DONE;
 }
 
-/// The place of the next half-arc of a node, from a place on, that leads on to a node which the forest hasn't come to.
-fn next_spot(ground: Ground<'_>, halves: &[u32], state: &[u32], node: u32, from: u32) -> Option<u32>
-    requires packed { IsPacked ground.net.now ground.first.now halves.now }
-    requires size { length state.now ≡ ground.net.now.nodes }
-    requires node { IsNode ground.net.now node }
-    requires from { slice_index ground.first.now (node - 1) ≤ from }
-    ensures { IfSome result (IsNextFrom ground.entry halves.now node from) }
+/// Two cells change places, if they exist.
+fn exchange(ground: Ground<'_>, rows: &mut [u32], state: &[u32], a: usize, b: usize)
+    requires stand { IsStand ground rows.old state.now }
+    ensures { HasGrown ground.entry rows.old state.now rows.new state.now }
 {
-    let Ground { net, first, .. } = ground;
-    for spot in from..first[node as usize] {
-        let half = halves[spot as usize];
-        if leads_on(ground.direction, half) && state[head(net, half) as usize - 1] != DONE {
-            return Some(spot);
+    if a >= rows.len() || b >= rows.len() {
+        return;
+    }
+    rows.swap(a, b);
+}
+
+/// Two entries change places.
+fn exchange_entries(ground: Ground<'_>, rows: &mut [u32], state: &[u32], one: u32, other: u32)
+    requires stand { IsStand ground rows.old state.now }
+    ensures { HasGrown ground.entry rows.old state.now rows.new state.now }
+{
+    if one == other {
+        return;
+    }
+    let a = spot_of(ground, one);
+    let b = spot_of(ground, other);
+    exchange(ground, rows, state, a, b);
+    if !ground.paired {
+        return;
+    }
+    exchange(ground, rows, state, a + 1, b + 1);
+}
+
+/// Takes the half-arc of an entry, if it isn't taken, leads on, and leaves the node. Answers whether it does.
+fn take_entry(
+    ground: Ground<'_>,
+    rows: &mut [u32],
+    state: &mut [u32],
+    node: u32,
+    entry: u32,
+) -> bool
+    requires stand { IsStand ground rows.old state.old }
+    requires done { IsTrue (done_in state.old node) }
+    ensures { HasGrown ground.entry rows.old state.old rows.new state.new }
+{
+    let at = spot_of(ground, entry);
+    if at >= rows.len() {
+        return false;
+    }
+    let half = rows[at];
+    if half >= 2 * ground.net.len() || !leads_on(ground.direction, half) {
+        return false;
+    }
+    if tail(ground.net, half) != node {
+        return false;
+    }
+    take(ground, rows, state, at);
+    true
+}
+
+/// The node that the half-arc of an entry leads to, taken or not, as a hint; 0 if it doesn't lead on.
+fn node_behind(ground: Ground<'_>, rows: &[u32], entry: u32) -> u32 {
+    let at = spot_of(ground, entry);
+    if ground.paired {
+        return NONE - get(rows, at + 1);
+    }
+    let cell = get(rows, at);
+    // A half-arc that is taken is even, or odd, as it was.
+    if !leads_on(ground.direction, cell) {
+        return 0;
+    }
+    let half = half_in(cell);
+    if half >= 2 * ground.net.len() {
+        return 0;
+    }
+    head(ground.net, half)
+}
+
+/// Whether it is a node and the forest hasn't come to it.
+fn is_left(state: &[u32], node: u32) -> bool {
+    let place = node.wrapping_sub(1) as usize;
+    place < state.len() && state[place] != DONE
+}
+
+/// The next entry from one on, and before another, that leads on to a node which the forest hasn't come to, if there is
+/// one.
+fn next_entry(ground: Ground<'_>, rows: &[u32], state: &[u32], from: u32, to: u32) -> Option<u32> {
+    for entry in from..to {
+        if is_left(state, node_behind(ground, rows, entry)) {
+            return Some(entry);
         }
     }
     None
@@ -83,29 +149,32 @@ fn next_spot(ground: Ground<'_>, halves: &[u32], state: &[u32], node: u32, from:
 /// Answers that node, or none.
 fn go_on(
     ground: Ground<'_>,
-    halves: &mut [u32],
-    taken: &mut [u32],
+    rows: &mut [u32],
     state: &mut [u32],
     hints: &mut [u32],
     node: u32,
 ) -> Option<u32>
-    requires stand { IsStand ground halves.old taken.old state.old }
-    ensures { HasGrown ground.entry halves.old taken.old state.old halves.new taken.new state.new }
+    requires stand { IsStand ground rows.old state.old }
+    ensures { HasGrown ground.entry rows.old state.old rows.new state.new }
 {
-    let net = ground.net;
-    if node == 0 || node > net.nodes() || state[node as usize - 1] != DONE {
+    if node == 0 || node > ground.net.nodes() || state[node as usize - 1] != DONE {
         return None;
     }
-    let place = node as usize - 1;
-    let from = taken[place].max(get(hints, place));
-    let Some(spot) = next_spot(ground, halves, state, node, from) else {
-        put(hints, place, 0);
+    let at = record(node);
+    let next = get(hints, at + NEXT);
+    let from = next.max(get(hints, at + PLACE));
+    let Some(entry) = next_entry(ground, rows, state, from, get(hints, at + RECORD + FIRST)) else {
+        put(hints, at + PLACE, 0);
         return None;
     };
-    let next = head(net, halves[spot as usize]);
-    take(ground, halves, taken, state, node, spot);
-    put(hints, place, spot.wrapping_add(1));
-    Some(next)
+    let behind = node_behind(ground, rows, entry);
+    if !take_entry(ground, rows, state, node, entry) {
+        return None;
+    }
+    exchange_entries(ground, rows, state, entry, next);
+    put(hints, at + NEXT, next.wrapping_add(1));
+    put(hints, at + PLACE, entry.wrapping_add(1));
+    Some(behind)
 }
 
 /// The front once the forest has come to a node.
@@ -114,8 +183,8 @@ fn come_to(nodes: u32, hints: &mut [u32], front: Front, node: u32) -> Front
     ensures count { result.count ≡ front.count + 1 }
     ensures node { result.node ≡ node }
 {
-    put(hints, node.wrapping_sub(1) as usize, 0);
-    put(hints, 2 * nodes as usize + front.near as usize, node);
+    put(hints, record(node) + PLACE, 0);
+    put(hints, RECORD * front.near as usize + NEAR, node);
     Front {
         count: front.count + 1,
         near: front.near.saturating_add(1),
@@ -126,14 +195,13 @@ fn come_to(nodes: u32, hints: &mut [u32], front: Front, node: u32) -> Front
 /// Lets the forest grow in depth from a node, until it has come to all nodes that it can come to.
 pub(crate) fn grow(
     ground: Ground<'_>,
-    halves: &mut [u32],
-    taken: &mut [u32],
+    rows: &mut [u32],
     state: &mut [u32],
     hints: &mut [u32],
     front: Front,
 ) -> Front
-    requires stand { IsStand ground halves.old taken.old state.old }
-    ensures grown { HasGrown ground.entry halves.old taken.old state.old halves.new taken.new state.new }
+    requires stand { IsStand ground rows.old state.old }
+    ensures grown { HasGrown ground.entry rows.old state.old rows.new state.new }
     ensures count { front.count ≤ result.count }
 {
     let nodes = ground.net.nodes();
@@ -141,13 +209,13 @@ pub(crate) fn grow(
     let mut depth = 0u32;
     while front.count < nodes {
         let node = front.node;
-        if let Some(next) = go_on(ground, halves, taken, state, hints, node) {
-            put(hints, nodes as usize + depth as usize, node);
+        if let Some(next) = go_on(ground, rows, state, hints, node) {
+            put(hints, queue_at(nodes, depth), node);
             depth += 1;
             front = come_to(nodes, hints, front, next);
         } else if depth > 0 {
             depth -= 1;
-            front.node = get(hints, nodes as usize + depth as usize);
+            front.node = get(hints, queue_at(nodes, depth));
         } else {
             return front;
         }
@@ -187,23 +255,16 @@ pub(crate) fn reach(ground: Ground<'_>, state: &mut [u32], hints: &mut [u32], fr
 /// The next node that a half-arc of a node leads to and that the forest hasn't come to, if there is one.
 fn neighbour(
     ground: Ground<'_>,
-    halves: &[u32],
+    rows: &[u32],
     state: &[u32],
     hints: &mut [u32],
     node: u32,
-) -> Option<u32>
-    requires packed { IsPacked ground.net.now ground.first.now halves.now }
-    requires size { length state.now ≡ ground.net.now.nodes }
-{
-    let net = ground.net;
-    if node == 0 || node > net.nodes() {
-        return None;
-    }
-    let place = node as usize - 1;
-    let from = ground.first[place].max(get(hints, place));
-    let spot = next_spot(ground, halves, state, node, from)?;
-    put(hints, place, spot);
-    Some(head(net, halves[spot as usize]))
+) -> Option<u32> {
+    let at = record(node);
+    let from = get(hints, at + FIRST).max(get(hints, at + PLACE));
+    let entry = next_entry(ground, rows, state, from, get(hints, at + RECORD + FIRST))?;
+    put(hints, at + PLACE, entry);
+    Some(node_behind(ground, rows, entry))
 }
 
 /// The first node that the forest hasn't come to.
@@ -222,20 +283,20 @@ fn first_left(state: &[u32]) -> u32
 /// there is one.
 pub(crate) fn next_node(
     ground: Ground<'_>,
-    halves: &[u32],
+    rows: &[u32],
     state: &[u32],
     hints: &mut [u32],
     front: Front,
 ) -> Front
-    requires packed { IsPacked ground.net.now ground.first.now halves.now }
     requires size { length state.now ≡ ground.net.now.nodes }
     ensures { result.count ≡ front.count }
 {
-    let nodes = ground.net.nodes() as usize;
+    // Brings the network's limits, `IsNet`, into the proof.
+    let _ = ground.net.nodes();
     let mut next = front;
     while next.near > 0 {
-        let last = get(hints, 2 * nodes + next.near as usize - 1);
-        if let Some(node) = neighbour(ground, halves, state, hints, last) {
+        let last = get(hints, RECORD * (next.near as usize - 1) + NEAR);
+        if let Some(node) = neighbour(ground, rows, state, hints, last) {
             next.node = node;
             return next;
         }

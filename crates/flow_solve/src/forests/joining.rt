@@ -6,16 +6,16 @@ ghost use Rattle.flow_net.specs.Nets.{IsNode};
 ghost use Rattle.flow_net.specs.Limits.{IsNet};
 ghost use Rattle.flow_net.specs.Flows.{Fits, IsFeasible};
 ghost use Rattle.flow_solve.specs.residual.HalfArcs.{IsClosedFor};
-ghost use Rattle.flow_solve.specs.residual.Packs.{IsPacked};
 ghost use Rattle.flow_solve.specs.Forests.{IsBelow, IsPassed, IsRaised, IsReached, KeepsDone, Pays, PaysIfAny};
 ghost use Rattle.flow_solve.specs.Forests.{done_in, seen_in};
 ghost use Rattle.flow_solve.specs.Steps.{OnlyLooks, PaysLooks};
 
 use crate::forests::Ground;
 use crate::forests::growing::DONE;
+use crate::forests::rows::{FIRST, PLACE, RECORD, half_in, queue_at, record, spot_of};
 use crate::residual::cells::{get, put};
 use crate::residual::half_arcs::{cross, far, head, near};
-use flow_net::FlowTable;
+use flow_net::{FlowTable, Network};
 
 /// In the cell of a node that a search has seen, and that the forest hasn't come to.
 pub(crate) const SEEN: u32 = 2;
@@ -76,46 +76,90 @@ fn search_over(
         return next;
     }
     state[place] = SEEN;
-    put(hints, place, over);
-    put(
-        hints,
-        net.nodes() as usize + search.tail as usize,
-        place as u32 + 1,
-    );
+    let node = place as u32 + 1;
+    put(hints, record(node) + PLACE, over);
+    put(hints, queue_at(net.nodes(), search.tail), node);
     next.tail = search.tail.saturating_add(1);
     next
+}
+
+/// The half-arc against the opposite arc, where the second half of the arcs are those of the first turned round. It
+/// leaves the node that this one leaves, as a hint.
+fn opposite(net: &Network, half: u32) -> u32
+    requires { half < 2 * length net.now.arcs }
+    ensures { result < 2 * length net.now.arcs }
+{
+    let opposite = if half < net.len() {
+        half + net.len() + 1
+    } else {
+        half - net.len() + 1
+    };
+    if opposite < 2 * net.len() {
+        opposite
+    } else {
+        half
+    }
+}
+
+/// Looks at the half-arc of an entry, and at the one that stands for it.
+fn search_entry(
+    ground: Ground<'_>,
+    rows: &[u32],
+    state: &mut [u32],
+    hints: &mut [u32],
+    flow: &mut FlowTable,
+    search: Search,
+    entry: u32,
+) -> Search
+    requires limits { IsNet ground.net.now }
+    requires fits { Fits ground.net.now flow.old.flows }
+    requires size { length state.old ≡ ground.net.now.nodes }
+    ensures done { KeepsDone state.old state.new }
+    ensures next { result.at ≡ search.at }
+    ensures looks { PaysLooks flow.old search.left flow.new result.left }
+{
+    let half = half_in(get(rows, spot_of(ground, entry)));
+    if half >= 2 * ground.net.len() {
+        return search;
+    }
+    let next = search_over(ground, state, hints, flow, search, half);
+    if !ground.paired || next.found.is_some() {
+        return next;
+    }
+    let opposite = opposite(ground.net, half);
+    search_over(ground, state, hints, flow, next, opposite)
 }
 
 /// Looks at the half-arcs of the next node that the search has seen, until it has found a path.
 fn search_from(
     ground: Ground<'_>,
-    halves: &[u32],
+    rows: &[u32],
     state: &mut [u32],
     hints: &mut [u32],
     flow: &mut FlowTable,
     search: Search,
 ) -> Search
+    requires limits { IsNet ground.net.now }
     requires fits { Fits ground.net.now flow.old.flows }
-    requires packed { IsPacked ground.net.now ground.first.now halves.now }
     requires size { length state.old ≡ ground.net.now.nodes }
     requires next { search.at < ground.net.now.nodes }
     ensures done { KeepsDone state.old state.new }
     ensures next { result.at ≡ search.at + 1 }
     ensures looks { PaysLooks flow.old search.left flow.new result.left }
 {
-    let first = ground.first;
-    let nodes = ground.net.nodes() as usize;
+    let nodes = ground.net.nodes();
     let mut next = search;
     next.at += 1;
-    let node = get(hints, nodes + search.at as usize) as usize;
+    let node = get(hints, queue_at(nodes, search.at));
     if node == 0 || node > nodes {
         return next;
     }
-    for spot in first[node - 1]..first[node] {
+    let at = record(node) + FIRST;
+    for entry in get(hints, at)..get(hints, at + RECORD) {
         if next.found.is_some() {
             return next;
         }
-        next = search_over(ground, state, hints, flow, next, halves[spot as usize]);
+        next = search_entry(ground, rows, state, hints, flow, next, entry);
     }
     next
 }
@@ -123,7 +167,7 @@ fn search_from(
 /// Searches from a node until it comes to one that the forest has come to.
 fn search_out(
     ground: Ground<'_>,
-    halves: &[u32],
+    rows: &[u32],
     state: &mut [u32],
     hints: &mut [u32],
     flow: &mut FlowTable,
@@ -131,7 +175,7 @@ fn search_out(
     left: u64,
 ) -> Search
     requires fits { Fits ground.net.now flow.old.flows }
-    requires packed { IsPacked ground.net.now ground.first.now halves.now }
+    requires limits { IsNet ground.net.now }
     requires size { length state.old ≡ ground.net.now.nodes }
     requires node { IsNode ground.net.now node }
     requires apart { IsFalse (done_in state.old node) }
@@ -140,7 +184,7 @@ fn search_out(
 {
     let nodes = ground.net.nodes();
     state[node as usize - 1] = SEEN;
-    put(hints, nodes as usize, node);
+    put(hints, queue_at(nodes, 0), node);
     let mut search = Search {
         at: 0,
         tail: 1,
@@ -148,7 +192,7 @@ fn search_out(
         left,
     };
     while search.at < search.tail && search.at < nodes && search.found.is_none() {
-        search = search_from(ground, halves, state, hints, flow, search);
+        search = search_from(ground, rows, state, hints, flow, search);
     }
     search
 }
@@ -171,7 +215,7 @@ fn forget(nodes: u32, state: &mut [u32], hints: &[u32], tail: u32)
     ensures { KeepsDone state.old state.new }
 {
     for at in 0..tail {
-        let node = get(hints, nodes as usize + at as usize);
+        let node = get(hints, queue_at(nodes, at));
         unsee(state, node.wrapping_sub(1) as usize);
     }
 }
@@ -218,69 +262,56 @@ fn send(
         flow.push(net, half, 1);
         left -= 2;
         at = near(net, ground.direction, half);
-        half = get(hints, at as usize - 1);
+        half = get(hints, record(at) + PLACE);
     }
     Some(left)
 }
 
-/// Whether nothing remains on the half-arcs that lead from a node, if it is seen, to nodes that aren't. Answers how
-/// many looks are left, or none if it isn't so.
-fn is_closed_at(
+/// Whether nothing remains on a half-arc, if it leads from a node that is seen to one that isn't. Answers how many looks
+/// are left, or none if it isn't so.
+fn is_closed_over(
     ground: Ground<'_>,
-    halves: &[u32],
     state: &[u32],
     flow: &mut FlowTable,
-    node: u32,
+    half: u32,
     left: u64,
 ) -> Option<u64>
+    requires limits { IsNet ground.net.now }
     requires fits { Fits ground.net.now flow.old.flows }
-    requires packed { IsPacked ground.net.now ground.first.now halves.now }
     requires size { length state.now ≡ ground.net.now.nodes }
-    requires node { IsNode ground.net.now node }
-    ensures passed { IfSome result (λ _. slice_index state.now (node - 1) ≡ SEEN
-        → IsPassed ground.entry flow.old.flows state.now node) }
+    requires half { half < 2 * length ground.net.now.arcs }
+    ensures passed { IfSome result (λ _. IsPassed ground.entry flow.old.flows state.now half) }
     ensures looks { MatchOption result (OnlyLooks flow.old flow.new left) (λ r. PaysLooks flow.old left flow.new r) }
 {
-    let Ground { net, first, .. } = ground;
-    let mut left = left;
-    if state[node as usize - 1] != SEEN {
+    let Ground { net, direction, .. } = ground;
+    let from = near(net, direction, half);
+    let to = far(net, direction, half);
+    if state[from as usize - 1] != SEEN || state[to as usize - 1] == SEEN {
         return Some(left);
     }
-    for spot in first[node as usize - 1]..first[node as usize] {
-        let half = halves[spot as usize];
-        if state[head(net, half) as usize - 1] != SEEN {
-            if left == 0 {
-                return None;
-            }
-            left -= 1;
-            let (_, room) = flow.look(net, cross(ground.direction, half));
-            if room > 0 {
-                return None;
-            }
-        }
+    if left == 0 {
+        return None;
     }
-    Some(left)
+    let (_, room) = flow.look(net, half);
+    if room > 0 {
+        return None;
+    }
+    Some(left - 1)
 }
 
 /// Tests that nothing remains on the half-arcs that lead out of the nodes that are seen. Answers how many looks are
 /// left, or none if it isn't so.
-fn is_closed(
-    ground: Ground<'_>,
-    halves: &[u32],
-    state: &[u32],
-    flow: &mut FlowTable,
-    left: u64,
-) -> Option<u64>
+fn is_closed(ground: Ground<'_>, state: &[u32], flow: &mut FlowTable, left: u64) -> Option<u64>
+    requires limits { IsNet ground.net.now }
     requires fits { Fits ground.net.now flow.old.flows }
-    requires packed { IsPacked ground.net.now ground.first.now halves.now }
     requires size { length state.now ≡ ground.net.now.nodes }
     ensures closed { IfSome result
         (λ _. IsClosedFor ground.entry.direction ground.entry.net.now flow.old.flows (seen_in state.now)) }
     ensures looks { MatchOption result (OnlyLooks flow.old flow.new left) (λ r. PaysLooks flow.old left flow.new r) }
 {
     let mut left = left;
-    for node in 1..ground.net.nodes() + 1 {
-        left = is_closed_at(ground, halves, state, flow, node, left)?;
+    for half in 0..2 * ground.net.len() {
+        left = is_closed_over(ground, state, flow, half, left)?;
     }
     Some(left)
 }
@@ -290,7 +321,7 @@ fn is_closed(
 /// test fails.
 pub(crate) fn raise(
     ground: Ground<'_>,
-    halves: &[u32],
+    rows: &[u32],
     state: &mut [u32],
     hints: &mut [u32],
     flow: &mut FlowTable,
@@ -299,7 +330,7 @@ pub(crate) fn raise(
 ) -> Option<Budgeted>
     requires fits { Fits ground.net.now flow.old.flows }
     requires unit { All (λ a. a.cap ≡ 1) ground.net.now.arcs }
-    requires packed { IsPacked ground.net.now ground.first.now halves.now }
+    requires limits { IsNet ground.net.now }
     requires size { length state.old ≡ ground.net.now.nodes }
     requires root { IsNode ground.net.now ground.root }
     requires done { IsTrue (done_in state.old ground.root) }
@@ -323,12 +354,12 @@ pub(crate) fn raise(
         left: wanted.left,
     };
     while sent.value < wanted.value {
-        let search = search_out(ground, halves, state, hints, flow, node, sent.left);
+        let search = search_out(ground, rows, state, hints, flow, node, sent.left);
         let Some(last) = search.found else {
             if state[node as usize - 1] != SEEN {
                 return None;
             }
-            sent.left = is_closed(ground, halves, state, flow, search.left)?;
+            sent.left = is_closed(ground, state, flow, search.left)?;
             forget(nodes, state, hints, search.tail);
             return Some(sent);
         };

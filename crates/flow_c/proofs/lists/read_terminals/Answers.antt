@@ -1,5 +1,6 @@
 -- `read_terminals`: one node more is taken.
-use Rattle.std.proofs.Common.{rules, ◌≡◌, ◌+◌, ◌≤◌, ◌<◌, ◌++◌, ◌∷◌, [], length, slice_index_or, arith, false, get_or, sym, ◌∙◌}
+use Rattle.std.proofs.Common.{rules, ◌≡◌, ◌+◌, ◌≤◌, ◌<◌, ◌++◌, ◌∷◌, [], length, slice_index_or, arith, false, get_or}
+use Rattle.std.proofs.Common.{sym, ◌∙◌}
 use Rattle.std.proofs.lemmas.Grind.{common_steps}
 use Rattle.flow_c.proofs.MarkLemmas.{All-one, marked-more, distinct-more, taken-more}
 use Rattle.std.proofs.Common.{refl, inl, inr, suc, true, add-one}
@@ -21,10 +22,12 @@ loop-i-preserved c =
       taken =
           let more = taken-more c.args.given.now c.loop-i.i c.loop-i-test.true in
           first_of (search rules, grind (arith, common_steps));
-      within = rw items (All-one (λ v. (1 ≤ v) × (v ≤ c.args.nodes)) c.loop-i.taken.items (node + 1) old.within (first_of (search rules, grind (arith, common_steps))));
+      within = rw items (All-one (λ v. (1 ≤ v) × (v ≤ c.args.nodes)) c.loop-i.taken.items (node + 1) old.within
+          (first_of (search rules, grind (arith, common_steps))));
       count = first_of (search rules, grind (arith, common_steps));
       distinct =
-          rw items (distinct-more c.loop-i.marks c.args.before.now c.loop-i.taken.items node old.marks free old.distinct);
+          rw items (distinct-more c.loop-i.marks c.args.before.now c.loop-i.taken.items node old.marks free
+          old.distinct);
       marks = rw items (marked-more c.loop-i.marks c.args.before.now c.loop-i.taken.items node small old.marks);
     }
 

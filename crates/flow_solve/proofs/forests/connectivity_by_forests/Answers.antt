@@ -10,7 +10,7 @@ are_even-is_even-requires-clause-balanced c =
 pub returns-then-is_balanced-2-clause-connectivity : goal.returns-then-is_balanced-2-clause-connectivity
 returns-then-is_balanced-2-clause-connectivity c =
     let r = c.in_ok-forth.ensures in
-    connected_once c.args.net.now c.hub-root.result c.in_ok-forth.forth.value r.reached
+    connected_once c.args.net.now c.hub.result c.in_ok-forth.forth.value r.reached
     (c.has_balanced_degrees-is_balanced.ensures.balanced c.if-is_balanced-2.true) r.above
 
 -- what was shown one way holds of a lesser number too
@@ -18,5 +18,5 @@ pub returns-clause-connectivity : goal.returns-clause-connectivity
 returns-clause-connectivity c =
     let r = c.in_ok-forth.ensures in
     let s = c.in_ok-back.ensures in
-    connected_twice c.args.net.now c.hub-root.result c.in_ok-back.back.value s.reached
+    connected_twice c.args.net.now c.hub.result c.in_ok-back.back.value s.reached
     (λ Y v n i o. omega (arith, r.above Y v n i o, s.fewer)) s.above

@@ -8,37 +8,33 @@ grow-front-requires c =
     let s = c.requires.stand in
     record {
       stand = record {
-        packed = s.packed;
+        limits = s.limits;
         root = s.root;
-        taken_size = s.taken_size;
-        state_size = omega (arith, c.begin-front.auto.state, s.state_size);
-        begun = s.begun;
+        once = s.once;
+        size = omega (arith, c.begin-front.auto.state, s.size);
       };
     }
 
 pub returns-then-least-count-clause-kept : goal.returns-then-least-count-clause-kept
 returns-then-least-count-clause-kept c = λ g.
-    grove_kept c.args.ground c.in_ok-least.least.value c.args.count c.join_others.new.halves c.join_others.new.taken
+    grove_kept c.args.ground c.in_ok-least.least.value c.args.count c.join_others.new.rows
     c.join_others.new.state
     (c.in_ok-least.ensures.forest c.args.count (c.grow-front.ensures.grown.forest c.args.least.value c.args.count
-    (grove_begun c.args.ground c.args.least.value c.args.count c.args.halves.now c.args.taken.now
-    c.begin-front.new.state
+    (grove_begun c.args.ground c.args.least.value c.args.count c.args.rows.now c.begin-front.new.state
     g c.begin-front.ensures.only)))
 
 pub returns-clause-kept : goal.returns-clause-kept
 returns-clause-kept c = λ g.
-    grove_kept c.args.ground c.in_ok-least.least.value c.args.count c.join_others.new.halves c.join_others.new.taken
+    grove_kept c.args.ground c.in_ok-least.least.value c.args.count c.join_others.new.rows
     c.join_others.new.state
     (c.in_ok-least.ensures.forest c.args.count (c.grow-front.ensures.grown.forest c.args.least.value c.args.count
-    (grove_begun c.args.ground c.args.least.value c.args.count c.args.halves.now c.args.taken.now
-    c.begin-front.new.state
+    (grove_begun c.args.ground c.args.least.value c.args.count c.args.rows.now c.begin-front.new.state
     g c.begin-front.ensures.only)))
 
 pub returns-clause-grove : goal.returns-clause-grove
 returns-clause-grove c = λ more g.
-    grove_more c.args.ground c.in_ok-least.least.value c.args.count c.join_others.new.halves c.join_others.new.taken
-    c.join_others.new.state c.in_ok-least.ensures.stand.state_size (c.is_whole.ensures c.if-not-is_whole.false)
+    grove_more c.args.ground c.in_ok-least.least.value c.args.count c.join_others.new.rows
+    c.join_others.new.state c.in_ok-least.ensures.stand.size (c.is_whole.ensures c.if-not-is_whole.false)
     (c.in_ok-least.ensures.forest c.args.count (c.grow-front.ensures.grown.forest c.args.least.value c.args.count
-    (grove_begun c.args.ground c.args.least.value c.args.count c.args.halves.now c.args.taken.now
-    c.begin-front.new.state
+    (grove_begun c.args.ground c.args.least.value c.args.count c.args.rows.now c.begin-front.new.state
     g c.begin-front.ensures.only)))

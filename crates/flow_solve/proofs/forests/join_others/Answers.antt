@@ -37,11 +37,10 @@ grow-front-requires c =
     let j = c.loop-front.invariant in
     record {
       stand = record {
-        packed = j.stand.packed;
+        limits = j.stand.limits;
         root = j.stand.root;
-        taken_size = j.stand.taken_size;
-        state_size = omega (arith, c.reach-front.auto.state, c.raise.auto.state, j.stand.state_size);
-        begun = j.stand.begun;
+        once = j.stand.once;
+        size = omega (arith, c.reach-front.auto.state, c.raise.auto.state, j.stand.size);
       };
     }
 
@@ -57,7 +56,7 @@ loop-front-preserved c =
     let g = c.grow-front.ensures.grown in
     let joined : c.reach-front.new.state ≡ set kept (w - 1) DONE = c.reach-front.ensures.reached in
     let low = r.node.0 in let high = r.node.1 in
-    let room : w ≤ length kept = omega (arith, c.raise.auto.state, j.stand.state_size) in
+    let room : w ≤ length kept = omega (arith, c.raise.auto.state, j.stand.size) in
     let here : (v : ℕ) → done_in old v ≡ true → done_in c.grow-front.new.state v ≡ true =
     λ v h. g.more v (subst (λ (z : List ℕ). done_in z v ≡ true) (sym joined)
     (mark_kept DONE kept w v low room (r.done v ∙ h))) in
@@ -73,12 +72,12 @@ loop-front-preserved c =
       fewer = omega (arith, j.fewer, r.fewer);
       forest = λ k f.
           g.forest c.in_ok-least.least.value k
-          (subst (λ (z : List ℕ). IsForest ground c.in_ok-least.least.value k c.loop-front.halves c.loop-front.taken z)
+          (subst (λ (z : List ℕ). IsForest ground c.in_ok-least.least.value k c.loop-front.rows z)
           (sym joined)
-          (forest_joined ground c.in_ok-least.least.value c.loop-front.least.value k w c.loop-front.halves
-          c.loop-front.taken old kept r.node room r.done
+          (forest_joined ground c.in_ok-least.least.value c.loop-front.least.value k w c.loop-front.rows old
+          kept r.node room r.done
           (raised_below ground.direction net w (done_in old) c.raise.new.flow.flows c.in_ok-least.least.value
-          j.stand.packed.limits c.requires.unit r.raised) r.fewer (j.forest k f)));
+          j.stand.limits c.requires.unit r.raised) r.fewer (j.forest k f)));
       paid = record {
         never_lowered = omega (arith, j.paid.never_lowered, r.paid.never_lowered);
         left = omega (arith, j.paid.left, r.paid.left);

@@ -8,13 +8,13 @@ use Rattle.flow_solve.proofs.forests.join_others.Given as goal
 abbrev pub invariant-loop-front : goal.invariant-loop-front
 invariant-loop-front l = record {
   fits : Fits l.ground.net.now l.flow.flows;
-  stand : IsStand l.ground l.halves l.taken l.state;
+  stand : IsStand l.ground l.rows l.state;
   root : done_in l.state l.ground.root ≡ true;
   balanced : IsFeasible l.ground.net.now (done_in l.state) (done_in l.state) l.flow.flows;
   reached : IsReached l.ground.net.now l.least.value;
   fewer : l.least.value ≤ l.fn.least.value;
-  forest : (c : ℕ) → IsForest l.ground l.fn.least.value c l.fn.halves l.fn.taken l.fn.state
-      → IsForest l.ground l.least.value c l.halves l.taken l.state;
+  forest : (c : ℕ) → IsForest l.ground l.fn.least.value c l.fn.rows l.fn.state
+      → IsForest l.ground l.least.value c l.rows l.state;
   paid : PaysSteps l.fn.flow l.fn.least.left l.flow l.least.left;
 }
 

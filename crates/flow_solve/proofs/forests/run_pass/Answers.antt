@@ -1,33 +1,23 @@
 -- `run_pass`: no forest is done at first, and enough in the end.
-use Rattle.std.proofs.Common.{◌≡◌, ◌≤◌, ◌-◌, ◌∙◌, ℕ, List, get_or, ap, inl, inr, cond, arith}
+use Rattle.std.proofs.Common.{◌≤◌, ◌-◌, ap, inl, inr, cond, arith}
 use Rattle.std.proofs.lemmas.Bool.{cases_Bool}
-use Rattle.std.proofs.lemmas.List.{get_or-take}
 use Rattle.flow_solve.proofs.ForestLemmas.Taken.{grove_none, grove_above, above_even}
 use Rattle.flow_solve.proofs.forests.run_pass.Goals as goal
 
 pub loop-count-init : goal.loop-count-init
-loop-count-init c =
-    let first = c.args.ground.first.now in
-    let taken = c.copy_from_slice.new.self in
-    let n : c.nodes-n.result ≡ c.args.ground.net.now.nodes = c.nodes-n.ensures.nodes in
-    record {
-      fits = c.requires.fits;
-      stand = record {
-        packed = c.requires.packed;
-        root = c.requires.root;
-        taken_size = omega (arith, c.copy_from_slice.ensures.len, c.split_at_mut-taken.ensures.front_len, n);
-        state_size = omega (arith, c.split_at_mut-state.ensures.front_len, n);
-        begun = λ v l.
-            (let at : get_or taken v 0 ≡ get_or first v 0 =
-            ap (λ (z : List ℕ). get_or z v 0) c.copy_from_slice.ensures.after
-            ∙ get_or-take c.nodes-n.result first v 0 (omega (arith, n, l)) in
-            omega arith);
-      };
-      reached = c.requires.reached;
-      fewer = omega arith;
-      grove = grove_none c.args.ground c.args.least.value c.args.halves.now taken;
-      paid = record { never_lowered = omega arith; left = omega arith; steps = omega arith };
-    }
+loop-count-init c = record {
+  fits = c.requires.fits;
+  stand = record {
+    limits = c.requires.limits;
+    root = c.requires.root;
+    once = c.fill_rows.ensures;
+    size = omega (arith, c.split_at_mut-state.ensures.front_len, c.nodes-n.ensures.nodes);
+  };
+  reached = c.requires.reached;
+  fewer = omega arith;
+  grove = grove_none c.args.ground c.args.least.value c.fill_rows.new.rows;
+  paid = record { never_lowered = omega arith; left = omega arith; steps = omega arith };
+}
 
 pub loop-count-preserved : goal.loop-count-preserved
 loop-count-preserved c =
@@ -51,7 +41,7 @@ pub returns-then-least-count-clause-above : goal.returns-then-least-count-clause
 returns-then-least-count-clause-above c =
     let r = c.in_ok-least.ensures in
     grove_above c.args.ground c.in_ok-least.least.value c.loop-count.count c.in_ok-least.least.value
-    c.grow_forest.new.halves c.grow_forest.new.taken (r.kept c.loop-count.invariant.grove) (omega arith) (omega arith)
+    c.grow_forest.new.rows (r.kept c.loop-count.invariant.grove) (omega arith) (omega arith)
 
 pub returns-clause-above : goal.returns-clause-above
 returns-clause-above c =
@@ -62,9 +52,9 @@ returns-clause-above c =
     elim (cases_Bool c.args.is_even) [
       | inl e ↦
           above_even ground k (c.requires.even e) j.reached
-          (grove_above ground k c.loop-count.count (k - 1) c.loop-count.halves c.loop-count.taken j.grove (omega arith)
+          (grove_above ground k c.loop-count.count (k - 1) c.loop-count.rows j.grove (omega arith)
           (omega (arith, many, c.forests_for.ensures.all, ap (λ b. k - cond b 1 0) e)))
       | inr e ↦
-          grove_above ground k c.loop-count.count k c.loop-count.halves c.loop-count.taken j.grove (omega arith)
+          grove_above ground k c.loop-count.count k c.loop-count.rows j.grove (omega arith)
           (omega (arith, many, c.forests_for.ensures.all, ap (λ b. k - cond b 1 0) e))
     ]

@@ -8,10 +8,10 @@ use Rattle.flow_solve.proofs.forests.run_pass.Given as goal
 abbrev pub invariant-loop-count : goal.invariant-loop-count
 invariant-loop-count l = record {
   fits : Fits l.ground.net.now l.flow.flows;
-  stand : IsStand l.ground l.halves l.taken l.state;
+  stand : IsStand l.ground l.rows l.state;
   reached : IsReached l.ground.net.now l.least.value;
   fewer : l.least.value ≤ l.fn.least.value;
-  grove : IsGrove l.ground l.least.value l.count l.halves l.taken;
+  grove : IsGrove l.ground l.least.value l.count l.rows;
   paid : PaysSteps l.fn.flow l.fn.least.left l.flow l.least.left;
 }
 

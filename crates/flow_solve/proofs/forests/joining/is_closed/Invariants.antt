@@ -1,17 +1,14 @@
--- `is_closed`: nothing that remains leads from the seen nodes passed to an unseen one, and the looks are paid.
-use Rattle.std.proofs.Common.{◌≡◌, ℕ, ◌+◌, ◌-◌, ◌<◌, ◌≤◌}
-use Rattle.std.specs.Prelude.{slice_index}
+-- `is_closed`: where something remains on the half-arcs passed, they lead on to seen nodes, and the looks are paid.
+use Rattle.std.proofs.Common.{◌≡◌, ℕ, ◌*◌, ◌<◌, length}
 use Rattle.flow_net.specs.Flows.{Fits}
-use Rattle.flow_solve.specs.declared.forests.joining.TheConstants.{SEEN}
 use Rattle.flow_solve.specs.Forests.{IsPassed}
 use Rattle.flow_solve.specs.Steps.{PaysLooks}
 use Rattle.flow_solve.proofs.forests.joining.is_closed.Given as goal
 
-abbrev pub invariant-loop-node : goal.invariant-loop-node
-invariant-loop-node l = record {
+abbrev pub invariant-loop-half : goal.invariant-loop-half
+invariant-loop-half l = record {
   fits : Fits l.ground.net.now l.flow.flows;
-  end : l.node-end ≡ l.ground.net.now.nodes + 1;
-  passed : (v : ℕ) → 1 ≤ v → v < l.node → slice_index l.state (v - 1) ≡ SEEN
-      → IsPassed l.ground l.fn.flow.flows l.state v;
+  end : l.half-end ≡ 2 * length l.ground.net.now.arcs;
+  passed : (h : ℕ) → h < l.half → IsPassed l.ground l.fn.flow.flows l.state h;
   looks : PaysLooks l.fn.flow l.fn.left l.flow l.left;
 }

@@ -44,5 +44,5 @@ returns-in_default-clause-reached c =
     parted_reached dir net c.args.node c.args.ground.root c.loop-sent.sent.value done X n c.requires.root
     c.requires.done
     cut
-    (raised_parted dir net c.args.node done c.loop-sent.flow.flows c.loop-sent.sent.value X c.requires.packed.limits
+    (raised_parted dir net c.args.node done c.loop-sent.flow.flows c.loop-sent.sent.value X c.requires.limits
     c.requires.unit j.raised cut closed)

@@ -4,13 +4,12 @@ use Rattle.flow_net.specs.Flows.{Fits}
 use Rattle.flow_solve.proofs.ForestLemmas.Taken.{keeps_on}
 use Rattle.flow_solve.proofs.forests.joining.search_from.Goals as goal
 
-pub loop-spot-preserved : goal.loop-spot-preserved
-loop-spot-preserved c =
-    let j = c.loop-spot.invariant in
-    let now = c.search_over-next.ensures in
+pub loop-entry-preserved : goal.loop-entry-preserved
+loop-entry-preserved c =
+    let j = c.loop-entry.invariant in
+    let now = c.search_entry-next.ensures in
     record {
       fits = subst (λ (z : List ℕ). Fits c.args.ground.net.now z) (sym now.looks.flows) j.fits;
-      begun = omega (arith, j.begun);
       next = omega (arith, j.next, now.next);
       done = keeps_on _ _ _ j.done now.done;
       looks = record {

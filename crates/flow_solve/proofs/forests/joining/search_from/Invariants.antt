@@ -1,15 +1,13 @@
 -- `search_from`: the forest has come to the same nodes, and the looks are paid.
-use Rattle.std.proofs.Common.{◌≡◌, ◌-◌, ◌+◌, ◌≤◌}
-use Rattle.std.specs.Prelude.{slice_index}
+use Rattle.std.proofs.Common.{◌≡◌, ◌+◌}
 use Rattle.flow_net.specs.Flows.{Fits}
 use Rattle.flow_solve.specs.Forests.{KeepsDone}
 use Rattle.flow_solve.specs.Steps.{PaysLooks}
 use Rattle.flow_solve.proofs.forests.joining.search_from.Given as goal
 
-abbrev pub invariant-loop-spot : goal.invariant-loop-spot
-invariant-loop-spot l = record {
+abbrev pub invariant-loop-entry : goal.invariant-loop-entry
+invariant-loop-entry l = record {
   fits : Fits l.ground.net.now l.flow.flows;
-  begun : slice_index l.ground.first.now (l.node - 1) ≤ l.spot;
   next : l.next.at ≡ l.fn.search.at + 1;
   done : KeepsDone l.fn.state l.state;
   looks : PaysLooks l.fn.flow l.fn.search.left l.flow l.next.left;

@@ -136,7 +136,7 @@ pub record IsRaised (dir : Direction) (net : Net) (w : ℕ) (done : ℕ → Bool
   pub feasible : IsFeasible net (just w) done xs
   pub sent : sends dir net w xs value
 
--- where a half-arc has a residual capacity and leads from a node that a search has seen, it leads to one that it has
+-- where a half-arc has a residual capacity and leads from a node that a search has seen, it leads to a node that it has
 -- seen
 abbrev pub IsPassed : Ground → List ℕ → List ℕ → ℕ → Type 0
 IsPassed ground xs state h = IsTrue (seen_in state (near_end ground.direction ground.net.now h))

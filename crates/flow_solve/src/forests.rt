@@ -57,7 +57,7 @@ pub(crate) struct Ground<'a> {
     /// Which way a search goes from a node to those that a forest has come to. Backwards, the forests grow along arcs;
     /// forwards, against them.
     pub direction: Direction,
-    /// Whether the second half of the arcs are those of the first turned round, as a hint.
+    /// Whether rows are made of pairs. The second half of the arcs are then those of the first turned round, as a hint.
     pub paired: bool,
 }
 

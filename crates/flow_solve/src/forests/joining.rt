@@ -267,8 +267,8 @@ fn send(
     Some(left)
 }
 
-/// Whether nothing remains on a half-arc, if it leads from a node that is seen to one that isn't. Answers how many looks
-/// are left, or none if it isn't so.
+/// Whether nothing remains on a half-arc, if it leads from a node that is seen to one that isn't. Answers how many
+/// looks are left, or none if it isn't so.
 fn is_closed_over(
     ground: Ground<'_>,
     state: &[u32],

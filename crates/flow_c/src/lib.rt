@@ -6,8 +6,8 @@
 //!
 //! A call answers a status: 0, the answer was written; 1, fewer than [`FEWEST_NODES`](flow_net::FEWEST_NODES) or more
 //! than [`MOST_NODES`](flow_net::MOST_NODES) nodes; 2, too many arcs or a list of another length than it ought to have;
-//! 3, an end of an arc is no node; 4, no source, no sink, one that is no node, or one that stands there twice; 5, memory
-//! was refused. Unless it is 0 nothing is written. Each number that is lent is tested before it is used.
+//! 3, an end of an arc is no node; 4, no source, no sink, one that is no node, or one that stands there twice; 5,
+//! memory was refused. Unless it is 0 nothing is written. Each number that is lent is tested before it is used.
 #![tactic(auto)]
 
 ghost use Rattle.std.specs.Prelude.{◌≡◌, ◌≢◌, ◌+◌, ◌*◌, ◌^◌, ◌≤◌, ◌⊎◌, [], ◌∷◌, length};
@@ -175,11 +175,12 @@ pub extern "C" fn provedflow_links_lists(
     0
 }
 
-/// Checks a flow. `verdict` gets 0 where it is feasible and its value the greatest, 1 where it is feasible and its value
+/// Checks a flow. `verdict` gets 0 where it is feasible and its value the greatest, 1 where it is feasible and its
+/// value
 /// isn't, 2 where an arc's flow passes its capacity, and 3 where what enters a node that is no terminal isn't what
 /// leaves it. `high` and `low` get the upper and the lower 64 bits of the value, which are those of a negative number
-/// where more enters the sources than leaves them; with a verdict of 2 they get the first such arc, and with 3 the first
-/// such node. There may be [`MOST_ARCS_BOTH_WAYS`](flow_net::MOST_ARCS_BOTH_WAYS) arcs.
+/// where more enters the sources than leaves them; with a verdict of 2 they get the first such arc, and with 3 the
+/// first such node. There may be [`MOST_ARCS_BOTH_WAYS`](flow_net::MOST_ARCS_BOTH_WAYS) arcs.
 #[unsafe(no_mangle)]
 pub extern "C" fn provedflow_check_lists(
     alloc: Global,

@@ -70,7 +70,8 @@ FLOWS = {
 }
 PHOTOGRAPHS = {f'photograph-{name}-{neighbours}':
                lambda rand, arcs, name=name, neighbours=neighbours: grids.photograph(name, neighbours)
-               for name in grids.STROKES for neighbours in (4, 8) if (grids.PHOTOGRAPHS / f'{name}.png').exists()}
+               for name in grids.STROKES for neighbours in (4, 8)
+               if grids.found_photograph(name) and (name, neighbours) != ('building', 8)}  # which has too many arcs
 PACKAGES = {
     'packages-sections': lambda rand, arcs: packages.sections(),
     'packages-mirror': lambda rand, arcs: packages.mirror(),

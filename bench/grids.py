@@ -9,11 +9,11 @@ from pathlib import Path
 
 sys.path.append(str(Path(__file__).resolve().parent.parent / 'examples' / 'common'))
 
-import png  # noqa: E402
+import pictures  # noqa: E402
 
-# Where Debian's package python3-skimage has its photographs, and the strokes on each, as a user would draw them: from
-# and to a point, the pixels within two of the line between.
-PHOTOGRAPHS = Path('/usr/lib/python3/dist-packages/skimage/data')
+# Where Debian's packages python3-skimage and opencv-doc have their photographs, and the strokes on each, as a user would
+# draw them: from and to a point, the pixels within two of the line between.
+PHOTOGRAPHS = [Path('/usr/lib/python3/dist-packages/skimage/data'), Path('/usr/share/doc/opencv-doc/examples/data')]
 STROKES = {
     'coffee': ([(190, 60, 185, 110), (290, 28, 345, 50), (230, 150, 340, 160), (200, 190, 260, 215),
                 (300, 215, 390, 160), (110, 180, 130, 260), (150, 310, 260, 360), (300, 360, 420, 300),
@@ -23,6 +23,19 @@ STROKES = {
     'astronaut': ([(200, 90, 240, 130), (180, 30, 260, 30), (130, 330, 300, 330), (60, 420, 380, 480),
                    (220, 200, 230, 250)],
                   [(20, 20, 60, 300), (350, 30, 500, 30), (480, 60, 480, 480), (300, 30, 330, 60)]),
+    'squirrel_cls': ([(200, 230, 220, 320), (280, 165, 335, 190), (220, 140, 165, 280), (250, 270, 265, 305),
+                      (280, 235, 340, 240)],
+                     [(360, 270, 520, 190), (230, 390, 320, 370), (40, 90, 200, 60), (330, 60, 500, 30),
+                      (30, 280, 100, 380), (60, 180, 110, 220), (430, 350, 510, 390), (400, 130, 500, 110)]),
+    'messi5': ([(225, 80, 245, 75), (232, 105, 245, 118), (200, 120, 245, 220), (270, 125, 250, 200),
+                (250, 265, 310, 235), (100, 105, 150, 125), (310, 145, 350, 165), (340, 250, 360, 255),
+                (390, 255, 420, 265), (430, 268, 445, 275), (240, 275, 260, 305), (265, 322, 300, 325)],
+               [(20, 40, 180, 60), (300, 50, 520, 80), (20, 180, 180, 190), (440, 200, 530, 220), (20, 290, 180, 310),
+                (350, 310, 370, 315), (320, 290, 330, 320), (460, 250, 530, 240)]),
+    'building': ([(220, 170, 820, 60), (200, 330, 800, 230), (300, 380, 500, 370), (550, 420, 850, 380),
+                  (300, 490, 850, 500)],
+                 [(30, 150, 130, 300), (200, 60, 250, 40), (40, 420, 200, 400), (10, 330, 20, 440), (60, 480, 350, 510),
+                  (20, 560, 850, 580), (20, 50, 150, 60)]),
 }
 
 
@@ -151,10 +164,16 @@ def surface(rand, arcs):
     return count + 2, source, sink, found
 
 
+def found_photograph(name):
+    """The path of a photograph, if it is on the machine."""
+    paths = [pictures.find(folder, name) for folder in PHOTOGRAPHS if folder.is_dir()]
+    return next((path for path in paths if path), None)
+
+
 def photograph(name, neighbours):
     """Boykov and Jolly 2001 on a whole photograph: strokes are terminals, colours cost by the strokes' histograms, and
     an outline costs least where colours differ."""
-    rows = png.read(PHOTOGRAPHS / f'{name}.png').pixels
+    rows = pictures.read(found_photograph(name)).pixels
     height, width = len(rows), len(rows[0])
     pixels = [pixel[:3] for row in rows for pixel in row]
     marked = [stroked(strokes, height, width) for strokes in STROKES[name]]

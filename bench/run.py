@@ -6,8 +6,8 @@ left of twenty minutes, and prints the tables; with --write it puts the tables a
 docs/benchmarks.svg and README.md. With --night no time is set, and every solver runs. With --stages it measures the
 program without each stage of its method in the place of other solvers. Debian's packages of the other solvers:
 liblemon-utils, glpk-utils, python3-igraph, python3-networkx, python3-scipy, libmaxflow-dev and libboost-graph-dev with
-g++; of the photographs python3-skimage. The packages are those that apt lists. The values of all solvers must agree:
-where two differ, the status is 1.
+g++; of the photographs python3-skimage, and opencv-doc with python3-pil. The packages are those that apt lists. The
+values of all solvers must agree: where two differ, the status is 1.
 """
 import argparse
 import concurrent.futures

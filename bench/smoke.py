@@ -134,10 +134,10 @@ def within_limits():
 def photographs(folder):
     """A picture whose left half is red and whose right half is blue, with a stroke on each: its least cut is the links
     between the halves, which cost 1 each, 6 straight ones and 10 diagonals."""
-    picture = grids.png.Image(8, 6, (255, 0, 0))
-    picture.paste(grids.png.Image(4, 6, (0, 0, 255)), 4, 0)
-    grids.png.write(folder / 'halves.png', picture)
-    kept, grids.PHOTOGRAPHS = grids.PHOTOGRAPHS, folder
+    picture = grids.pictures.png.Image(8, 6, (255, 0, 0))
+    picture.paste(grids.pictures.png.Image(4, 6, (0, 0, 255)), 4, 0)
+    grids.pictures.png.write(folder / 'halves.png', picture)
+    kept, grids.PHOTOGRAPHS = grids.PHOTOGRAPHS, [folder]
     grids.STROKES['halves'] = [(1, 1, 1, 1)], [(6, 4, 6, 4)]
     for neighbours, links, cut in ((4, 2 * (6 * 7 + 5 * 8), 6), (8, 2 * (6 * 7 + 5 * 8 + 2 * 5 * 7), 16)):
         nodes, source, sink, arcs = grids.photograph('halves', neighbours)

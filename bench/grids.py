@@ -3,6 +3,7 @@
 A problem is its number of nodes, its source, its sink, and its arcs as triples of tail, head and capacity. Nodes are
 numbers from 0.
 """
+import importlib.util
 import math
 import sys
 from pathlib import Path
@@ -165,9 +166,9 @@ def surface(rand, arcs):
 
 
 def found_photograph(name):
-    """The path of a photograph, if it is on the machine."""
+    """The path of a photograph, if it is on the machine and can be read: one that is no PNG needs Pillow."""
     paths = [pictures.find(folder, name) for folder in PHOTOGRAPHS if folder.is_dir()]
-    return next((path for path in paths if path), None)
+    return next((path for path in paths if path and (path.endswith('.png') or importlib.util.find_spec('PIL'))), None)
 
 
 def photograph(name, neighbours):

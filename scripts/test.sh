@@ -102,15 +102,15 @@ add pages python3 scripts/pages.py crates/flow/out/flow
 # The library for C, its header against the crate's exports, and the package for Python over it.
 add header python3 scripts/header.py
 say "the library for C"
-bash scripts/library.sh "$folder/library" > /dev/null || exit 1
-add library python3 scripts/try_library.py "$folder/library" crates/flow/out/flow
-add bindings python3 scripts/bindings.py "$folder/library/libprovedflow.so.0"
+bash scripts/library.sh "$folder/made" > /dev/null || exit 1
+add library python3 scripts/try_library.py "$folder/made" crates/flow/out/flow
+add bindings python3 scripts/bindings.py "$folder/made/libprovedflow.so.0"
 
 # The connectivity, against all sets of nodes of small networks and against flows in composed ones.
-add multigraphs python3 scripts/multigraphs.py crates/flow/out/flow "$folder/library/libprovedflow.so.0"
+add multigraphs python3 scripts/multigraphs.py crates/flow/out/flow "$folder/made/libprovedflow.so.0"
 
 # Each command that the documents show prints what they show.
-add documents python3 scripts/documents.py --library "$folder/library" crates/flow/out/flow
+add documents python3 scripts/documents.py --library "$folder/made" crates/flow/out/flow
 
 # The generator and the runner of the benchmarks, on tiny problems.
 add bench python3 bench/smoke.py crates/flow/out/flow

@@ -61,7 +61,7 @@ class Edit:
 
 def function_at(text, place):
     """The name of the function in which a place of a text stands."""
-    return re.findall(r"^ *(?:pub(?:\(\w+\))? )?(?:const )?fn (\w+)", text[: text.index("\n", place)], re.M)[-1]
+    return re.findall(r"^ *(?:pub(?:\(\w+\))? )?(?:const )?(?:extern \"C\" )?fn (\w+)", text[: text.index("\n", place)], re.M)[-1]
 
 
 def edits_of(crate):

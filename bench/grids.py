@@ -12,8 +12,8 @@ sys.path.append(str(Path(__file__).resolve().parent.parent / 'examples' / 'commo
 
 import pictures  # noqa: E402
 
-# Where Debian's packages python3-skimage and opencv-doc have their photographs, and the strokes on each, as a user would
-# draw them: from and to a point, the pixels within two of the line between.
+# Where Debian's packages python3-skimage and opencv-doc have their photographs, and the strokes on each, as a user
+# would draw them: from and to a point, the pixels within two of the line between.
 PHOTOGRAPHS = [Path('/usr/lib/python3/dist-packages/skimage/data'), Path('/usr/share/doc/opencv-doc/examples/data')]
 STROKES = {
     'coffee': ([(190, 60, 185, 110), (290, 28, 345, 50), (230, 150, 340, 160), (200, 190, 260, 215),

@@ -127,7 +127,8 @@ def permutations(rand, size, links):
 
 def lattice(rand, size, links):
     width = max(2, int(size ** .5))
-    return [(i, (i + step) % size) for i in range(size) for step in ((1, width) if links < 5 else (1, width, width + 1))]
+    steps = (1, width) if links < 5 else (1, width, width + 1)
+    return [(i, (i + step) % size) for i in range(size) for step in steps]
 
 
 def tree(rand, size, links):

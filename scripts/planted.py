@@ -35,6 +35,8 @@ CACHE = Path(os.environ.get("XDG_CACHE_HOME") or Path.home() / ".cache") / "flow
 
 # What a proof file says where a name is gone: that refusal shows nothing of the contract.
 NAME_IS_GONE = re.compile(r"has no field|is not in scope|has no `|was not admitted")
+# Where a function begins, an export for C among them.
+FUNCTION = re.compile(r'^ *(?:pub(?:\(\w+\))? )?(?:const )?(?:extern "C" )?fn (\w+)', re.M)
 REFUSED, WAITS, THROUGH = "refused", "waits", "through"
 
 
@@ -61,7 +63,7 @@ class Edit:
 
 def function_at(text, place):
     """The name of the function in which a place of a text stands."""
-    return re.findall(r"^ *(?:pub(?:\(\w+\))? )?(?:const )?(?:extern \"C\" )?fn (\w+)", text[: text.index("\n", place)], re.M)[-1]
+    return FUNCTION.findall(text[: text.index("\n", place)])[-1]
 
 
 def edits_of(crate):

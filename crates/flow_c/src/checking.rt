@@ -231,7 +231,8 @@ fn is_smaller(alloc: Global, network: &FlowNetwork, table: &mut FlowTable) -> Re
     ensures greatest { IfOk result (λ smaller. smaller ≡ false
         → HasGreatestValue network.now.net (one_of network.now.sources) (one_of network.now.sinks) table.old.flows) }
     ensures smaller { IfOk result (λ smaller. smaller ≡ true
-        → HasGreatestValue network.now.net (one_of network.now.sources) (one_of network.now.sinks) table.old.flows → ⊥) }
+        → HasGreatestValue network.now.net (one_of network.now.sources) (one_of network.now.sinks) table.old.flows
+        → ⊥) }
     ensures refused { IfErr result (λ r. r ≡ Memory) }
 {
     let (net, s, t) = (network.net(), network.sources(), network.sinks());

@@ -177,9 +177,9 @@ pub extern "C" fn provedflow_links_lists(
 
 /// Checks a flow. `verdict` gets 0 where it is feasible and its value the greatest, 1 where it is feasible and its
 /// value isn't, 2 where an arc's flow passes its capacity, and 3 where what enters a node that is no terminal isn't
-/// what leaves it. `high` and `low` get the upper and the lower 64 bits of the value, which are those of a negative number
-/// where more enters the sources than leaves them; with a verdict of 2 they get the first such arc, and with 3 the
-/// first such node. There may be [`MOST_ARCS_BOTH_WAYS`](flow_net::MOST_ARCS_BOTH_WAYS) arcs.
+/// what leaves it. `high` and `low` get the upper and the lower 64 bits of the value, which are those of a negative
+/// number where more enters the sources than leaves them; with a verdict of 2 they get the first such arc, and with 3
+/// the first such node. There may be [`MOST_ARCS_BOTH_WAYS`](flow_net::MOST_ARCS_BOTH_WAYS) arcs.
 #[unsafe(no_mangle)]
 pub extern "C" fn provedflow_check_lists(
     alloc: Global,

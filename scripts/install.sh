@@ -22,7 +22,7 @@ folder=$(cd "$1" && pwd)
 cd "$(dirname "$0")/.."
 
 proved=crates/flow/out/flow.proved
-if [ -f "$proved" ] && [ "$(bash scripts/sum.sh)" = "$(cat "$proved")" ]; then
+if [ -f "$proved" ] && [ "$(bash scripts/sum.sh crates/flow/out/flow)" = "$(cat "$proved")" ]; then
   echo 'Nothing has changed since the tests proved and built flow.' >&2
 else
   bash scripts/prove.sh flow

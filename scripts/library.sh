@@ -1,11 +1,10 @@
 #!/usr/bin/env bash
 # Makes the library for C and C++ and puts it into a folder with its header: library.sh DIR [ARCHIVE]
-# DIR gets libprovedflow.so.0 with the link libprovedflow.so, libprovedflow.a and provedflow.h. ARCHIVE is what `rt lib`
-# made of the crate flow_c; where none is handed in, scripts/prove.sh proves and builds it, unless nothing has changed
-# since it did. To its code comes the kit's heap, which calls malloc, realloc and free, and nothing else: there is no C
-# of ours in the library. It needs the C library alone, its code may lie anywhere in memory, and of its names only
-# provedflow_* can be seen from outside. Progress goes to standard error. The one line of standard output is the path of
-# the shared library.
+# DIR gets libprovedflow.so.0 with the link libprovedflow.so, libprovedflow.a and provedflow.h. ARCHIVE is what was built
+# of the crate flow_c; where none is handed in, it is proved and built, unless nothing has changed since it was. To its
+# code comes the kit's heap, which calls malloc, realloc and free, and nothing else: there is no C of ours in the
+# library. It needs the C library alone, its code may lie anywhere in memory, and of its names only provedflow_* can be
+# seen from outside. Progress goes to standard error. The one line of standard output is the path of the shared library.
 set -eu
 if [ $# -lt 1 ] || [ $# -gt 2 ]; then
   echo "usage: bash scripts/library.sh DIR [ARCHIVE]" >&2
@@ -19,20 +18,45 @@ mkdir -p "$1"
 folder=$(cd "$1" && pwd)
 archive=$(if [ $# -eq 2 ]; then realpath "$2"; fi)
 cd "$(dirname "$0")/.."
-if [ -z "$archive" ]; then
-  archive=crates/flow_c/out/libflow_c.a
-  proved=$archive.proved
-  if ! [ -f "$proved" ] || [ "$(bash scripts/sum.sh "$archive")" != "$(cat "$proved")" ]; then
-    bash scripts/prove.sh flow_c
-    bash scripts/sum.sh "$archive" > "$proved"
-  fi
-  archive=$PWD/$archive
-fi
 scratch=$(mktemp -d)
 trap 'rm -rf "$scratch"' EXIT
 
+kit=$(dirname "$(rt doc)")
+
+# Whether nothing has changed since scripts/test.sh or this script kept the sum over built files.
+is_as_proved() { # SUM FILE..
+  [ -f "$1" ] && [ "$(bash scripts/sum.sh "${@:2}")" = "$(cat "$1")" ]
+}
+
+# Proves the crate and builds the archive over the libraries that the gate has proved and left. The gate only checks a
+# static library, and `rt lib`, which builds one, takes none of the gate's, and would prove all of them again.
+build_over_the_gate() {
+  local crate words=()
+  for crate in flow_net flow_text flow_solve flow_tools; do
+    words+=(--extern "$crate=../$crate/out/rlib/$crate.rlib")
+  done
+  echo 'Building the library over what the tests have just proved.' >&2
+  (
+    cd crates/flow_c
+    "$kit/bin/rattle" build --crate-name flow_c src/lib.rt "${words[@]}" -L "dependency=$kit/rlibs" \
+      --antt-project "$kit/rattle/logic/antt-project.json" --logic-built "$kit/logic_built" --crate-type staticlib \
+      --toolchain "$kit/toolchain" --backend llvm -o out/libflow_c.a
+  ) > "$scratch/log" 2>&1
+}
+
+if [ -z "$archive" ]; then
+  archive=crates/flow_c/out/libflow_c.a
+  if ! is_as_proved "$archive.proved" "$archive"; then
+    if ! is_as_proved crates/flow_c/out/below.proved crates/*/out/rlib/*/format || ! build_over_the_gate; then
+      bash scripts/prove.sh flow_c
+    fi
+    bash scripts/sum.sh "$archive" > "$archive.proved"
+  fi
+  archive=$PWD/$archive
+fi
+
 # One object of it all, in which every other name than those of the exports is local.
-heap=$(dirname "$(rt doc)")/c/liblibc_c.a
+heap=$kit/c/liblibc_c.a
 (cd "$scratch" && ar x "$archive" && ar x "$heap" heap.pic.o && ld -r -o all.o ./*.o)
 objcopy --wildcard --keep-global-symbol='provedflow_*' --remove-section=.comment "$scratch/all.o" \
   "$scratch/provedflow.o"

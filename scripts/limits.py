@@ -53,12 +53,12 @@ SENTENCES = {
         "b\"p max {MOST_NODES} {MOST_ARCS}\\n\"",
         "b\"p max {MOST_NODES} 0\\nn 1 s\\nn {MOST_NODES} t\\n\"",
     ],
-    "crates/trials/src/text.rt": [
+    "crates/text_trials/src/text.rt": [
         "(\"p max {MOST_NODES + 1} 0\\n\", 1, \"number of nodes out of range\")",
         "(\"p max 2 {MOST_ARCS + 1}\\n\", 1, \"number of arcs out of range\")",
         "(\"s {GREATEST_VALUE + 1}\\n\", 1, \"value out of range\")",
     ],
-    "crates/trials/src/text/reading.rt": ["\"s {GREATEST_VALUE}\\n\",\n        {GREATEST_VALUE:_},\n"],
+    "crates/text_trials/src/text/reading.rt": ["\"s {GREATEST_VALUE}\\n\",\n        {GREATEST_VALUE:_},\n"],
     "crates/trials/src/tools/jobs.rt": ["b\"p max {MOST_NODES} 0\\nn 1 s\\nn {MOST_NODES} t\\n\""],
     "crates/trials/src/tools/solving.rt": ["b\"p max {MOST_NODES} {MOST_ARCS}\\n\",\n        b\"flow: line 2"],
     "crates/growths/src/nets.rt": ["b\"p max {MOST_NODES} {MOST_ARCS}\\n\""],

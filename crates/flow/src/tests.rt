@@ -98,9 +98,7 @@ fn words_lead_to_jobs_and_files(rt: HostRuntime) -> Result<(), Fail> {
         let mut out: Collector<4096> = Collector::new(7, 4096);
         let mut err: Collector<4096> = Collector::new(7, 4096);
         let status = program(rt.alloc(), words, &mut Memory, &mut out, &mut err);
-        assert_eq!(rt; out.bytes(), text);
-        assert_eq!(rt; err.bytes(), message);
-        assert_eq!(rt; status, wanted);
+        assert_eq!(rt; (out.bytes(), err.bytes(), status), (text, message, wanted));
     }
     Ok(())
 }
@@ -118,8 +116,7 @@ fn refused_words_are_told(rt: HostRuntime) -> Result<(), Fail> {
         let mut out: Collector<4096> = Collector::new(7, 4096);
         let mut err: Collector<4096> = Collector::new(7, 4096);
         let status = program(rt.alloc(), words, &mut Memory, &mut out, &mut err);
-        assert_eq!(rt; status, 2);
-        assert_eq!(rt; out.bytes(), b"".as_slice());
+        assert_eq!(rt; (out.bytes(), status), (b"".as_slice(), 2));
         assert!(rt; err.bytes().starts_with(b"error: "));
     }
     Ok(())
@@ -137,14 +134,14 @@ fn help_is_printed(rt: HostRuntime) -> Result<(), Fail> {
         let mut out: Collector<4096> = Collector::new(7, 4096);
         let mut err: Collector<4096> = Collector::new(7, 4096);
         let status = program(rt.alloc(), words, &mut Memory, &mut out, &mut err);
-        assert_eq!(rt; status, 0);
-        assert!(rt; !out.bytes().is_empty());
-        assert_eq!(rt; err.bytes(), b"".as_slice());
+        assert_eq!(rt;
+            (out.bytes().is_empty(), err.bytes(), status),
+            (false, b"".as_slice(), 0)
+        );
         let mut full: Collector<4096> = Collector::new(7, 3);
         let status = program(rt.alloc(), words, &mut Memory, &mut full, &mut err);
-        assert_eq!(rt; status, 4);
-        assert!(rt; full.failed());
-        assert_eq!(rt; err.bytes(), b"flow: write failed\n".as_slice());
+        let told = b"flow: write failed\n".as_slice();
+        assert_eq!(rt; (full.failed(), err.bytes(), status), (true, told, 4));
     }
     Ok(())
 }
@@ -243,13 +240,13 @@ fn refused_words_and_all_that_is_told(rt: HostRuntime) -> Result<(), Fail> {
         let mut out: Collector<512> = Collector::new(7, 512);
         let mut err: Collector<512> = Collector::new(7, 512);
         let status = program(rt.alloc(), words, &mut Memory, &mut out, &mut err);
-        assert_eq!(rt; status, 2);
-        assert_eq!(rt; out.bytes(), b"".as_slice());
-        assert_eq!(rt; err.bytes(), message);
+        assert_eq!(rt;
+            (out.bytes(), err.bytes(), status),
+            (b"".as_slice(), message, 2)
+        );
         let mut full: Collector<512> = Collector::new(7, 3);
         let status = program(rt.alloc(), words, &mut Memory, &mut out, &mut full);
-        assert_eq!(rt; status, 2);
-        assert_eq!(rt; full.bytes(), b"err".as_slice());
+        assert_eq!(rt; (full.bytes(), status), (b"err".as_slice(), 2));
     }
     Ok(())
 }
@@ -327,9 +324,10 @@ fn expect(rt: &impl Abort, alloc: Global, row: (&str, &[u8], &[u8], &[u8], u8)) 
     let mut err: Collector<64> = Collector::new(7, 64);
     let words = ["flow", command];
     let status = program(alloc, &words, &mut Given { text }, &mut out, &mut err);
-    assert_eq!(rt; out.bytes(), answer);
-    assert_eq!(rt; err.bytes(), message);
-    assert_eq!(rt; status, wanted);
+    assert_eq!(rt;
+        (out.bytes(), err.bytes(), status),
+        (answer, message, wanted)
+    );
 }
 
 #[test]
@@ -385,12 +383,11 @@ fn a_comment_of_a_million_bytes(rt: HostRuntime) -> Result<(), Fail> {
     };
     let words = ["flow", "solve"];
     let status = program(rt.alloc(), &words, &mut unended, &mut out, &mut err);
-    assert_eq!(rt; out.bytes(), b"".as_slice());
+    let told = b"flow: line 2: problem line missing\n".as_slice();
     assert_eq!(rt;
-        err.bytes(),
-        b"flow: line 2: problem line missing\n".as_slice()
+        (out.bytes(), err.bytes(), status),
+        (b"".as_slice(), told, 3)
     );
-    assert_eq!(rt; status, 3);
 
     text.push(b'\n')?;
     text.extend_from_slice(NET_A)?;
@@ -399,12 +396,11 @@ fn a_comment_of_a_million_bytes(rt: HostRuntime) -> Result<(), Fail> {
         text: text.as_slice(),
     };
     let status = program(rt.alloc(), &words, &mut before, &mut out, &mut silent);
+    let put = b"s 5\nf 1 2 3\nf 1 3 2\nf 2 3 1\nf 2 4 2\nf 3 4 3\n".as_slice();
     assert_eq!(rt;
-        out.bytes(),
-        b"s 5\nf 1 2 3\nf 1 3 2\nf 2 3 1\nf 2 4 2\nf 3 4 3\n".as_slice()
+        (out.bytes(), silent.bytes(), status),
+        (put, b"".as_slice(), 0)
     );
-    assert_eq!(rt; silent.bytes(), b"".as_slice());
-    assert_eq!(rt; status, 0);
     Ok(())
 }
 
@@ -472,9 +468,10 @@ fn a_source_is_asked_for_what_the_job_reads(rt: HostRuntime) -> Result<(), Fail>
         let mut out: Collector<4096> = Collector::new(64, 4096);
         let mut err: Collector<4096> = Collector::new(64, 4096);
         let _ = program(rt.alloc(), words, &mut source, &mut out, &mut err);
-        assert_eq!(rt; source.files, files);
-        assert_eq!(rt; source.standard, standard);
-        assert_eq!(rt; source.missing, 0);
+        assert_eq!(rt;
+            (source.files, source.standard, source.missing),
+            (files, standard, 0)
+        );
     }
     Ok(())
 }
@@ -488,10 +485,11 @@ fn a_missing_solution_comes_before_a_fault(rt: HostRuntime) -> Result<(), Fail> 
     let mut err: Collector<64> = Collector::new(64, 64);
     let words = ["flow", "check", "b.max", "missing.sol"];
     let status = program(rt.alloc(), &words, &mut source, &mut out, &mut err);
-    assert_eq!(rt; status, 4);
-    assert_eq!(rt; out.bytes(), b"".as_slice());
-    assert_eq!(rt; err.bytes(), b"flow: cannot open missing.sol\n".as_slice());
-    assert_eq!(rt; source.files, 1);
-    assert_eq!(rt; source.missing, 1);
+    let told = b"flow: cannot open missing.sol\n".as_slice();
+    assert_eq!(rt;
+        (out.bytes(), err.bytes(), status),
+        (b"".as_slice(), told, 4)
+    );
+    assert_eq!(rt; (source.files, source.missing), (1, 1));
     Ok(())
 }

@@ -86,7 +86,7 @@ fn is_dense(net: &Network) -> bool {
 const OPENING_SHARE: u64 = 128;
 
 /// How much the first stages may take.
-pub(crate) fn allowance(net: &Network) -> u64
+pub fn allowance(net: &Network) -> u64
     ensures { result ≤ net.now.nodes * net.now.nodes * length net.now.arcs }
 {
     let n = u64::from(net.nodes());

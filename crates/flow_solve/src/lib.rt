@@ -31,14 +31,12 @@ mod paths;
 mod residual;
 mod sides;
 mod solving;
+pub mod stages;
 mod task;
 
 pub use forests::connectivity_by_forests;
-pub use forests::degrees::least_degree;
+pub use forests::degrees::{has_balanced_degrees, least_degree};
 pub use levels::Levels;
 pub use method::{Method, work_len};
 pub use paths::Paths;
 pub use sides::{cut_nearest_sinks, cut_nearest_sources, has_augmenting_path, reach, reach_back};
-
-#[cfg(test)]
-mod tests;

@@ -4,7 +4,7 @@ use crate::residual::packing::Packed;
 
 /// What is worked on.
 #[derive(Clone, Copy)]
-pub(crate) struct Task<'a> {
+pub struct Task<'a> {
     /// The network with its half-arcs side by side.
     pub packed: Packed<'a>,
     /// The sources.

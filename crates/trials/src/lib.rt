@@ -1,10 +1,7 @@
-//! Tests of the libraries' public calls, in a crate of their own: so the libraries are proved once, and not a second
-//! time with their tests. Tests that reach what is private stand in the crate that has it.
+//! Tests of the public calls of `flow_tools`, in a crate of their own: so the library is proved once, and not a second
+//! time with its tests. Those of the crates below stand in `text_trials` and `solve_trials`; tests that reach what is
+//! private stand in the crate that has it.
 #![tactic(auto)]
 
-#[cfg(test)]
-mod net;
-#[cfg(test)]
-mod text;
 #[cfg(test)]
 mod tools;

@@ -62,7 +62,7 @@ pub fn least_degree(net: &Network, cells: &mut [u32]) -> u64
 
 /// Whether as many arcs leave each node as enter it: as many then leave each set of nodes as enter it. It works in the
 /// first cells of `degrees`, two for each node.
-pub(crate) fn has_balanced_degrees(net: &Network, degrees: &mut [u32]) -> bool
+pub fn has_balanced_degrees(net: &Network, degrees: &mut [u32]) -> bool
     requires cells { 2 * net.now.nodes ≤ length degrees.old }
     ensures balanced { IsTrue result → IsEitherWay net.now }
     ensures leaving { (v : ℕ) → IsNode net.now v → slice_index degrees.new (v - 1) ≡ leaving net.now (just v) }

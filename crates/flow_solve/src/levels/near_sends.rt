@@ -30,7 +30,7 @@ const BARRED: u32 = u32::MAX - 1;
 
 /// A flow's value, and what may still be done.
 #[derive(Clone, Copy)]
-pub(crate) struct Sent {
+pub struct Sent {
     /// The value.
     pub value: u128,
     /// How many steps may still be taken, and half-arcs passed by.
@@ -247,7 +247,7 @@ fn send_from(task: Task<'_>, flow: &mut FlowTable, sent: &mut Sent, last: &mut [
 
 /// Sends what can leave the sources to sinks over one node and over two, and takes no more steps than are allowed.
 /// Answers what the flow is worth then, and what may still be done.
-pub(crate) fn send_near(
+pub fn send_near(
     task: Task<'_>,
     flow: &mut FlowTable,
     cells: &mut [u32],

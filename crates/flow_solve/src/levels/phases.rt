@@ -136,12 +136,7 @@ fn run_phase(
 /// Raises a feasible flow by phases until a search backwards from the sinks sees no source, and answers its value,
 /// which is the greatest. `value` is the flow's value before. It takes at most `3·n²·m` steps, whatever flow it starts
 /// from.
-pub(crate) fn run_phases(
-    task: Task<'_>,
-    flow: &mut FlowTable,
-    cells: &mut [u32],
-    value: u128,
-) -> u128
+pub fn run_phases(task: Task<'_>, flow: &mut FlowTable, cells: &mut [u32], value: u128) -> u128
     requires task { IsTask task }
     requires cells { length cells.old ≡ 5 * task.packed.net.now.nodes }
     requires flow { HasFlow task flow.old.flows value }

@@ -155,7 +155,7 @@ fn at_rest(allowance: u64) -> Wave
 
 /// Sends waves from what the trees have reached on, unless these are finished, and settles what they leave. Answers the
 /// flow's value: 0, with the table cleared, where something couldn't be brought home.
-pub(crate) fn send_waves(
+pub fn send_waves(
     task: Task<'_>,
     flow: &mut FlowTable,
     cells: &mut [u32],

@@ -1,0 +1,227 @@
+//! Networks with balanced degrees, and the connectivity by forests of some of them: what a count by hand says of each.
+ghost use Rattle.std.specs.Prelude.{◌≡◌, ◌≤◌, ℕ, Bool, IsTrue};
+ghost use Rattle.std.specs.List.{All};
+ghost use Rattle.flow_net.specs.Connectivity.{leaving, IsProper};
+
+use super::*;
+
+/// A network of capacities of 1, whether as many arcs leave each node as enter it, and its connectivity.
+struct Unit {
+    name: &'static str,
+    nodes: u32,
+    arcs: &'static [(u32, u32)],
+    is_balanced: bool,
+    connectivity: u64,
+}
+
+/// A network with some arcs of capacity 1, if it can have them all and there is memory.
+fn unit_network(alloc: Global, nodes: u32, arcs: &[(u32, u32)]) -> Option<Network>
+    requires least { FEWEST_NODES ≤ nodes }
+    requires most { nodes ≤ MOST_NODES }
+{
+    let mut net = Network::new(alloc, nodes);
+    for (src, dst) in arcs {
+        if !add(&mut net, *src, *dst, 1) {
+            return None;
+        }
+    }
+    Some(net)
+}
+
+/// Whether every capacity is 1.
+fn are_units(net: &Network) -> bool
+    ensures { IsTrue result → All (λ a. a.cap ≡ 1) net.now.arcs }
+{
+    for i in 0..net.len() {
+        if net.arc(i).cap != 1 {
+            return false;
+        }
+    }
+    true
+}
+
+/// How many arcs leave node 1.
+fn first_degree(net: &Network) -> u64
+    ensures { (X : ℕ → Bool) × IsProper net.now X × (leaving net.now X ≡ result) }
+{
+    let mut degree = 0u64;
+    for i in 0..net.len() {
+        let arc = net.arc(i);
+        if arc.src == 1 && arc.dst != 1 {
+            degree += 1;
+        }
+    }
+    degree
+}
+
+/// Whether as many arcs leave each node as enter it; nothing if memory is refused.
+fn is_balanced(alloc: Global, net: &Network) -> Option<bool> {
+    let nodes = net.nodes() as usize;
+    let mut degrees = Vec::from_elem(alloc, 7u32, 2 * nodes).ok()?;
+    Some(has_balanced_degrees(net, degrees.as_mut_slice()))
+}
+
+/// The connectivity by forests; nothing if a capacity isn't 1, memory is refused, or it takes more steps than it may.
+fn grown_within(alloc: Global, net: &Network, budget: u64) -> Option<u64> {
+    let mut work = Vec::from_elem(alloc, 7u32, work_len(net.nodes(), net.len())).ok()?;
+    let mut flow = empty_flow(alloc, net)?;
+    if !are_units(net) {
+        return None;
+    }
+    connectivity_by_forests(
+        net,
+        first_degree(net),
+        &mut flow,
+        work.as_mut_slice(),
+        budget,
+    )
+}
+
+const UNITS: &[Unit] = &[
+    Unit {
+        name: "a ring one way",
+        nodes: 5,
+        arcs: &[(1, 2), (2, 3), (3, 4), (4, 5), (5, 1)],
+        is_balanced: true,
+        connectivity: 1,
+    },
+    Unit {
+        name: "a ring both ways, its arcs in a mixed order",
+        nodes: 4,
+        arcs: &[
+            (3, 2),
+            (1, 2),
+            (4, 1),
+            (2, 3),
+            (4, 3),
+            (1, 4),
+            (2, 1),
+            (3, 4),
+        ],
+        is_balanced: true,
+        connectivity: 2,
+    },
+    Unit {
+        name: "arcs to the next node and the one after it, round a ring",
+        nodes: 5,
+        arcs: &[
+            (1, 2),
+            (1, 3),
+            (2, 3),
+            (2, 4),
+            (3, 4),
+            (3, 5),
+            (4, 5),
+            (4, 1),
+            (5, 1),
+            (5, 2),
+        ],
+        is_balanced: true,
+        connectivity: 2,
+    },
+    Unit {
+        name: "two rings one way that meet at node 3",
+        nodes: 5,
+        arcs: &[(1, 2), (2, 3), (3, 1), (3, 4), (4, 5), (5, 3)],
+        is_balanced: true,
+        connectivity: 1,
+    },
+    Unit {
+        name: "a ring one way of parallel arcs",
+        nodes: 3,
+        arcs: &[(1, 2), (2, 3), (1, 2), (3, 1), (3, 1), (2, 3)],
+        is_balanced: true,
+        connectivity: 2,
+    },
+    Unit {
+        name: "a ring one way with self-loops at a node",
+        nodes: 3,
+        arcs: &[(2, 2), (1, 2), (2, 3), (2, 2), (3, 1)],
+        is_balanced: true,
+        connectivity: 1,
+    },
+    Unit {
+        name: "two rings apart",
+        nodes: 4,
+        arcs: &[(1, 2), (2, 1), (3, 4), (4, 3)],
+        is_balanced: true,
+        connectivity: 0,
+    },
+    Unit {
+        name: "no arcs",
+        nodes: 3,
+        arcs: &[],
+        is_balanced: true,
+        connectivity: 0,
+    },
+    Unit {
+        name: "a ring one way and an arc more",
+        nodes: 4,
+        arcs: &[(1, 2), (2, 3), (3, 4), (4, 1), (1, 3)],
+        is_balanced: false,
+        connectivity: 1,
+    },
+    Unit {
+        name: "one more parallel arc one way",
+        nodes: 3,
+        arcs: &[(1, 2), (2, 1), (2, 3), (3, 2), (2, 3)],
+        is_balanced: false,
+        connectivity: 1,
+    },
+    Unit {
+        name: "a path",
+        nodes: 3,
+        arcs: &[(1, 2), (2, 3)],
+        is_balanced: false,
+        connectivity: 0,
+    },
+];
+
+#[test]
+fn balanced_degrees_and_connectivity_by_hand(rt: HostRuntime) {
+    for unit in UNITS {
+        let net = unit_network(rt.alloc(), unit.nodes, unit.arcs).expect(&rt, "memory");
+        assert_eq!(&rt;
+            (unit.name, is_balanced(rt.alloc(), &net)),
+            (unit.name, Some(unit.is_balanced))
+        );
+        assert_eq!(&rt;
+            (unit.name, grown_within(rt.alloc(), &net, 1000)),
+            (unit.name, Some(unit.connectivity))
+        );
+    }
+}
+
+/// A ring one way, its arcs from each node to the next or, turned round, from the next to it.
+fn turned_ring(alloc: Global, nodes: u32, is_turned: bool) -> Option<Network>
+    requires least { 2 ≤ nodes }
+    requires most { nodes ≤ MOST_NODES }
+{
+    let mut net = Network::new(alloc, nodes);
+    for node in 1..nodes {
+        let (src, dst) = if is_turned {
+            (node + 1, node)
+        } else {
+            (node, node + 1)
+        };
+        if !add(&mut net, src, dst, 1) {
+            return None;
+        }
+    }
+    let (src, dst) = if is_turned { (1, nodes) } else { (nodes, 1) };
+    if !add(&mut net, src, dst, 1) {
+        return None;
+    }
+    Some(net)
+}
+
+#[test]
+fn a_forest_goes_round_a_ring_without_a_flow(rt: HostRuntime) {
+    for is_turned in [false, true] {
+        let net = turned_ring(rt.alloc(), 500, is_turned).expect(&rt, "memory");
+        assert_eq!(&rt;
+            (is_turned, grown_within(rt.alloc(), &net, 0)),
+            (is_turned, Some(1))
+        );
+    }
+}

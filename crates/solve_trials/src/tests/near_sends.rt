@@ -1,0 +1,178 @@
+//! Near sends: what they alone reach on an assignment, by hand, in a dense network, on random networks, and where they
+//! are left.
+use super::trees::add_random_arcs;
+use super::*;
+
+/// Near sends alone, and how much they may take.
+#[derive(Drop)]
+pub(super) struct Near(pub(super) u64);
+
+impl Stage for Near {
+    fn run(&self, task: Task<'_>, flow: &mut FlowTable, cells: &mut [u32]) -> u128 {
+        send_near(task, flow, cells, 0, self.0).value
+    }
+}
+
+/// How many workers there are, and how many jobs.
+const WORKERS: u32 = 100;
+
+/// Adds the workers and the jobs: each worker may do three jobs, or fewer where one is drawn twice.
+#[must_use]
+fn add_workers(net: &mut Network, random: &mut Random) -> bool {
+    for i in 0..WORKERS {
+        let worker = 3 + i;
+        let job = 3 + WORKERS + i;
+        if !add(net, 1, worker, 1) || !add(net, job, 2, 1) {
+            return false;
+        }
+        for _ in 0..3 {
+            let other = 3 + WORKERS + random.below(u64::from(WORKERS)) as u32;
+            if !add(net, worker, other, 1) {
+                return false;
+            }
+        }
+    }
+    true
+}
+
+/// No contract tells whether near sends bring anything.
+#[test]
+fn near_sends_fill_most_of_an_assignment(rt: HostRuntime) {
+    let mut random = Random { state: 1955 };
+    let mut net = Network::new(rt.alloc(), 2 + 2 * WORKERS);
+    assert!(&rt; add_workers(&mut net, &mut random));
+    let near = Near(allowance(&net));
+    let answer = stages(rt.alloc(), &net, &[1, 2], 1, &near);
+    let (reached, greatest, other) = answer.expect(&rt, "good terminals");
+    assert_eq!(&rt; greatest, other);
+    assert!(&rt; 90 < greatest && reached <= greatest);
+    assert!(&rt; greatest.saturating_mul(4) < reached.saturating_mul(5));
+}
+
+/// How many nodes the dense network has, with an arc from each to every later one.
+const MANY: u32 = 80;
+
+/// In a dense network more than half of the flow goes over one node or two.
+#[test]
+fn near_sends_fill_half_of_a_dense_network(rt: HostRuntime) {
+    let mut random = Random { state: 1990 };
+    let mut net = Network::new(rt.alloc(), MANY);
+    for i in 1..MANY {
+        for j in i + 1..=MANY {
+            assert!(&rt; add(&mut net, i, j, 1 + random.below(1000)));
+        }
+    }
+    let near = Near(allowance(&net));
+    let answer = stages(rt.alloc(), &net, &[1, MANY], 1, &near);
+    let (reached, greatest, other) = answer.expect(&rt, "good terminals");
+    assert_eq!(&rt; greatest, other);
+    assert!(&rt; reached < greatest && greatest < reached.saturating_mul(2));
+}
+
+/// Arcs, what near sends reach on them from node 1 to node 6, and the greatest value.
+const NEAR: &[(&[(u32, u32, u64)], u128, u128)] = &[
+    // Over one node, and then over two.
+    (&[(1, 2, 5), (2, 6, 2), (2, 3, 9), (3, 6, 2)], 4, 4),
+    (&[(1, 2, 1), (2, 6, 5), (1, 3, 4), (3, 2, 4)], 5, 5),
+    // Node 2 comes first, which can take but 1 of the 5 from the source: what comes over node 3 still ends by it.
+    (
+        &[(1, 3, 4), (3, 2, 4), (1, 2, 1), (2, 6, 5), (4, 6, 1)],
+        5,
+        5,
+    ),
+    // Over two nodes to each of three.
+    (
+        &[
+            (1, 2, 9),
+            (2, 3, 2),
+            (2, 4, 3),
+            (2, 5, 4),
+            (3, 6, 3),
+            (4, 6, 3),
+            (5, 6, 3),
+        ],
+        8,
+        8,
+    ),
+    // The arc from the source to the sink is left to the trees, and so is a path over three nodes.
+    (
+        &[(1, 6, 7), (1, 2, 1), (2, 3, 1), (3, 4, 1), (4, 6, 1)],
+        0,
+        8,
+    ),
+    // What leaves the sink, or enters the source, doesn't count.
+    (&[(1, 6, 7), (6, 2, 5), (2, 6, 5), (2, 1, 5)], 0, 7),
+    // Against the arcs nothing goes.
+    (
+        &[(2, 1, 1), (6, 2, 1), (1, 3, 1), (4, 3, 1), (4, 6, 1)],
+        0,
+        0,
+    ),
+    // Of two opposite arcs each is one of its own.
+    (
+        &[(1, 2, 4), (3, 2, 5), (2, 3, 1), (3, 6, 4), (6, 3, 2)],
+        1,
+        1,
+    ),
+];
+
+#[test]
+fn near_sends_by_hand(rt: HostRuntime) {
+    for (arcs, reached, greatest) in NEAR {
+        let net = network(rt.alloc(), 6, arcs).expect(&rt, "memory");
+        assert_eq!(&rt;
+            stages(rt.alloc(), &net, &[1, 6], 1, &Near(1000)),
+            Some((*reached, *greatest, *greatest))
+        );
+    }
+}
+
+#[test]
+fn near_sends_that_are_left(rt: HostRuntime) {
+    let (arcs, value, _) = NEAR[0];
+    let net = network(rt.alloc(), 6, arcs).expect(&rt, "memory");
+    let mut before = 0u128;
+    let mut between = 0u32;
+    for allowance in 0u64..100 {
+        let answer = stages(rt.alloc(), &net, &[1, 6], 1, &Near(allowance));
+        let (reached, greatest, other) = answer.expect(&rt, "good terminals");
+        assert!(&rt; before <= reached && reached <= value);
+        assert_eq!(&rt; (greatest, other), (value, value));
+        if 0 < reached && reached < value {
+            between = between.wrapping_add(1);
+        }
+        before = reached;
+    }
+    assert!(&rt; between > 0);
+    assert_eq!(&rt; before, value);
+}
+
+#[test]
+fn near_sends_on_random_networks(rt: HostRuntime) {
+    let mut random = Random { state: 1957 };
+    let mut tried = 0u32;
+    let mut between = 0u32;
+    for _ in 0..6000 {
+        let nodes = 2 + random.below(12) as u32;
+        let mut net = Network::new(rt.alloc(), nodes);
+        assert!(&rt; add_random_arcs(&mut net, &mut random));
+        let terminals = four_nodes(&mut random, nodes);
+        let k = 1 + random.below(2) as usize;
+        let end = k + 1 + random.below(2) as usize;
+        let terminals = &terminals[..end];
+        if !may_be_terminals(&net, terminals, k) {
+            continue;
+        }
+        let near = Near(random.below(200));
+        let answer = stages(rt.alloc(), &net, terminals, k, &near);
+        let (reached, greatest, other) = answer.expect(&rt, "a small network, and memory");
+        assert!(&rt; reached <= greatest);
+        assert_eq!(&rt; greatest, other);
+        tried = tried.wrapping_add(1);
+        if 0 < reached && reached < greatest {
+            between = between.wrapping_add(1);
+        }
+    }
+    assert!(&rt; tried > 2000);
+    assert!(&rt; between > 20);
+}

@@ -1,7 +1,7 @@
 //! Waves: small networks of which the greatest value is known, random ones, and larger ones of the kinds that waves are
 //! for, in which they have to bring something.
 use super::*;
-use crate::levels::trees::{Reached, grow_trees};
+use crate::levels::trees::grow_trees;
 use crate::levels::waves::send_waves;
 
 /// The waves, and how much they may take.
@@ -10,11 +10,7 @@ struct Waves(u64);
 
 impl Stage for Waves {
     fn run(&self, task: Task<'_>, flow: &mut FlowTable, cells: &mut [u32]) -> u128 {
-        let reached = Reached {
-            value: 0,
-            is_finished: false,
-        };
-        send_waves(task, flow, cells, reached, self.0)
+        send_waves(task, flow, cells, 0, self.0)
     }
 }
 
@@ -28,11 +24,7 @@ struct Both {
 impl Stage for Both {
     fn run(&self, task: Task<'_>, flow: &mut FlowTable, cells: &mut [u32]) -> u128 {
         let grown = grow_trees(task, flow, cells, 0, self.trees);
-        let reached = Reached {
-            value: grown.value,
-            is_finished: false,
-        };
-        send_waves(task, flow, cells, reached, self.waves)
+        send_waves(task, flow, cells, grown.value, self.waves)
     }
 }
 

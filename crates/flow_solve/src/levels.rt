@@ -150,7 +150,10 @@ impl Raise for Levels {
         let sent = send_near(task, flow, cells, value, given);
         let Shares { trees, waves } = share_out(net, given, sent.left);
         let grown = grow_trees(task, flow, cells, sent.value, trees);
-        let value = send_waves(task, flow, cells, grown, waves);
+        if grown.is_finished {
+            return grown.value;
+        }
+        let value = send_waves(task, flow, cells, grown.value, waves);
         run_phases(task, flow, cells, value)
     }
 }

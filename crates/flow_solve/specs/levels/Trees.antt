@@ -1,8 +1,11 @@
--- Two search trees: what is pushed along their chains of parents. Nothing is claimed of the trees themselves.
-use Rattle.std.specs.Prelude.{ℕ, ◌*◌, ◌≤◌, List, length}
+-- Two search trees: what is pushed along their chains of parents, and what the border of the tree of the sinks shows.
+-- Nothing is claimed of the trees themselves.
+use Rattle.std.specs.Prelude.{ℕ, ◌-◌, ◌*◌, ◌%◌, ◌≤◌, ◌==◌, Bool, IsTrue, List, length, slice_index}
 use Rattle.flow_net.specs.Nets.{Net}
-use Rattle.flow_net.specs.Flows.{Fits}
-use Rattle.flow_net.specs.Residual.{Table}
+use Rattle.flow_net.specs.NodeSets.{one_of}
+use Rattle.flow_net.specs.Flows.{Fits, IsGreatest}
+use Rattle.flow_net.specs.LeastCuts.{IsLeastCapacity}
+use Rattle.flow_net.specs.Residual.{Table, tail_of, head_of, residual}
 use Rattle.flow_solve.specs.declared.levels.trees.chains.Grown.{Grown}
 use Rattle.flow_solve.specs.declared.residual.half_arcs.Direction.{Direction}
 use Rattle.flow_solve.specs.declared.residual.half_arcs.Direction.TheVariants.{Forwards, Backwards}
@@ -34,3 +37,18 @@ supplied_by Backwards h = h
 abbrev pub IsSupplied : Direction → Net → ℕ → ℕ → ℕ → List ℕ → List ℕ → Type 0
 IsSupplied Forwards net d node root xs ys = IsCarried net d root node xs ys
 IsSupplied Backwards net d node root xs ys = IsCarried net d node root xs ys
+
+-- whether a node is outside the tree of the sinks, whose labels are odd
+abbrev pub outside : List ℕ → ℕ → Bool
+outside cells v = slice_index cells (4 * v - 4) % 2 == 0
+
+-- the half-arc doesn't lead into that tree from outside, or nothing remains on it
+abbrev pub IsPassed : Net → List ℕ → List ℕ → ℕ → Type 0
+IsPassed net xs cells h = IsTrue (outside cells (tail_of net h)) → 1 ≤ residual net xs h
+    → IsTrue (outside cells (head_of net h))
+
+-- a flow of a task has the greatest value
+abbrev pub HasNoMore : Task → List ℕ → Type 0
+HasNoMore task xs = (k : ℕ) → HasFlow task xs k
+    → IsGreatest task.packed.net.now (one_of task.s.now) (one_of task.t.now) k
+    × IsLeastCapacity task.packed.net.now (one_of task.s.now) (one_of task.t.now) k

@@ -25,7 +25,6 @@ mod levelling;
 mod settling;
 
 use crate::levels::spending::spend;
-use crate::levels::trees::Reached;
 use crate::residual::half_arcs::head;
 use crate::residual::packing::Packed;
 use crate::task::Task;
@@ -153,25 +152,25 @@ fn at_rest(allowance: u64) -> Wave
     }
 }
 
-/// Sends waves from what the trees have reached on, unless these are finished, and settles what they leave. Answers the
-/// flow's value: 0, with the table cleared, where something couldn't be brought home.
+/// Sends waves from a flow of some value on, and settles what they leave. Answers the flow's value: 0, with the table
+/// cleared, where something couldn't be brought home.
 pub fn send_waves(
     task: Task<'_>,
     flow: &mut FlowTable,
     cells: &mut [u32],
-    reached: Reached,
+    value: u128,
     allowance: u64,
 ) -> u128
     requires task { IsTask task }
     requires cells { length cells.old ≡ 5 * task.packed.net.now.nodes }
-    requires flow { HasFlow task flow.old.flows reached.value }
+    requires flow { HasFlow task flow.old.flows value }
     ensures flow { HasFlow task.entry flow.new.flows result }
     ensures steps { TakesSteps flow.old flow.new allowance }
 {
     let Task { packed, s, t } = task;
     let looks = u64::from(packed.net.len());
-    if reached.is_finished || allowance <= looks {
-        return reached.value;
+    if allowance <= looks {
+        return value;
     }
     let share = (allowance - looks) / 2;
     let mut there = at_rest(share);

@@ -8,11 +8,7 @@ struct Waves(u64);
 
 impl Stage for Waves {
     fn run(&self, task: Task<'_>, flow: &mut FlowTable, cells: &mut [u32]) -> u128 {
-        let reached = Reached {
-            value: 0,
-            is_finished: false,
-        };
-        send_waves(task, flow, cells, reached, self.0)
+        send_waves(task, flow, cells, 0, self.0)
     }
 }
 
@@ -26,11 +22,7 @@ struct Both {
 impl Stage for Both {
     fn run(&self, task: Task<'_>, flow: &mut FlowTable, cells: &mut [u32]) -> u128 {
         let grown = grow_trees(task, flow, cells, 0, self.trees);
-        let reached = Reached {
-            value: grown.value,
-            is_finished: false,
-        };
-        send_waves(task, flow, cells, reached, self.waves)
+        send_waves(task, flow, cells, grown.value, self.waves)
     }
 }
 

@@ -6,7 +6,7 @@
 ghost use Rattle.std.specs.Prelude.{◌≡◌, ◌↔◌, ℕ, ◌+◌, ◌-◌, ◌*◌, ◌<◌, ◌≤◌, IsTrue, length};
 ghost use Rattle.std.specs.Prelude.{slice_index, slice_set};
 ghost use Rattle.flow_net.specs.Nets.{IsNode};
-ghost use Rattle.flow_net.specs.Residual.{tail_of};
+ghost use Rattle.flow_net.specs.Residual.{head_of, tail_of};
 ghost use Rattle.flow_solve.specs.Forests.{HasGrown, IsStand, LeadsOn, done_in};
 
 use crate::forests::Ground;
@@ -42,17 +42,19 @@ fn leads_on(direction: Direction, half: u32) -> bool
 }
 
 /// Takes the half-arc in a cell, and comes to the node behind it.
-fn take(ground: Ground<'_>, rows: &mut [u32], state: &mut [u32], at: usize)
+fn take(ground: Ground<'_>, rows: &mut [u32], state: &mut [u32], at: usize, behind: u32)
     requires stand { IsStand ground rows.old state.old }
     requires at { at < length rows.old }
     requires half { slice_index rows.old at < 2 * length ground.net.now.arcs }
     requires leads { LeadsOn ground.direction (slice_index rows.old at) }
     requires done { IsTrue (done_in state.old (tail_of ground.net.now (slice_index rows.old at))) }
+    requires behind { behind ≡ head_of ground.net.now (slice_index rows.old at) }
+    requires node { IsNode ground.net.now behind }
     ensures { HasGrown ground.entry rows.old state.old rows.new state.new }
 {
     let half = rows[at];
     rows[at] = half + TAKEN;
-    state[head(ground.net, half) as usize - 1] = DONE;
+    state[behind as usize - 1] = DONE;
 }
 
 /// Two cells change places, if they exist.
@@ -83,12 +85,14 @@ fn exchange_entries(ground: Ground<'_>, rows: &mut [u32], state: &[u32], one: u3
     exchange(ground, rows, state, a + 1, b + 1);
 }
 
-/// Takes the half-arc of an entry, if it isn't taken, leads on, and leaves the node. Answers whether it does.
+/// Takes the half-arc of an entry, if it isn't taken, leads on, and leads from a node to the one behind it. Answers
+/// whether it does. The cell of the node behind is told by the hint, so that nothing waits for the arc to be read.
 fn take_entry(
     ground: Ground<'_>,
     rows: &mut [u32],
     state: &mut [u32],
     node: u32,
+    behind: u32,
     entry: u32,
 ) -> bool
     requires stand { IsStand ground rows.old state.old }
@@ -103,10 +107,10 @@ fn take_entry(
     if half >= 2 * ground.net.len() || !leads_on(ground.direction, half) {
         return false;
     }
-    if tail(ground.net, half) != node {
+    if tail(ground.net, half) != node || head(ground.net, half) != behind {
         return false;
     }
-    take(ground, rows, state, at);
+    take(ground, rows, state, at, behind);
     true
 }
 
@@ -168,7 +172,7 @@ fn go_on(
         return None;
     };
     let behind = node_behind(ground, rows, entry);
-    if !take_entry(ground, rows, state, node, entry) {
+    if !take_entry(ground, rows, state, node, behind, entry) {
         return None;
     }
     exchange_entries(ground, rows, state, entry, next);

@@ -115,7 +115,7 @@ def run(words, stdin=b"", env=None, limit=None, seconds=60, program=None):
 
 
 def run_refused(folder, words, stdin, nth, program=None):
-    """Runs a program whose request with this number is refused, or all are. Answers how many it made, and its answer."""
+    """Runs a program that is refused one request, by its number, or all. Answers how many it made, and its answer."""
     log = os.path.join(folder, "requests")
     env = dict(os.environ, LD_PRELOAD=ALLOCATOR, REFUSE_NTH=str(nth), REFUSE_LOG=log)
     answer = run(words, stdin, env, program=program)

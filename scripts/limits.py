@@ -26,7 +26,8 @@ SENTENCES = {
     "docs/MESSAGES.md": [
         "has more than {LONGEST_LINE} bytes, its end not counted",
         "declares fewer than 2 nodes or more than {MOST_NODES:,}.",
-        "p max 1 0\\n' | flow solve\nflow: line 1: number of nodes out of range\n$ printf 'p max {MOST_NODES + 1} 0\\n'",
+        "p max 1 0\\n' | flow solve\nflow: line 1: number of nodes out of range\n"
+        "$ printf 'p max {MOST_NODES + 1} 0\\n'",
         "declares more than {MOST_ARCS:,} arcs.",
         "printf 'p max 3 {MOST_ARCS + 1}\\n' | flow solve",
         "A line `f` stands after {MOST_FLOW_LINES:,} others.",
@@ -88,7 +89,10 @@ SENTENCES = {
     "python/provedflow/library.py": ["MOST_NODES = {MOST_NODES:_}", "MOST_ARCS = {2 * MOST_ARCS:_}",
                                      "MOST_LINKS = {MOST_ARCS:_}"],
     "python/provedflow/scipy.py": ["beyond the limits of {MOST_NODES:,} nodes and {2 * MOST_ARCS:,} arcs"],
-    "python/provedflow/networkx.py": ["beyond the limits of {MOST_NODES:,} nodes and\n{2 * MOST_ARCS:,} arcs, or {MOST_ARCS:,} edges where links are counted;"],
+    "python/provedflow/networkx.py": [
+        "beyond the limits of {MOST_NODES:,} nodes and\n{2 * MOST_ARCS:,} arcs, "
+        "or {MOST_ARCS:,} edges where links are counted;"
+    ],
     "python/provedflow/pixels.py": ["of {2 * MOST_ARCS:,} arcs and {MOST_NODES:,} nodes there is room"],
 }
 

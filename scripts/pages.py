@@ -184,7 +184,8 @@ def fish_says(source, commands):
 def compare_completions(program, main, helps, tally):
     known = helps_of(program)
     for name, make in FILES.items():
-        tally.same(f'whether {name} is what scripts/from_help.py writes', (TOP / name).read_text() == make(*known), True)
+        is_written = (TOP / name).read_text() == make(*known)
+        tally.same(f'whether {name} is what scripts/from_help.py writes', is_written, True)
     wanted = {'flow ': sorted(main.commands), 'flow --': sorted(main.long())}
     for name, known in helps.items():
         wanted[f'flow {name} --'] = sorted(known.long())

@@ -62,7 +62,7 @@ pub(crate) mod waves;
 
 use crate::method::Method;
 use crate::solving::{Raise, solve};
-use crate::task::Task;
+use crate::task::{Given, Task};
 use flow_net::{FlowTable, Network};
 use near_sends::send_near;
 use phases::run_phases;
@@ -169,6 +169,6 @@ impl Method for Levels {
         flow: &mut FlowTable,
         work: &mut [u32],
     ) -> u128 {
-        solve::<Levels>(net, s, t, flow, work)
+        solve::<Levels>(Given { net, s, t }, flow, work)
     }
 }

@@ -38,10 +38,9 @@
 //!    time, in a dense network a third.
 //!
 //! Nodes with excess are lifted, and yet this is no push-relabel method: to lift is the business of a stage, which
-//! hands on a feasible flow or none, and the phases carry the proof and the bound whatever it does. Nothing is claimed
-//! of the trees: each half-arc of a path is looked at when something is pushed over it, and a push that doesn't go from
-//! a source to a sink isn't kept. Of waves no more is claimed than what their end tests. A stage may leave wherever it
-//! is.
+//! hands on a feasible flow or none, and the phases carry the proof and the bound whatever it does. Each half-arc of a
+//! path of the trees is looked at when something is pushed over it, and a push that doesn't go from a source to a sink
+//! isn't kept; what waves leave is tested at their end. A stage may leave wherever it is.
 //!
 //! What near sends and trees take is counted off an allowance of 128 steps for each arc, and what the waves take off
 //! the rest of `n²·m`, at most 1024 steps for each arc in each direction; a half-arc that is passed by without a look,
@@ -63,7 +62,7 @@ pub(crate) mod waves;
 
 use crate::method::Method;
 use crate::solving::{Raise, solve};
-use crate::task::Task;
+use crate::task::{Given, Task};
 use flow_net::{FlowTable, Network};
 use near_sends::send_near;
 use phases::run_phases;
@@ -173,6 +172,6 @@ impl Method for Levels {
         flow: &mut FlowTable,
         work: &mut [u32],
     ) -> u128 {
-        solve::<Levels>(net, s, t, flow, work)
+        solve::<Levels>(Given { net, s, t }, flow, work)
     }
 }

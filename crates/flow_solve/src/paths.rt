@@ -15,16 +15,16 @@ ghost use Rattle.flow_net.specs.NodeSets.{one_of};
 ghost use Rattle.flow_net.specs.Flows.{Fits};
 ghost use Rattle.flow_net.specs.Paths.{HasRoom, push_all};
 ghost use Rattle.flow_solve.specs.residual.Packs.{IsPacked};
-ghost use Rattle.flow_solve.specs.residual.Searches.{AreCells, HasMissed, HasSearched, IsMarked, seen};
+ghost use Rattle.flow_solve.specs.residual.Searches.{AreCells, HasMissed, HasSearched, seen};
 ghost use Rattle.flow_solve.specs.Bounds.{paths_bound};
 ghost use Rattle.flow_solve.specs.Steps.{OnlyLooks, TakesSteps};
-ghost use Rattle.flow_solve.specs.residual.Trails.{AreTrails, IsFirstSeen, IsMost, IsSeenOf, trail_from};
+ghost use Rattle.flow_solve.specs.residual.Trails.{IsFirstSeen, IsMost, IsSeenOf, IsTrail, halves_on};
 
 use crate::method::Method;
 use crate::residual::half_arcs::{Direction, head};
 use crate::residual::searching::{Plan, WANTED, search};
 use crate::solving::{Raise, solve};
-use crate::task::Task;
+use crate::task::{Given, Task};
 use flow_net::{FlowTable, Network};
 
 /// The first of some nodes that a search has seen.
@@ -65,20 +65,32 @@ fn find_trail(
     first_seen(plan.until, dist)
 }
 
+/// A trail, in the half-arcs over which a search came.
+#[derive(Clone, Copy)]
+struct Trail<'a> {
+    /// The network.
+    net: &'a Network,
+    /// The distances of the nodes that the search has seen.
+    dist: &'a [u32],
+    /// The half-arcs over which it came to them.
+    via: &'a [u32],
+    /// The node that the trail begins at.
+    source: u32,
+}
+
 /// The least residual capacity on the trail from a node.
-fn least_room(net: &Network, flow: &mut FlowTable, dist: &[u32], via: &[u32], source: u32) -> u64
-    requires fits { Fits net.now flow.old.flows }
-    requires trails { AreTrails net.now flow.old.flows dist.now via.now }
-    requires node { IsNode net.now source }
-    requires marked { IsMarked dist.now (source - 1) }
-    ensures room { HasRoom net.now flow.old.flows result (trail_from net.now dist.now via.now source) }
-    ensures most { IsMost net.now flow.old.flows (trail_from net.now dist.now via.now source) result }
+fn least_room(trail: Trail<'_>, flow: &mut FlowTable) -> u64
+    requires fits { Fits trail.net.now flow.old.flows }
+    requires trail { IsTrail trail flow.old.flows }
+    ensures room { HasRoom trail.entry.net.now flow.old.flows result (halves_on trail.entry) }
+    ensures most { IsMost trail.entry.net.now flow.old.flows (halves_on trail.entry) result }
     ensures positive { 1 ≤ result }
     ensures flows { flow.new.flows ≡ flow.old.flows }
-    ensures steps { flow.new.steps ≡ flow.old.steps + slice_index dist.now (source - 1) }
+    ensures steps { flow.new.steps ≡ flow.old.steps + slice_index trail.entry.dist.now (trail.entry.source - 1) }
 {
+    let Trail { net, dist, via, .. } = trail;
     let mut least = u64::MAX;
-    let mut node = source;
+    let mut node = trail.source;
     while dist[node as usize - 1] > 0 {
         let (next, room) = flow.look(net, via[node as usize - 1]);
         least = least.min(room);
@@ -88,16 +100,15 @@ fn least_room(net: &Network, flow: &mut FlowTable, dist: &[u32], via: &[u32], so
 }
 
 /// Pushes an amount along the trail from a node.
-fn push_on(net: &Network, flow: &mut FlowTable, dist: &[u32], via: &[u32], source: u32, amount: u64)
-    requires fits { Fits net.now flow.old.flows }
-    requires trails { AreTrails net.now flow.old.flows dist.now via.now }
-    requires node { IsNode net.now source }
-    requires marked { IsMarked dist.now (source - 1) }
-    requires room { HasRoom net.now flow.old.flows amount (trail_from net.now dist.now via.now source) }
-    ensures flows { flow.new.flows ≡ push_all flow.old.flows (trail_from net.now dist.now via.now source) amount }
-    ensures steps { flow.new.steps ≡ flow.old.steps + slice_index dist.now (source - 1) }
+fn push_on(trail: Trail<'_>, flow: &mut FlowTable, amount: u64)
+    requires fits { Fits trail.net.now flow.old.flows }
+    requires trail { IsTrail trail flow.old.flows }
+    requires room { HasRoom trail.net.now flow.old.flows amount (halves_on trail) }
+    ensures flows { flow.new.flows ≡ push_all flow.old.flows (halves_on trail.entry) amount }
+    ensures steps { flow.new.steps ≡ flow.old.steps + slice_index trail.entry.dist.now (trail.entry.source - 1) }
 {
-    let mut node = source;
+    let Trail { net, dist, via, .. } = trail;
+    let mut node = trail.source;
     while dist[node as usize - 1] > 0 {
         let half = via[node as usize - 1];
         flow.push(net, half, amount);
@@ -106,20 +117,18 @@ fn push_on(net: &Network, flow: &mut FlowTable, dist: &[u32], via: &[u32], sourc
 }
 
 /// Pushes as much as it can along the trail from a source, and answers how much that is.
-fn augment_along(net: &Network, flow: &mut FlowTable, dist: &[u32], via: &[u32], source: u32) -> u64
-    requires limits { IsNet net.now }
-    requires fits { Fits net.now flow.old.flows }
-    requires trails { AreTrails net.now flow.old.flows dist.now via.now }
-    requires node { IsNode net.now source }
-    requires marked { IsMarked dist.now (source - 1) }
+fn augment_along(trail: Trail<'_>, flow: &mut FlowTable) -> u64
+    requires limits { IsNet trail.net.now }
+    requires fits { Fits trail.net.now flow.old.flows }
+    requires trail { IsTrail trail flow.old.flows }
     ensures positive { 1 ≤ result }
-    ensures room { HasRoom net.now flow.old.flows result (trail_from net.now dist.now via.now source) }
-    ensures most { IsMost net.now flow.old.flows (trail_from net.now dist.now via.now source) result }
-    ensures flows { flow.new.flows ≡ push_all flow.old.flows (trail_from net.now dist.now via.now source) result }
-    ensures steps { TakesSteps flow.old flow.new (2 * net.now.nodes) }
+    ensures room { HasRoom trail.entry.net.now flow.old.flows result (halves_on trail.entry) }
+    ensures most { IsMost trail.entry.net.now flow.old.flows (halves_on trail.entry) result }
+    ensures flows { flow.new.flows ≡ push_all flow.old.flows (halves_on trail.entry) result }
+    ensures steps { TakesSteps flow.old flow.new (2 * trail.entry.net.now.nodes) }
 {
-    let amount = least_room(net, flow, dist, via, source);
-    push_on(net, flow, dist, via, source, amount);
+    let amount = least_room(trail, flow);
+    push_on(trail, flow, amount);
     amount
 }
 
@@ -148,7 +157,13 @@ impl Raise for Paths {
         };
         let mut raised = value;
         while let Some(source) = find_trail(plan, flow, dist, via, queue) {
-            raised += u128::from(augment_along(packed.net, flow, dist, via, source));
+            let trail = Trail {
+                net: packed.net,
+                dist,
+                via,
+                source,
+            };
+            raised += u128::from(augment_along(trail, flow));
         }
         raised
     }
@@ -168,6 +183,6 @@ impl Method for Paths {
         flow: &mut FlowTable,
         work: &mut [u32],
     ) -> u128 {
-        solve::<Paths>(net, s, t, flow, work)
+        solve::<Paths>(Given { net, s, t }, flow, work)
     }
 }

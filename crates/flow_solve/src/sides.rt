@@ -25,7 +25,7 @@ use crate::method::Method;
 use crate::residual::half_arcs::Direction;
 use crate::residual::packing::{Packed, halves_in, pack_behind};
 use crate::residual::searching::{Plan, WANTED, search};
-use crate::task::Task;
+use crate::task::{Given, Task};
 use flow_net::{FlowTable, Network};
 
 /// Marks the nodes that have a distance.
@@ -76,24 +76,24 @@ fn leads_on(task: Task<'_>, direction: Direction, flow: &mut FlowTable, cells: &
 }
 
 /// The same where the half-arcs stand packed in the cells of a solver.
-fn leads_on_packed<'a>(
-    net: &'a Network,
-    s: &'a [u32],
-    t: &'a [u32],
+fn leads_on_packed(
+    given: Given<'_>,
     direction: Direction,
     flow: &mut FlowTable,
     work: &mut [u32],
 ) -> bool
-    requires feasible { IsFeasible net.now (one_of s.now) (one_of t.now) flow.old.flows }
-    requires terminals { AreTerminals net.now s.now t.now }
-    requires cells { work_cells net.now ≤ length work.old }
-    requires packed { ArePackedBehind net.now work.old }
-    ensures answer { (result ≡ false) ↔ HasGreatestValue net.now (one_of s.now) (one_of t.now) flow.old.flows }
-    ensures side { result ≡ false
-        → IsLeastSide direction net.now s.now t.now flow.old.flows (seen (take net.now.nodes work.new)) }
-    ensures looks { OnlyLooks flow.old flow.new (2 * length net.now.arcs) }
-    ensures rest { drop (work_cells net.now) work.new ≡ drop (work_cells net.now) work.old }
+    requires feasible { IsFeasible given.net.now (one_of given.s.now) (one_of given.t.now) flow.old.flows }
+    requires terminals { AreTerminals given.net.now given.s.now given.t.now }
+    requires cells { work_cells given.net.now ≤ length work.old }
+    requires packed { ArePackedBehind given.net.now work.old }
+    ensures answer { (result ≡ false) ↔ HasGreatestValue given.entry.net.now (one_of given.entry.s.now)
+        (one_of given.entry.t.now) flow.old.flows }
+    ensures side { result ≡ false → IsLeastSide direction given.entry.net.now given.entry.s.now given.entry.t.now
+        flow.old.flows (seen (take given.entry.net.now.nodes work.new)) }
+    ensures looks { OnlyLooks flow.old flow.new (2 * length given.entry.net.now.arcs) }
+    ensures rest { drop (work_cells given.entry.net.now) work.new ≡ drop (work_cells given.entry.net.now) work.old }
 {
+    let Given { net, s, t } = given;
     let n = net.nodes() as usize;
     let (cells, behind) = work.split_at_mut(5 * n);
     let (first, halves) = halves_in(net, behind);
@@ -122,7 +122,7 @@ pub fn has_augmenting_path(
     ensures rest { drop (work_cells net.now) work.new ≡ drop (work_cells net.now) work.old }
 {
     pack_behind(net, work);
-    leads_on_packed(net, s, t, Direction::Forwards, flow, work)
+    leads_on_packed(Given { net, s, t }, Direction::Forwards, flow, work)
 }
 
 /// As [`has_augmenting_path`]. If it answers false, `side` marks the nodes that lie in the source side of every minimum
@@ -147,7 +147,7 @@ pub fn reach(
     ensures rest { drop (work_cells net.now) work.new ≡ drop (work_cells net.now) work.old }
 {
     pack_behind(net, work);
-    let rises = leads_on_packed(net, s, t, Direction::Forwards, flow, work);
+    let rises = leads_on_packed(Given { net, s, t }, Direction::Forwards, flow, work);
     if !rises {
         mark(&work[..net.nodes() as usize], side);
     }
@@ -176,7 +176,7 @@ pub fn reach_back(
     ensures rest { drop (work_cells net.now) work.new ≡ drop (work_cells net.now) work.old }
 {
     pack_behind(net, work);
-    let rises = leads_on_packed(net, s, t, Direction::Backwards, flow, work);
+    let rises = leads_on_packed(Given { net, s, t }, Direction::Backwards, flow, work);
     if !rises {
         mark(&work[..net.nodes() as usize], side);
     }
@@ -186,25 +186,24 @@ pub fn reach_back(
 /// Finds a flow of the greatest value, answers that value, and searches the residual network in a direction. The first
 /// `n` cells have the distances.
 fn solve_and_search<M: Method>(
-    net: &Network,
-    s: &[u32],
-    t: &[u32],
+    given: Given<'_>,
     direction: Direction,
     flow: &mut FlowTable,
     work: &mut [u32],
 ) -> u128
-    requires fits { Fits net.now flow.old.flows }
-    requires terminals { AreTerminals net.now s.now t.now }
-    requires cells { work_cells net.now ≤ length work.old }
-    ensures flow { IsFlow net.now s.now t.now flow.new.flows result }
-    ensures greatest { IsGreatest net.now (one_of s.now) (one_of t.now) result }
-    ensures least { IsLeastCapacity net.now (one_of s.now) (one_of t.now) result }
-    ensures side { IsLeastSide direction net.now s.now t.now flow.new.flows (seen (take net.now.nodes work.new)) }
-    ensures steps { TakesSteps flow.old flow.new (M.steps_bound net.now + 2 * length net.now.arcs) }
-    ensures rest { drop (work_cells net.now) work.new ≡ drop (work_cells net.now) work.old }
+    requires fits { Fits given.net.now flow.old.flows }
+    requires terminals { AreTerminals given.net.now given.s.now given.t.now }
+    requires cells { work_cells given.net.now ≤ length work.old }
+    ensures flow { IsFlow given.entry.net.now given.entry.s.now given.entry.t.now flow.new.flows result }
+    ensures greatest { IsGreatest given.entry.net.now (one_of given.entry.s.now) (one_of given.entry.t.now) result }
+    ensures least { IsLeastCapacity given.entry.net.now (one_of given.entry.s.now) (one_of given.entry.t.now) result }
+    ensures side { IsLeastSide direction given.entry.net.now given.entry.s.now given.entry.t.now flow.new.flows
+        (seen (take given.entry.net.now.nodes work.new)) }
+    ensures steps { TakesSteps flow.old flow.new (M.steps_bound given.entry.net.now + 2 * length given.entry.net.now.arcs) }
+    ensures rest { drop (work_cells given.entry.net.now) work.new ≡ drop (work_cells given.entry.net.now) work.old }
 {
-    let value = M::greatest(net, s, t, flow, work);
-    leads_on_packed(net, s, t, direction, flow, work);
+    let value = M::greatest(given.net, given.s, given.t, flow, work);
+    leads_on_packed(given, direction, flow, work);
     value
 }
 
@@ -230,7 +229,7 @@ pub fn cut_nearest_sources<M: Method>(
     ensures steps { flow.new.steps ≤ flow.old.steps + M.steps_bound net.now + 2 * length net.now.arcs }
     ensures rest { drop (work_cells net.now) work.new ≡ drop (work_cells net.now) work.old }
 {
-    let value = solve_and_search::<M>(net, s, t, Direction::Forwards, flow, work);
+    let value = solve_and_search::<M>(Given { net, s, t }, Direction::Forwards, flow, work);
     mark(&work[..net.nodes() as usize], side);
     value
 }
@@ -256,7 +255,7 @@ pub fn cut_nearest_sinks<M: Method>(
     ensures steps { flow.new.steps ≤ flow.old.steps + M.steps_bound net.now + 2 * length net.now.arcs }
     ensures rest { drop (work_cells net.now) work.new ≡ drop (work_cells net.now) work.old }
 {
-    let value = solve_and_search::<M>(net, s, t, Direction::Backwards, flow, work);
+    let value = solve_and_search::<M>(Given { net, s, t }, Direction::Backwards, flow, work);
     mark(&work[..net.nodes() as usize], side);
     value
 }

@@ -12,8 +12,8 @@ ghost use Rattle.flow_solve.specs.Task.{HasFlow, IsTask};
 ghost use Rattle.flow_solve.specs.Steps.{TakesSteps};
 
 use crate::residual::packing::{Packed, halves_in, pack_behind};
-use crate::task::Task;
-use flow_net::{FlowTable, Network};
+use crate::task::{Given, Task};
+use flow_net::FlowTable;
 
 /// A way to raise a feasible flow to one of the greatest value, once the half-arcs are packed.
 pub(crate) trait Raise {
@@ -35,23 +35,18 @@ pub(crate) trait Raise {
 }
 
 /// Raises the flow that carries nothing, where the half-arcs stand packed in the cells. Answers the greatest value.
-fn raise_from_zero<'a, R: Raise>(
-    net: &'a Network,
-    s: &'a [u32],
-    t: &'a [u32],
-    flow: &mut FlowTable,
-    work: &mut [u32],
-) -> u128
-    requires terminals { AreTerminals net.now s.now t.now }
-    requires cells { work_cells net.now ≤ length work.old }
-    requires packed { ArePackedBehind net.now work.old }
-    requires flow { IsFlow net.now s.now t.now flow.old.flows 0 }
-    ensures flow { IsFlow net.now s.now t.now flow.new.flows result }
-    ensures greatest { IsGreatest net.now (one_of s.now) (one_of t.now) result }
-    ensures least { IsLeastCapacity net.now (one_of s.now) (one_of t.now) result }
-    ensures steps { TakesSteps flow.old flow.new (R.steps_bound net.now) }
-    ensures behind { drop (5 * net.now.nodes) work.new ≡ drop (5 * net.now.nodes) work.old }
+fn raise_from_zero<R: Raise>(given: Given<'_>, flow: &mut FlowTable, work: &mut [u32]) -> u128
+    requires terminals { AreTerminals given.net.now given.s.now given.t.now }
+    requires cells { work_cells given.net.now ≤ length work.old }
+    requires packed { ArePackedBehind given.net.now work.old }
+    requires flow { IsFlow given.net.now given.s.now given.t.now flow.old.flows 0 }
+    ensures flow { IsFlow given.entry.net.now given.entry.s.now given.entry.t.now flow.new.flows result }
+    ensures greatest { IsGreatest given.entry.net.now (one_of given.entry.s.now) (one_of given.entry.t.now) result }
+    ensures least { IsLeastCapacity given.entry.net.now (one_of given.entry.s.now) (one_of given.entry.t.now) result }
+    ensures steps { TakesSteps flow.old flow.new (R.steps_bound given.entry.net.now) }
+    ensures behind { drop (5 * given.entry.net.now.nodes) work.new ≡ drop (5 * given.entry.net.now.nodes) work.old }
 {
+    let Given { net, s, t } = given;
     let n = net.nodes() as usize;
     let (cells, behind) = work.split_at_mut(5 * n);
     let (first, halves) = halves_in(net, behind);
@@ -60,24 +55,18 @@ fn raise_from_zero<'a, R: Raise>(
 }
 
 /// Clears the table, packs the half-arcs, and raises the flow in the first [`work_len`](crate::work_len) cells.
-pub(crate) fn solve<R: Raise>(
-    net: &Network,
-    s: &[u32],
-    t: &[u32],
-    flow: &mut FlowTable,
-    work: &mut [u32],
-) -> u128
-    requires fits { Fits net.now flow.old.flows }
-    requires terminals { AreTerminals net.now s.now t.now }
-    requires cells { work_cells net.now ≤ length work.old }
-    ensures flow { IsFlow net.now s.now t.now flow.new.flows result }
-    ensures greatest { IsGreatest net.now (one_of s.now) (one_of t.now) result }
-    ensures least { IsLeastCapacity net.now (one_of s.now) (one_of t.now) result }
-    ensures steps { TakesSteps flow.old flow.new (R.steps_bound net.now) }
-    ensures packed { ArePackedBehind net.now work.new }
-    ensures rest { drop (work_cells net.now) work.new ≡ drop (work_cells net.now) work.old }
+pub(crate) fn solve<R: Raise>(given: Given<'_>, flow: &mut FlowTable, work: &mut [u32]) -> u128
+    requires fits { Fits given.net.now flow.old.flows }
+    requires terminals { AreTerminals given.net.now given.s.now given.t.now }
+    requires cells { work_cells given.net.now ≤ length work.old }
+    ensures flow { IsFlow given.entry.net.now given.entry.s.now given.entry.t.now flow.new.flows result }
+    ensures greatest { IsGreatest given.entry.net.now (one_of given.entry.s.now) (one_of given.entry.t.now) result }
+    ensures least { IsLeastCapacity given.entry.net.now (one_of given.entry.s.now) (one_of given.entry.t.now) result }
+    ensures steps { TakesSteps flow.old flow.new (R.steps_bound given.entry.net.now) }
+    ensures packed { ArePackedBehind given.entry.net.now work.new }
+    ensures rest { drop (work_cells given.entry.net.now) work.new ≡ drop (work_cells given.entry.net.now) work.old }
 {
     flow.clear();
-    pack_behind(net, work);
-    raise_from_zero::<R>(net, s, t, flow, work)
+    pack_behind(given.net, work);
+    raise_from_zero::<R>(given, flow, work)
 }

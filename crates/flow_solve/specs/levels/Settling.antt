@@ -1,4 +1,4 @@
--- The test at the end of a stage of which nothing is claimed: sums over the first arcs, in cells.
+-- The test at the end of waves: sums over the first arcs, in cells.
 use Rattle.std.specs.Prelude.{◌≡◌, ℕ, ◌+◌, ◌-◌, ◌*◌, ◌<◌, ◌≤◌, Bool, List, length, slice_index, take}
 use Rattle.std.specs.Prelude.{if◌then◌else◌}
 use Rattle.flow_net.specs.declared.limits.TheConstants.{GREATEST_CAPACITY}
@@ -6,11 +6,12 @@ use Rattle.flow_net.specs.Nets.{Net, arc_at}
 use Rattle.flow_net.specs.NodeSets.{one_of, just}
 use Rattle.flow_net.specs.Flows.{out_of, into}
 use Rattle.flow_solve.specs.declared.levels.waves.settling.TheConstants.{EVEN, INNER, SOURCE, SINK}
+use Rattle.flow_solve.specs.declared.residual.cells.TheConstants.{CELL}
 use Rattle.flow_solve.specs.declared.task.Task.{Task}
 
 -- the number of 64 bits in two cells, the lower half first
 abbrev pub pair_at : List ℕ → ℕ → ℕ
-pair_at cells k = slice_index cells (2 * k) + slice_index cells (2 * k + 1) * 4294967296
+pair_at cells k = slice_index cells (2 * k) + slice_index cells (2 * k + 1) * CELL
 
 -- what a node is
 abbrev pub role_of : List ℕ → List ℕ → ℕ → ℕ

@@ -1,10 +1,11 @@
 -- Trails: the paths that a search backwards leaves, from each node that it has seen to a sink.
 use Rattle.std.specs.Prelude.{◌≡◌, ℕ, zero, suc, ◌-◌, ◌≤◌, ◌<◌, List, [], ◌∷◌, length, slice_index, IsTrue, IsFalse}
 use Rattle.flow_net.specs.declared.limits.TheConstants.{GREATEST_CAPACITY}
-use Rattle.flow_net.specs.Nets.{Net}
+use Rattle.flow_net.specs.Nets.{Net, IsNode}
 use Rattle.flow_net.specs.NodeSets.{one_of}
 use Rattle.flow_net.specs.Paths.{HasRoom}
 use Rattle.flow_net.specs.Residual.{head_of}
+use Rattle.flow_solve.specs.declared.paths.Trail.{Trail}
 use Rattle.flow_solve.specs.declared.residual.half_arcs.Direction.TheVariants.{Backwards}
 use Rattle.flow_solve.specs.residual.Searches.{IsMarked, IsCome, seen}
 
@@ -23,6 +24,16 @@ pub record AreTrails (net : Net) (flows dist via : List ℕ) : Type 0 where
   pub via_size : length via ≡ net.nodes
   pub come : (p : ℕ) → p < net.nodes → IsMarked dist p → 1 ≤ slice_index dist p → IsCome net flows Backwards dist via p
   pub levels : (p : ℕ) → p < net.nodes → IsMarked dist p → slice_index dist p < net.nodes
+
+-- the half-arcs of a trail
+abbrev pub halves_on : Trail → List ℕ
+halves_on t = trail_from t.net.now t.dist.now t.via.now t.source
+
+-- It is one of such a flow, from a node that the search has seen.
+pub record IsTrail (t : Trail) (flows : List ℕ) : Type 0 where
+  pub trails : AreTrails t.net.now flows t.dist.now t.via.now
+  pub node : IsNode t.net.now t.source
+  pub marked : IsMarked t.dist.now (t.source - 1)
 
 -- a node of a list that the search has seen, and the first such node
 abbrev pub IsSeenOf : List ℕ → List ℕ → ℕ → Type 0

@@ -9,13 +9,12 @@
 //! wave ends when no excess below the ceiling is left, or after so many half-arcs that a new search is worth its cost.
 //! Every other node passes its half-arcs from the last to the first, by turns in waves, lest excess drift to one side.
 //!
-//! In the end the same waves bring home to the sources what no sink takes. A push is held to what a look has shown to
-//! remain; nothing else is claimed of levels, lists and excess: at the end the table is settled (`settling`).
+//! In the end the same waves bring home to the sources what no sink takes, and the table is settled (`settling`).
 ghost use Rattle.std.specs.Prelude.{◌≡◌, ◌*◌, ◌<◌, length};
 ghost use Rattle.std.specs.List.{All};
 ghost use Rattle.flow_net.specs.Nets.{IsNode};
 ghost use Rattle.flow_net.specs.Flows.{Fits};
-ghost use Rattle.flow_solve.specs.levels.Waves.{IsWaving, HasSent};
+ghost use Rattle.flow_solve.specs.levels.Waves.{HasSent, IsWaving, OnlyMarks};
 ghost use Rattle.flow_solve.specs.Task.{HasFlow, IsTask};
 ghost use Rattle.flow_solve.specs.Steps.{TakesSteps};
 
@@ -29,21 +28,22 @@ use crate::residual::half_arcs::head;
 use crate::residual::packing::Packed;
 use crate::task::Task;
 use discharging::discharge;
-use excess::{BARRED, UNSEEN, Wave, book, level_of, set_levels, take_listed};
+use excess::{BARRED, UNSEEN, Wave};
 use flow_net::FlowTable;
 use levelling::search_levels;
 use settling::settle;
 
 /// Sends as much over a half-arc of a source as remains there and as can be booked: nothing to a source, and to a sink
 /// without booking.
-fn release(packed: Packed<'_>, flow: &mut FlowTable, cells: &mut [u32], half: u32)
-    requires waving { IsWaving packed flow.old cells.old }
+fn release(packed: Packed<'_>, flow: &mut FlowTable, wave: &mut Wave<'_>, half: u32)
+    requires waving { IsWaving packed flow.old wave.old }
     requires half { half < 2 * length packed.net.now.arcs }
+    ensures marks { OnlyMarks wave.old wave.new }
     ensures fits { Fits packed.entry.net.now flow.new.flows }
     ensures steps { TakesSteps flow.old flow.new 2 }
 {
     let node = head(packed.net, half);
-    let level = level_of(cells, node);
+    let level = wave.level(node);
     if level == BARRED {
         return;
     }
@@ -51,14 +51,14 @@ fn release(packed: Packed<'_>, flow: &mut FlowTable, cells: &mut [u32], half: u3
     let sent = if level == 0 {
         room
     } else {
-        book(cells, packed.net.nodes(), node, room)
+        wave.book(node, room)
     };
     flow.push(packed.net, half, sent);
 }
 
 /// Drains a source: sends what can leave it over each of its half-arcs.
-fn drain(packed: Packed<'_>, flow: &mut FlowTable, cells: &mut [u32], wave: &mut Wave, node: u32)
-    requires waving { IsWaving packed flow.old cells.old }
+fn drain(packed: Packed<'_>, flow: &mut FlowTable, wave: &mut Wave<'_>, node: u32)
+    requires waving { IsWaving packed flow.old wave.old }
     requires node { IsNode packed.net.now node }
     ensures sent { HasSent packed.entry flow.old wave.old flow.new wave.new }
 {
@@ -68,36 +68,36 @@ fn drain(packed: Packed<'_>, flow: &mut FlowTable, cells: &mut [u32], wave: &mut
         if !spend(&mut wave.left, 2) {
             return;
         }
-        release(packed, flow, cells, packed.halves[spot as usize]);
+        release(packed, flow, wave, packed.halves[spot as usize]);
     }
 }
 
 /// Sends all that can leave the sources to the nodes next to them.
-fn supply(task: Task<'_>, flow: &mut FlowTable, cells: &mut [u32], wave: &mut Wave)
+fn supply(task: Task<'_>, flow: &mut FlowTable, wave: &mut Wave<'_>)
     requires task { IsTask task }
-    requires waving { IsWaving task.packed flow.old cells.old }
+    requires waving { IsWaving task.packed flow.old wave.old }
     ensures sent { HasSent task.entry.packed flow.old wave.old flow.new wave.new }
 {
     let n = task.packed.net.nodes() as usize;
-    cells[..n].fill(UNSEEN);
-    cells[3 * n..].fill(0);
-    set_levels(cells, task.s, BARRED);
-    set_levels(cells, task.t, 0);
+    wave.cells[..n].fill(UNSEEN);
+    wave.cells[3 * n..].fill(0);
+    wave.set_levels(task.s, BARRED);
+    wave.set_levels(task.t, 0);
     for node in task.s {
-        drain(task.packed, flow, cells, wave, *node);
+        drain(task.packed, flow, wave, *node);
     }
 }
 
 /// Empties the levels of a wave, the farthest first.
-fn sweep(packed: Packed<'_>, flow: &mut FlowTable, cells: &mut [u32], wave: &mut Wave)
-    requires waving { IsWaving packed flow.old cells.old }
+fn sweep(packed: Packed<'_>, flow: &mut FlowTable, wave: &mut Wave<'_>)
+    requires waving { IsWaving packed flow.old wave.old }
     ensures sent { HasSent packed.entry flow.old wave.old flow.new wave.new }
 {
     let nodes = packed.net.nodes();
     'turns: while wave.farthest > 0 && wave.left > wave.floor && spend(&mut wave.left, 1) {
-        let node = take_listed(cells, nodes, wave.farthest);
+        let node = wave.take_listed(wave.farthest);
         if 1 <= node && node <= nodes {
-            discharge(packed, flow, cells, wave, node);
+            discharge(packed, flow, wave, node);
         } else {
             wave.farthest = wave.farthest.saturating_sub(1);
             let ceiling = wave.farthest.saturating_add(wave.reach);
@@ -126,29 +126,41 @@ fn next_reach(reach: u32, searched: u64, swept: u64) -> u32 {
 }
 
 /// Waves towards the sinks of a task, until no search finds excess that leads there, or no more may be done.
-fn send(task: Task<'_>, flow: &mut FlowTable, cells: &mut [u32], wave: &mut Wave)
-    requires waving { IsWaving task.packed flow.old cells.old }
+fn send(task: Task<'_>, flow: &mut FlowTable, wave: &mut Wave<'_>)
+    requires waving { IsWaving task.packed flow.old wave.old }
     requires roots { All (IsNode task.packed.net.now) task.t.now }
     requires barred { All (IsNode task.packed.net.now) task.s.now }
     ensures sent { HasSent task.entry.packed flow.old wave.old flow.new wave.new }
 {
     let mut before = wave.left;
-    'waves: while search_levels(task, flow, cells, wave) {
+    'waves: while search_levels(task, flow, wave) {
         let begun = wave.left;
-        sweep(task.packed, flow, cells, wave);
+        sweep(task.packed, flow, wave);
         wave.reach = next_reach(wave.reach, before - begun, begun - wave.left);
         before = wave.left;
     }
 }
 
 /// Waves before the first one, which may do so much.
-fn at_rest(allowance: u64) -> Wave
-    ensures { result.left ≡ allowance }
+fn at_rest<'a>(cells: &'a mut [u32], nodes: u32, allowance: u64) -> Wave<'a>
+    ensures same_cells { result.cells.ghost_name ≡ cells.entry.ghost_name }
+    ensures cells { result.cells.now ≡ cells.old }
+    ensures nodes { result.nodes ≡ nodes }
+    ensures left { result.left ≡ allowance }
 {
     Wave {
+        cells,
+        nodes,
         left: allowance,
+        floor: 0,
+        turn: 0,
+        farthest: 0,
+        ceiling: 0,
         reach: FIRST_REACH,
-        ..Wave::default()
+        queued: 0,
+        seen: 0,
+        wanted: 0,
+        lost: 0,
     }
 }
 
@@ -173,12 +185,13 @@ pub fn send_waves(
         return value;
     }
     let share = (allowance - looks) / 2;
-    let mut there = at_rest(share);
-    supply(task, flow, cells, &mut there);
-    send(task, flow, cells, &mut there);
-    let mut home = at_rest(share);
+    let nodes = packed.net.nodes();
+    let mut there = at_rest(cells, nodes, share);
+    supply(task, flow, &mut there);
+    send(task, flow, &mut there);
+    let mut home = at_rest(cells, nodes, share);
     // Home is the same way with sources and sinks exchanged.
-    send(Task { packed, s: t, t: s }, flow, cells, &mut home);
+    send(Task { packed, s: t, t: s }, flow, &mut home);
     let Some(settled) = settle(task, flow, cells) else {
         flow.clear();
         return 0;

@@ -1,8 +1,11 @@
-//! Cells that hold hints, of which nothing is claimed: one that doesn't exist reads as 0, and a write to it is dropped.
+//! Cells that hold hints: one that doesn't exist reads as 0, and a write to it is dropped.
 ghost use Rattle.std.specs.Prelude.{◌≡◌, slice_index};
 
 /// Stands behind the last node of a queue or a list.
 pub(crate) const END: u32 = u32::MAX;
+
+/// So many numbers fit a cell.
+pub(crate) const CELL: u64 = 4_294_967_296;
 
 /// The number in a cell, or 0.
 pub(crate) fn get(cells: &[u32], at: usize) -> u32

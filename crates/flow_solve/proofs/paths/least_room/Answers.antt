@@ -11,12 +11,12 @@ use Rattle.flow_solve.proofs.paths.least_room.Goals as goal
 pub loop-node-preserved : goal.loop-node-preserved
 loop-node-preserved c =
     let old = c.loop-node.invariant in
-    let net = c.args.net.now in
-    let dist = c.args.dist.now in
-    let via = c.args.via.now in
+    let net = c.args.trail.net.now in
+    let dist = c.args.trail.dist.now in
+    let via = c.args.trail.via.now in
     let xs = c.args.flow.now.flows in
     let half = get_or via (c.loop-node.node - 1) 0 in
-    let n = next_on c.requires.trails c.loop-node.node old.node.0 old.node.1 old.marked
+    let n = next_on c.requires.trail.trails c.loop-node.node old.node.0 old.node.1 old.marked
     (omega (arith, c.loop-node-test.true)) in
     let to = c.look-next.ensures.head in
     let here : residual net c.loop-node.flow.flows half ≡ residual net xs half =

@@ -12,17 +12,17 @@ use Rattle.flow_solve.proofs.paths.least_room.Given as goal
 
 abbrev pub invariant-loop-node : goal.invariant-loop-node
 invariant-loop-node l = record {
-  fits : Fits l.net l.flow.flows;
+  fits : Fits l.trail.net.now l.flow.flows;
   flows : l.flow.flows ≡ l.fn.flow.flows;
-  node : IsNode l.net l.node;
-  marked : IsMarked l.dist (l.node - 1);
-  ahead : (k : ℕ) → k ≤ l.least → HasRoom l.net l.fn.flow.flows k (trail_from l.net l.dist l.via l.node)
-      → HasRoom l.net l.fn.flow.flows k (trail_from l.net l.dist l.via l.source);
-  most : (k : ℕ) → k ≤ GREATEST_CAPACITY → HasRoom l.net l.fn.flow.flows k (trail_from l.net l.dist l.via l.source)
-      → (k ≤ l.least) × HasRoom l.net l.fn.flow.flows k (trail_from l.net l.dist l.via l.node);
+  node : IsNode l.trail.net.now l.node;
+  marked : IsMarked l.trail.dist.now (l.node - 1);
+  ahead : (k : ℕ) → k ≤ l.least → HasRoom l.trail.net.now l.fn.flow.flows k (trail_from l.trail.net.now l.trail.dist.now l.trail.via.now l.node)
+      → HasRoom l.trail.net.now l.fn.flow.flows k (trail_from l.trail.net.now l.trail.dist.now l.trail.via.now l.trail.source);
+  most : (k : ℕ) → k ≤ GREATEST_CAPACITY → HasRoom l.trail.net.now l.fn.flow.flows k (trail_from l.trail.net.now l.trail.dist.now l.trail.via.now l.trail.source)
+      → (k ≤ l.least) × HasRoom l.trail.net.now l.fn.flow.flows k (trail_from l.trail.net.now l.trail.dist.now l.trail.via.now l.node);
   positive : 1 ≤ l.least;
-  steps : l.flow.steps + slice_index l.dist (l.node - 1) ≡ l.fn.flow.steps + slice_index l.dist (l.source - 1);
+  steps : l.flow.steps + slice_index l.trail.dist.now (l.node - 1) ≡ l.fn.flow.steps + slice_index l.trail.dist.now (l.trail.source - 1);
 }
 
 abbrev pub decreases-loop-node : goal.decreases-loop-node
-decreases-loop-node l = slice_index l.dist (l.node - 1)
+decreases-loop-node l = slice_index l.trail.dist.now (l.node - 1)

@@ -12,24 +12,24 @@ use Rattle.flow_solve.proofs.paths.push_on.Goals as goal
 pub push-requires-clause-room : goal.push-requires-clause-room
 push-requires-clause-room c =
     let old = c.loop-node.invariant in
-    let n = next_on c.requires.trails c.loop-node.node old.node.0 old.node.1 old.marked
+    let n = next_on c.requires.trail.trails c.loop-node.node old.node.0 old.node.1 old.marked
     (omega (arith, c.loop-node-test.true)) in
-    (subst (HasRoom c.args.net.now c.loop-node.flow.flows c.args.amount) n.parts old.room).0
+    (subst (HasRoom c.args.trail.net.now c.loop-node.flow.flows c.args.amount) n.parts old.room).0
 
 -- one more half-arc
 pub loop-node-preserved : goal.loop-node-preserved
 loop-node-preserved c =
     let old = c.loop-node.invariant in
-    let net = c.args.net.now in
-    let dist = c.args.dist.now in
-    let via = c.args.via.now in
+    let net = c.args.trail.net.now in
+    let dist = c.args.trail.dist.now in
+    let via = c.args.trail.via.now in
     let d = c.args.amount in
     let half = get_or via (c.loop-node.node - 1) 0 in
-    let n = next_on c.requires.trails c.loop-node.node old.node.0 old.node.1 old.marked
+    let n = next_on c.requires.trail.trails c.loop-node.node old.node.0 old.node.1 old.marked
     (omega (arith, c.loop-node-test.true)) in
     let to = c.head-node.ensures.head in let rest = trail_from net dist via (head_of net half) in
     let room = subst (HasRoom net c.loop-node.flow.flows d) n.parts old.room in
-    let apart = trail_apart c.requires.trails c.loop-node.node half rest old.node.0 old.node.1 old.marked n.parts in
+    let apart = trail_apart c.requires.trail.trails c.loop-node.node half rest old.node.0 old.node.1 old.marked n.parts in
     let level : get_or dist (c.head-node.result - 1) 0 ≡ get_or dist (head_of net half - 1) 0 =
     ap (λ v. get_or dist (v - 1) 0) to in
     record {

@@ -11,14 +11,14 @@ use Rattle.flow_solve.proofs.paths.push_on.Given as goal
 
 abbrev pub invariant-loop-node : goal.invariant-loop-node
 invariant-loop-node l = record {
-  fits : Fits l.net l.flow.flows;
-  node : IsNode l.net l.node;
-  marked : IsMarked l.dist (l.node - 1);
-  ahead : push_all l.flow.flows (trail_from l.net l.dist l.via l.node) l.amount
-      ≡ push_all l.fn.flow.flows (trail_from l.net l.dist l.via l.source) l.amount;
-  room : HasRoom l.net l.flow.flows l.amount (trail_from l.net l.dist l.via l.node);
-  steps : l.flow.steps + slice_index l.dist (l.node - 1) ≡ l.fn.flow.steps + slice_index l.dist (l.source - 1);
+  fits : Fits l.trail.net.now l.flow.flows;
+  node : IsNode l.trail.net.now l.node;
+  marked : IsMarked l.trail.dist.now (l.node - 1);
+  ahead : push_all l.flow.flows (trail_from l.trail.net.now l.trail.dist.now l.trail.via.now l.node) l.amount
+      ≡ push_all l.fn.flow.flows (trail_from l.trail.net.now l.trail.dist.now l.trail.via.now l.trail.source) l.amount;
+  room : HasRoom l.trail.net.now l.flow.flows l.amount (trail_from l.trail.net.now l.trail.dist.now l.trail.via.now l.node);
+  steps : l.flow.steps + slice_index l.trail.dist.now (l.node - 1) ≡ l.fn.flow.steps + slice_index l.trail.dist.now (l.trail.source - 1);
 }
 
 abbrev pub decreases-loop-node : goal.decreases-loop-node
-decreases-loop-node l = slice_index l.dist (l.node - 1)
+decreases-loop-node l = slice_index l.trail.dist.now (l.node - 1)

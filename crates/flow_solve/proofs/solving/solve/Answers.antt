@@ -9,14 +9,14 @@ use Rattle.flow_solve.proofs.solving.solve.Goals as goal
 -- the flow of zeros has the value 0
 pub raise_from_zero-requires-clause-flow : goal.raise_from_zero-requires-clause-flow
 raise_from_zero-requires-clause-flow g c =
-    let zeros : c.clear.new.self.flows ≡ replicate (length c.args.net.now.arcs) 0 =
+    let zeros : c.clear.new.self.flows ≡ replicate (length c.args.given.net.now.arcs) 0 =
     c.clear.ensures.flows ∙ ap (λ n. replicate n 0) c.requires.fits.count in
-    subst (λ (xs : List ℕ). IsFlow c.args.net.now c.args.s.now c.args.t.now xs 0) (sym zeros)
-    (zero_flow c.args.net.now c.args.s.now c.args.t.now)
+    subst (λ (xs : List ℕ). IsFlow c.args.given.net.now c.args.given.s.now c.args.given.t.now xs 0) (sym zeros)
+    (zero_flow c.args.given.net.now c.args.given.s.now c.args.given.t.now)
 
 -- the cells past those of a solver stay, as all do behind the first 5·n once the half-arcs are packed
 pub returns-clause-rest : goal.returns-clause-rest
 returns-clause-rest g c =
-    let net = c.args.net.now in let past : 5 * net.nodes ≤ work_cells net = omega arith in
+    let net = c.args.given.net.now in let past : 5 * net.nodes ≤ work_cells net = omega arith in
     drop_farther (5 * net.nodes) (work_cells net) c.raise_from_zero.new.work c.pack_behind.new.work past
     c.raise_from_zero.ensures.behind ∙ c.pack_behind.ensures.rest

@@ -2,12 +2,9 @@
 //! and Tarjan 1988).
 ghost use Rattle.std.specs.Prelude.{◌≡◌, ◌+◌, ◌*◌, ◌<◌, ◌≤◌, length};
 ghost use Rattle.flow_net.specs.Nets.{IsNode};
-ghost use Rattle.flow_solve.specs.levels.Waves.{IsWaving, HasSent};
-ghost use Rattle.flow_solve.specs.Steps.{PaysLooks};
+ghost use Rattle.flow_solve.specs.levels.Waves.{HasCells, HasLookedOut, HasSent, IsWaving, OnlyMarks};
 
-use super::excess::{
-    PLACES, UNSEEN, Wave, book, excess_of, level_of, list_excess, place_of, set_excess, set_level,
-};
+use super::excess::{PLACES, UNSEEN, Wave};
 use crate::levels::spending::spend;
 use crate::residual::half_arcs::head;
 use crate::residual::packing::Packed;
@@ -43,45 +40,37 @@ fn spot_of(begin: u32, end: u32, step: u32, backwards: bool) -> u32
 
 /// Books as much of an amount at a node as its excess has room for, and lists the node if it had none; a root, at level
 /// 0, takes all, and nothing is booked. Answers how much.
-fn accept(cells: &mut [u32], nodes: u32, wave: &mut Wave, node: u32, level: u32, amount: u64) -> u64
-    requires cells { length cells.old ≡ 5 * nodes }
-    requires node { (1 ≤ node) × (node ≤ nodes) }
+fn accept(wave: &mut Wave<'_>, node: u32, level: u32, amount: u64) -> u64
+    requires cells { HasCells wave.old node }
+    ensures marks { OnlyMarks wave.old wave.new }
     ensures most { result ≤ amount }
-    ensures left { wave.new.left ≡ wave.old.left }
 {
     if level == 0 || amount == 0 {
         return amount;
     }
-    if excess_of(cells, nodes, node) == 0 {
-        list_excess(cells, nodes, wave, node, level);
+    if wave.excess(node) == 0 {
+        wave.list(node, level);
     }
-    book(cells, nodes, node, amount)
+    wave.book(node, amount)
 }
 
 /// Passes a sender's half-arcs, and sends its excess on over those that lead to the next nearer level.
-fn pass(
-    packed: Packed<'_>,
-    flow: &mut FlowTable,
-    cells: &mut [u32],
-    wave: &mut Wave,
-    sender: &mut Sender,
-)
-    requires waving { IsWaving packed flow.old cells.old }
+fn pass(packed: Packed<'_>, flow: &mut FlowTable, wave: &mut Wave<'_>, sender: &mut Sender)
+    requires waving { IsWaving packed flow.old wave.old }
     requires node { IsNode packed.net.now sender.old.node }
     ensures sent { HasSent packed.entry flow.old wave.old flow.new wave.new }
     ensures node { sender.new.node ≡ sender.old.node }
 {
     let begin = packed.first[sender.node as usize - 1];
     let end = packed.first[sender.node as usize];
-    let nodes = packed.net.nodes();
     let nearer = sender.level.saturating_sub(1);
     let (mut left, mut amount) = (wave.left, sender.amount);
     let mut step = sender.passed;
     while step < end - begin && spend(&mut left, 2) {
         let half = packed.halves[spot_of(begin, end, step, sender.backwards) as usize];
-        if level_of(cells, head(packed.net, half)) == nearer {
+        if wave.level(head(packed.net, half)) == nearer {
             let (node, room) = flow.look(packed.net, half);
-            let sent = accept(cells, nodes, wave, node, nearer, amount.min(room));
+            let sent = accept(wave, node, nearer, amount.min(room));
             if sent > 0 {
                 flow.push(packed.net, half, sent);
                 amount -= sent;
@@ -100,16 +89,10 @@ fn pass(
 /// Lifts a stuck sender to one more than the nearest level that it leads to, if that is below the ceiling; else it is
 /// unseen until the next search. Its own level is near enough: with levels as a search gives them none of a stuck
 /// node's half-arcs leads nearer.
-fn lift(
-    packed: Packed<'_>,
-    flow: &mut FlowTable,
-    cells: &[u32],
-    wave: &mut Wave,
-    sender: &mut Sender,
-)
-    requires waving { IsWaving packed flow.old cells.now }
+fn lift(packed: Packed<'_>, flow: &mut FlowTable, wave: &mut Wave<'_>, sender: &mut Sender)
+    requires waving { IsWaving packed flow.old wave.old }
     requires node { IsNode packed.net.now sender.old.node }
-    ensures paid { PaysLooks flow.old wave.old.left flow.new wave.new.left }
+    ensures looked { HasLookedOut flow.old wave.old flow.new wave.new }
     ensures node { sender.new.node ≡ sender.old.node }
 {
     let begin = packed.first[sender.node as usize - 1];
@@ -120,7 +103,7 @@ fn lift(
     let mut step = 0;
     while step < end - begin && own < least && spend(&mut left, 1) {
         let half = packed.halves[spot_of(begin, end, step, sender.backwards) as usize];
-        let level = level_of(cells, head(packed.net, half));
+        let level = wave.level(head(packed.net, half));
         if own <= level && level < least && flow.look(packed.net, half).1 > 0 {
             least = level;
             found = step;
@@ -135,34 +118,27 @@ fn lift(
 /// Sends a node's excess on, and lifts the node as often as it is stuck, until it has none, takes no part any more, or
 /// the wave ends.
 #[inline(never)]
-pub(super) fn discharge(
-    packed: Packed<'_>,
-    flow: &mut FlowTable,
-    cells: &mut [u32],
-    wave: &mut Wave,
-    node: u32,
-)
-    requires waving { IsWaving packed flow.old cells.old }
+pub(super) fn discharge(packed: Packed<'_>, flow: &mut FlowTable, wave: &mut Wave<'_>, node: u32)
+    requires waving { IsWaving packed flow.old wave.old }
     requires node { IsNode packed.net.now node }
     ensures sent { HasSent packed.entry flow.old wave.old flow.new wave.new }
 {
-    let nodes = packed.net.nodes();
     let degree = packed.first[node as usize] - packed.first[node as usize - 1];
     let part = degree / PLACES + 1;
     let mut sender = Sender {
         node,
-        level: level_of(cells, node),
-        passed: place_of(cells, node).saturating_mul(part),
+        level: wave.level(node),
+        passed: wave.place(node).saturating_mul(part),
         backwards: (node ^ wave.turn) % 2 == 0,
-        amount: excess_of(cells, nodes, node),
+        amount: wave.excess(node),
     };
     'turns: while sender.level < UNSEEN && wave.left > wave.floor && spend(&mut wave.left, 1) {
-        pass(packed, flow, cells, wave, &mut sender);
+        pass(packed, flow, wave, &mut sender);
         if sender.amount == 0 {
             break;
         }
-        lift(packed, flow, cells, wave, &mut sender);
+        lift(packed, flow, wave, &mut sender);
     }
-    set_level(cells, node, sender.level, sender.passed / part);
-    set_excess(cells, nodes, node, sender.amount);
+    wave.set_level(node, sender.level, sender.passed / part);
+    wave.set_excess(node, sender.amount);
 }

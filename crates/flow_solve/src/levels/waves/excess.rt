@@ -1,8 +1,7 @@
-//! The cells of waves: levels, the nodes with excess on each level, and their excess.
+//! What waves go by: levels, the nodes with excess on each level, and their excess.
 //!
-//! What these cells hold is a hint: nothing is claimed of it, and a push is held to what a look has shown. Nodes count
-//! from 1, and 0 stands for none; levels count from 0, and are fewer than nodes. With `n` nodes the `5·n` cells of a
-//! stage are, in this order:
+//! Nodes count from 1, and 0 stands for none; levels count from 0, and are fewer than nodes. With `n` nodes the `5·n`
+//! cells of a stage are, in this order:
 //!
 //! | Cells | What they hold |
 //! |---|---|
@@ -12,8 +11,9 @@
 //! | `2·n` | each node's excess, in two cells |
 ghost use Rattle.std.specs.Prelude.{◌≡◌, ◌+◌, ◌-◌, ◌*◌, ◌≤◌, length};
 ghost use Rattle.std.specs.List.{All};
+ghost use Rattle.flow_solve.specs.levels.Waves.{HasCells, OnlyMarks};
 
-use crate::residual::cells::{get, put};
+use crate::residual::cells::{CELL, get, put};
 
 /// So many levels fit the cell of a node, which are more than there are nodes.
 const LEVELS: u32 = 1_048_576;
@@ -27,9 +27,13 @@ pub(super) const BARRED: u32 = LEVELS - 2;
 /// So many places fit the cell of a node: the half-arcs before its current place lead to no nearer level.
 pub(super) const PLACES: u32 = 4096;
 
-/// How far waves are.
-#[derive(Clone, Copy, Default)]
-pub(super) struct Wave {
+/// Waves under way.
+#[derive(Drop)]
+pub(super) struct Wave<'a> {
+    /// What they go by.
+    pub cells: &'a mut [u32],
+    /// How many nodes there are.
+    pub nodes: u32,
     /// What may still be done: steps, and half-arcs that are passed by.
     pub left: u64,
     /// A wave ends when no more than this is left.
@@ -53,47 +57,6 @@ pub(super) struct Wave {
     pub lost: u32,
 }
 
-/// A node's level.
-pub(super) fn level_of(cells: &[u32], node: u32) -> u32
-    requires { (1 ≤ node) × (node ≤ length cells.now) }
-{
-    cells[node as usize - 1] % LEVELS
-}
-
-/// A node's current place.
-pub(super) fn place_of(cells: &[u32], node: u32) -> u32
-    requires { (1 ≤ node) × (node ≤ length cells.now) }
-{
-    cells[node as usize - 1] / LEVELS
-}
-
-/// Sets a node's level and its current place.
-pub(super) fn set_level(cells: &mut [u32], node: u32, level: u32, place: u32)
-    requires { 1 ≤ node }
-{
-    let number = level % LEVELS + place % PLACES * LEVELS;
-    put(cells, node as usize - 1, number);
-}
-
-/// Gives some nodes a level.
-pub(super) fn set_levels(cells: &mut [u32], some: &[u32], level: u32)
-    requires { All (λ v. 1 ≤ v) some.now }
-{
-    for node in some {
-        set_level(cells, *node, level, 0);
-    }
-}
-
-/// Where the node of a place in the search's queue stands: as long as it searches, no node is on a list.
-pub(super) fn queue_cell(nodes: u32, place: u32) -> usize {
-    nodes as usize + place as usize
-}
-
-/// Where the first node with excess on a level stands.
-fn first_cell(nodes: u32, level: u32) -> usize {
-    2 * nodes as usize + level as usize
-}
-
 /// Where a node's excess begins, in two cells.
 fn excess_cell(nodes: u32, node: u32) -> usize
     requires { 1 ≤ node }
@@ -102,54 +65,117 @@ fn excess_cell(nodes: u32, node: u32) -> usize
     3 * nodes as usize + 2 * (node as usize - 1)
 }
 
-/// A node's excess.
-pub(super) fn excess_of(cells: &[u32], nodes: u32, node: u32) -> u64
-    requires size { length cells.now ≡ 5 * nodes }
-    requires node { (1 ≤ node) × (node ≤ nodes) }
-{
-    let at = excess_cell(nodes, node);
-    u64::from(cells[at]) + u64::from(cells[at + 1]) * 4_294_967_296
-}
-
-/// Sets a node's excess.
-pub(super) fn set_excess(cells: &mut [u32], nodes: u32, node: u32, amount: u64)
-    requires size { length cells.old ≡ 5 * nodes }
-    requires node { (1 ≤ node) × (node ≤ nodes) }
-{
-    let at = excess_cell(nodes, node);
-    cells[at] = (amount % 4_294_967_296) as u32;
-    cells[at + 1] = (amount / 4_294_967_296) as u32;
-}
-
-/// Adds an amount to a node's excess, as far as 64 bits hold it. Answers how much.
-pub(super) fn book(cells: &mut [u32], nodes: u32, node: u32, amount: u64) -> u64
-    requires size { length cells.old ≡ 5 * nodes }
-    requires node { (1 ≤ node) × (node ≤ nodes) }
-    ensures { result ≤ amount }
-{
-    let had = excess_of(cells, nodes, node);
-    let booked = amount.min(u64::MAX - had);
-    set_excess(cells, nodes, node, had + booked);
-    booked
-}
-
-/// Puts a node with excess on the list of its level.
-pub(super) fn list_excess(cells: &mut [u32], nodes: u32, wave: &mut Wave, node: u32, level: u32)
-    requires { 1 ≤ node }
-    ensures left { wave.new.left ≡ wave.old.left }
-{
-    let first = get(cells, first_cell(nodes, level));
-    put(cells, queue_cell(nodes, node - 1), first);
-    put(cells, first_cell(nodes, level), node);
-    wave.farthest = wave.farthest.max(level);
-}
-
-/// Takes the first node off the list of a level, and answers it: 0 where there is none.
-pub(super) fn take_listed(cells: &mut [u32], nodes: u32, level: u32) -> u32 {
-    let node = get(cells, first_cell(nodes, level));
-    if node > 0 {
-        let next = get(cells, queue_cell(nodes, node - 1));
-        put(cells, first_cell(nodes, level), next);
+impl Wave<'_> {
+    /// A node's level.
+    pub(super) fn level(&self, node: u32) -> u32
+        requires { (1 ≤ node) × (node ≤ length self.now.cells.now) }
+    {
+        self.cells[node as usize - 1] % LEVELS
     }
-    node
+
+    /// A node's current place.
+    pub(super) fn place(&self, node: u32) -> u32
+        requires { (1 ≤ node) × (node ≤ length self.now.cells.now) }
+    {
+        self.cells[node as usize - 1] / LEVELS
+    }
+
+    /// Sets a node's level and its current place.
+    pub(super) fn set_level(&mut self, node: u32, level: u32, place: u32)
+        requires { 1 ≤ node }
+        ensures { OnlyMarks self.old self.new }
+    {
+        let number = level % LEVELS + place % PLACES * LEVELS;
+        put(self.cells, node as usize - 1, number);
+    }
+
+    /// Gives some nodes a level.
+    pub(super) fn set_levels(&mut self, some: &[u32], level: u32)
+        requires { All (λ v. 1 ≤ v) some.now }
+        ensures { OnlyMarks self.old self.new }
+    {
+        for node in some {
+            self.set_level(*node, level, 0);
+        }
+    }
+
+    /// A node's excess.
+    pub(super) fn excess(&self, node: u32) -> u64
+        requires { HasCells self.now node }
+    {
+        let at = excess_cell(self.nodes, node);
+        u64::from(self.cells[at]) + u64::from(self.cells[at + 1]) * CELL
+    }
+
+    /// Sets a node's excess.
+    pub(super) fn set_excess(&mut self, node: u32, amount: u64)
+        requires { HasCells self.old node }
+        ensures { OnlyMarks self.old self.new }
+    {
+        let at = excess_cell(self.nodes, node);
+        self.cells[at] = (amount % CELL) as u32;
+        self.cells[at + 1] = (amount / CELL) as u32;
+    }
+
+    /// Adds an amount to a node's excess, as far as 64 bits hold it. Answers how much.
+    pub(super) fn book(&mut self, node: u32, amount: u64) -> u64
+        requires { HasCells self.old node }
+        ensures marks { OnlyMarks self.old self.new }
+        ensures most { result ≤ amount }
+    {
+        let had = self.excess(node);
+        let booked = amount.min(u64::MAX - had);
+        self.set_excess(node, had + booked);
+        booked
+    }
+
+    /// The node of a place in the search's queue, or the node behind another on its list.
+    pub(super) fn queued_at(&self, place: u32) -> u32 {
+        get(self.cells, self.nodes as usize + place as usize)
+    }
+
+    /// Gives a node its level, and puts it in the search's queue. As long as it searches, no node is on a list.
+    pub(super) fn enter(&mut self, node: u32, level: u32)
+        requires { 1 ≤ node }
+        ensures { OnlyMarks self.old self.new }
+    {
+        self.set_level(node, level, 0);
+        put(self.cells, self.nodes as usize + self.queued as usize, node);
+        self.queued = self.queued.saturating_add(1);
+    }
+
+    /// The first node with excess on a level, or 0.
+    fn first(&self, level: u32) -> u32 {
+        get(self.cells, 2 * self.nodes as usize + level as usize)
+    }
+
+    /// Sets the first node with excess on a level.
+    fn set_first(&mut self, level: u32, node: u32)
+        ensures { OnlyMarks self.old self.new }
+    {
+        put(self.cells, 2 * self.nodes as usize + level as usize, node);
+    }
+
+    /// Puts a node with excess on the list of its level.
+    pub(super) fn list(&mut self, node: u32, level: u32)
+        requires { 1 ≤ node }
+        ensures { OnlyMarks self.old self.new }
+    {
+        let first = self.first(level);
+        put(self.cells, self.nodes as usize + node as usize - 1, first);
+        self.set_first(level, node);
+        self.farthest = self.farthest.max(level);
+    }
+
+    /// Takes the first node off the list of a level, and answers it: 0 where there is none.
+    pub(super) fn take_listed(&mut self, level: u32) -> u32
+        ensures { OnlyMarks self.old self.new }
+    {
+        let node = self.first(level);
+        if node > 0 {
+            let next = self.queued_at(node - 1);
+            self.set_first(level, next);
+        }
+        node
+    }
 }

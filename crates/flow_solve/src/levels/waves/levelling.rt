@@ -2,14 +2,10 @@
 ghost use Rattle.std.specs.Prelude.{◌≡◌, ◌*◌, ◌<◌, ◌≤◌, true, length};
 ghost use Rattle.std.specs.List.{All};
 ghost use Rattle.flow_net.specs.Nets.{IsNode};
-ghost use Rattle.flow_solve.specs.levels.Waves.{IsWaving};
-ghost use Rattle.flow_solve.specs.Steps.{PaysLooks};
+ghost use Rattle.flow_solve.specs.levels.Waves.{HasCells, HasLookedOut, IsWaving, OnlyMarks};
 
-use super::excess::{
-    BARRED, UNSEEN, Wave, excess_of, level_of, list_excess, queue_cell, set_level, set_levels,
-};
+use super::excess::{BARRED, UNSEEN, Wave};
 use crate::levels::spending::spend;
-use crate::residual::cells::{get, put};
 use crate::residual::half_arcs::{head, twin};
 use crate::residual::packing::Packed;
 use crate::task::Task;
@@ -21,60 +17,57 @@ use flow_net::FlowTable;
 const FUEL: u64 = 16;
 
 /// How many nodes have excess.
-fn count_excess(cells: &[u32], nodes: u32) -> u32
-    requires { length cells.now ≡ 5 * nodes }
+fn count_excess(wave: &Wave<'_>) -> u32
+    requires { length wave.now.cells.now ≡ 5 * wave.now.nodes }
 {
     let mut count = 0u32;
-    for place in 0..nodes {
-        if excess_of(cells, nodes, place + 1) > 0 {
+    for place in 0..wave.nodes {
+        if wave.excess(place + 1) > 0 {
             count = count.saturating_add(1);
         }
     }
     count
 }
 
-/// Gives a node its level, and puts it in the queue.
-fn enter_level(cells: &mut [u32], nodes: u32, wave: &mut Wave, node: u32, level: u32)
-    requires { 1 ≤ node }
-    ensures left { wave.new.left ≡ wave.old.left }
+/// Gives a node its level, puts it in the queue, and counts it if it has excess.
+fn see(wave: &mut Wave<'_>, node: u32, level: u32)
+    requires { HasCells wave.old node }
+    ensures { OnlyMarks wave.old wave.new }
 {
-    set_level(cells, node, level, 0);
-    put(cells, queue_cell(nodes, wave.queued), node);
-    wave.queued = wave.queued.saturating_add(1);
+    wave.enter(node, level);
+    if wave.excess(node) > 0 {
+        wave.seen = wave.seen.saturating_add(1);
+        wave.farthest = level;
+    }
 }
 
 /// Goes on from a node: gives a level to the unseen nodes next to it from which something remains, and counts those
 /// with excess.
-fn scan(packed: Packed<'_>, flow: &mut FlowTable, cells: &mut [u32], wave: &mut Wave, node: u32)
-    requires waving { IsWaving packed flow.old cells.old }
+fn scan(packed: Packed<'_>, flow: &mut FlowTable, wave: &mut Wave<'_>, node: u32)
+    requires waving { IsWaving packed flow.old wave.old }
     requires node { IsNode packed.net.now node }
-    ensures paid { PaysLooks flow.old wave.old.left flow.new wave.new.left }
+    ensures looked { HasLookedOut flow.old wave.old flow.new wave.new }
 {
     let begin = packed.first[node as usize - 1];
     let end = packed.first[node as usize];
-    let nodes = packed.net.nodes();
-    let level = level_of(cells, node).saturating_add(1);
+    let level = wave.level(node).saturating_add(1);
     if !spend(&mut wave.left, u64::from(end - begin)) {
         return;
     }
     for spot in begin..end {
         let half = packed.halves[spot as usize];
         let next = head(packed.net, half);
-        if level_of(cells, next) == UNSEEN && flow.look(packed.net, twin(half)).1 > 0 {
-            enter_level(cells, nodes, wave, next, level);
-            if excess_of(cells, nodes, next) > 0 {
-                wave.seen = wave.seen.saturating_add(1);
-                wave.farthest = level;
-            }
+        if wave.level(next) == UNSEEN && flow.look(packed.net, twin(half)).1 > 0 {
+            see(wave, next, level);
         }
     }
 }
 
 /// Goes on from the nodes in the queue, in the order in which they came into it, while it looks out for excess or for
 /// the levels to which nodes may be lifted.
-fn scan_all(packed: Packed<'_>, flow: &mut FlowTable, cells: &mut [u32], wave: &mut Wave)
-    requires waving { IsWaving packed flow.old cells.old }
-    ensures paid { PaysLooks flow.old wave.old.left flow.new wave.new.left }
+fn scan_all(packed: Packed<'_>, flow: &mut FlowTable, wave: &mut Wave<'_>)
+    requires waving { IsWaving packed flow.old wave.old }
+    ensures looked { HasLookedOut flow.old wave.old flow.new wave.new }
 {
     let nodes = packed.net.nodes();
     for place in 0..nodes {
@@ -84,27 +77,27 @@ fn scan_all(packed: Packed<'_>, flow: &mut FlowTable, cells: &mut [u32], wave: &
             wave.lost = wave.lost.saturating_add(unseen);
             return;
         }
-        let node = get(cells, queue_cell(nodes, place));
+        let node = wave.queued_at(place);
         if node < 1 || nodes < node {
             return;
         }
         let most = wave.farthest.saturating_add(wave.reach);
-        if wave.seen >= wave.wanted && level_of(cells, node) >= most {
+        if wave.seen >= wave.wanted && wave.level(node) >= most {
             return;
         }
-        scan(packed, flow, cells, wave, node);
+        scan(packed, flow, wave, node);
     }
 }
 
 /// Puts each node with excess on the list of its level.
-fn list_all(cells: &mut [u32], nodes: u32, wave: &mut Wave)
-    requires { length cells.old ≡ 5 * nodes }
-    ensures left { wave.new.left ≡ wave.old.left }
+fn list_all(wave: &mut Wave<'_>)
+    requires { length wave.old.cells.now ≡ 5 * wave.old.nodes }
+    ensures { OnlyMarks wave.old wave.new }
 {
-    for place in 0..nodes {
-        let level = level_of(cells, place + 1);
-        if level < BARRED && excess_of(cells, nodes, place + 1) > 0 {
-            list_excess(cells, nodes, wave, place + 1, level);
+    for place in 0..wave.nodes {
+        let level = wave.level(place + 1);
+        if level < BARRED && wave.excess(place + 1) > 0 {
+            wave.list(place + 1, level);
         }
     }
 }
@@ -112,16 +105,11 @@ fn list_all(cells: &mut [u32], nodes: u32, wave: &mut Wave)
 /// Searches backwards from the sinks of a task, the roots at level 0, its sources barred, and lists the nodes with
 /// excess by their levels. Answers whether there are any.
 #[inline(never)]
-pub(super) fn search_levels(
-    task: Task<'_>,
-    flow: &mut FlowTable,
-    cells: &mut [u32],
-    wave: &mut Wave,
-) -> bool
-    requires waving { IsWaving task.packed flow.old cells.old }
+pub(super) fn search_levels(task: Task<'_>, flow: &mut FlowTable, wave: &mut Wave<'_>) -> bool
+    requires waving { IsWaving task.packed flow.old wave.old }
     requires roots { All (IsNode task.packed.net.now) task.t.now }
     requires barred { All (IsNode task.packed.net.now) task.s.now }
-    ensures paid { PaysLooks flow.old wave.old.left flow.new wave.new.left }
+    ensures looked { HasLookedOut flow.old wave.old flow.new wave.new }
     ensures spent { result ≡ true → wave.new.left < wave.old.left }
 {
     let packed = task.packed;
@@ -133,18 +121,18 @@ pub(super) fn search_levels(
     wave.queued = 0;
     wave.seen = 0;
     wave.farthest = 0;
-    wave.wanted = count_excess(cells, nodes).saturating_sub(wave.lost);
+    wave.wanted = count_excess(wave).saturating_sub(wave.lost);
     if wave.wanted == 0 {
         return false;
     }
-    cells[..n].fill(UNSEEN);
-    cells[2 * n..3 * n].fill(0);
-    set_levels(cells, task.s, BARRED);
+    wave.cells[..n].fill(UNSEEN);
+    wave.cells[2 * n..3 * n].fill(0);
+    wave.set_levels(task.s, BARRED);
     for node in task.t {
-        enter_level(cells, nodes, wave, *node, 0);
+        wave.enter(*node, 0);
     }
-    scan_all(packed, flow, cells, wave);
-    list_all(cells, nodes, wave);
+    scan_all(packed, flow, wave);
+    list_all(wave);
     wave.ceiling = wave.farthest.saturating_add(wave.reach).min(nodes - 1);
     wave.floor = wave.left.saturating_sub(FUEL * u64::from(packed.net.len()));
     wave.turn ^= 1;

@@ -1,5 +1,4 @@
-//! The test at the end of a stage of which nothing is claimed on the way: whether a table carries a feasible flow, and
-//! of which value.
+//! The test at the end of waves: whether a table carries a feasible flow, and of which value.
 //!
 //! It goes over the arcs once, in their order. Each node that is no terminal has a *balance* in two cells, what enters
 //! it less what leaves it, counted from [`EVEN`]; a balance that is too great for 64 bits fails the test, and so does a
@@ -14,7 +13,7 @@ ghost use Rattle.flow_solve.specs.levels.Settling.{pair_at, HasRoles, HasSums};
 ghost use Rattle.flow_solve.specs.Task.{HasFlow, IsTask};
 ghost use Rattle.flow_solve.specs.Steps.{OnlyLooks};
 
-use crate::residual::cells::get;
+use crate::residual::cells::{CELL, get};
 use crate::task::Task;
 use flow_net::FlowTable;
 
@@ -22,7 +21,7 @@ use flow_net::FlowTable;
 const HALF: u32 = 2_147_483_648;
 
 /// The balance of a node that as much enters as leaves: in the middle, since it rises and falls while arcs are booked.
-const EVEN: u64 = 9_223_372_039_002_259_456;
+const EVEN: u64 = HALF as u64 * (CELL + 1);
 
 /// The role of a node that is no terminal.
 const INNER: u32 = 0;
@@ -38,7 +37,7 @@ fn get_pair(cells: &[u32], place: u32) -> u64
     ensures { result ≡ pair_at cells.now place }
 {
     let at = 2 * place as usize;
-    u64::from(get(cells, at)) + u64::from(get(cells, at + 1)) * 4_294_967_296
+    u64::from(get(cells, at)) + u64::from(get(cells, at + 1)) * CELL
 }
 
 /// Sets the number in two cells, if there are such cells.
@@ -49,8 +48,8 @@ fn put_pair(cells: &mut [u32], place: u32, number: u64)
 {
     let at = 2 * place as usize;
     if at + 1 < cells.len() {
-        cells[at] = (number % 4_294_967_296) as u32;
-        cells[at + 1] = (number / 4_294_967_296) as u32;
+        cells[at] = (number % CELL) as u32;
+        cells[at + 1] = (number / CELL) as u32;
     }
 }
 

@@ -1,6 +1,6 @@
 -- `raise`: the sources in turn; each augmentation raises the value, and a source from which none goes out any more
 -- stays so.
-use Rattle.std.proofs.Common.{◌<◌, ◌-◌, ◌+◌, length, arith}
+use Rattle.std.proofs.Common.{◌<◌, ◌-◌, ◌+◌, length, arith, rules}
 use Rattle.flow_net.specs.NodeSets.{one_of}
 use Rattle.flow_net.proofs.NodeLists.{terminals_apart}
 use Rattle.flow_solve.specs.residual.Searches.{seen}
@@ -10,10 +10,13 @@ use Rattle.flow_solve.proofs.Raises.{raised_by, settled, value_most, capacities_
 use Rattle.flow_solve.proofs.paths.PathsRaise.raise.Goals as goal
 
 -- the search leaves the trail on which to augment
-pub augment_along-requires-clause-trails : goal.augment_along-requires-clause-trails
-augment_along-requires-clause-trails c =
-    let found = c.in-Some.ensures in
-    rw found.looks.flows (searched_trails (omega arith) found.searched)
+pub augment_along-requires-clause-trail : goal.augment_along-requires-clause-trail
+augment_along-requires-clause-trail c =
+    let found = c.in-Some.ensures in record {
+      trails = rw found.looks.flows (searched_trails (omega arith) found.searched);
+      node = search rules;
+      marked = found.some.3;
+    }
 
 -- a value is at most the sum of the capacities, which fits
 pub overflow_add-raised : goal.overflow_add-raised

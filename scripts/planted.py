@@ -245,8 +245,13 @@ def missing():
 
 
 def gather(temporary, folder):
-    """Collects what the gate's edits begin with: of a crate it is whole once the first edit's own folder is there."""
+    """Collects what the gate's edits begin with: of a crate it is whole once the first edit's own folder is there. Keeps
+    in the file `edits` how many of these were begun: each has a folder while it is tried, and the gate tells of none
+    before the end."""
+    edits = set()
     while True:
+        edits.update(temporary.glob("rt-edits-*/[0-9]*"))
+        (folder / "edits").write_text(f"{len(edits)}\n")
         for seed in temporary.glob("rt-edits-*/seed"):
             crate = next((it.name.split("-")[1] for it in seed.glob("*/Rattle-*-proofs*")), "")
             if not crate or len(list(seed.parent.iterdir())) == 1 or (folder / crate).exists():

@@ -43,7 +43,7 @@ python3 scripts/planted.py --gather "$folder/temporary" "$folder/begun" &
 watched=$!
 (
   while sleep 60; do
-    say "the gate: $(grep -c ' proved$' "$folder/gate") proofs, $(grep -c '^rt: must-fail ' "$folder/gate") edits"
+    say "the gate: $(grep -c '^rt: .* proved$' "$folder/gate") proofs, $(cat "$folder/begun/edits") edits"
   done
 ) &
 watched="$watched $!"

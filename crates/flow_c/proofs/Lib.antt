@@ -1,5 +1,4 @@
 pub mod MarkLemmas
 pub mod ListLemmas
 pub mod FaultLemmas
-pub mod FlowSums
 pub mod CheckLemmas

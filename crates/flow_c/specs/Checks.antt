@@ -4,6 +4,9 @@ use Rattle.flow_net.specs.Nets.{Net, Instance, arc_at}
 use Rattle.flow_net.specs.NodeSets.{one_of, just}
 use Rattle.flow_net.specs.Flows.{Fits, IsFeasible, HasValue, IsGreatest, into, out_of}
 use Rattle.flow_net.specs.GreatestFlows.{HasGreatestValue}
+use Rattle.flow_text.specs.declared.solutions.FlowLine.{FlowLine}
+use Rattle.flow_tools.specs.checking.ArcShares.{Carries}
+use Rattle.flow_tools.specs.checking.NodeSums.{AreNodeFlows}
 use Rattle.flow_tools.specs.checking.Verdicts.{IsInner}
 
 -- the first arc whose flow passes its capacity
@@ -33,6 +36,11 @@ IsDifference out into' w = (w + into' ≡ out) ⊎ (w + into' ≡ out + 2 ^ 128)
 -- and so it is the flow's value
 abbrev pub HasWord : Net → (ℕ → Bool) → List ℕ → ℕ → Type 0
 HasWord net s xs w = IsDifference (out_of s net.arcs xs) (into s net.arcs xs) w
+
+-- the cells hold what enters and what leaves each node, as lines say it that the flow carries
+abbrev pub AreSumsOf : Net → List ℕ → List ℕ → List ℕ → Type 0
+AreSumsOf net xs into' out =
+    (lines : List FlowLine) × Carries net lines xs × AreNodeFlows net.nodes lines into' out
 
 -- the verdict on a flow and what is told with it: 0, it is feasible, and what is told is its value, the greatest one;
 -- 1, it is feasible, but its value, which is told in two's complement, isn't the greatest; 2, the first arc whose flow

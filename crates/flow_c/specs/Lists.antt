@@ -4,6 +4,7 @@ use Rattle.std.specs.Prelude.{if◌then◌else◌}
 use Rattle.std.specs.List.{range_with_len}
 use Rattle.flow_net.specs.declared.networks.Arc.{Arc}
 use Rattle.flow_net.specs.Nets.{Net, Instance}
+use Rattle.flow_c.specs.declared.lists.Lent.{Lent}
 use Rattle.flow_tools.specs.solving.Solutions.{IsSolution, IsMarkedCut}
 
 -- the arc at a place of the lists: from the one node to the other, with its capacity
@@ -22,6 +23,11 @@ from_one vs = map suc vs
 abbrev pub listed : ℕ → List ℕ → List ℕ → List ℕ → List ℕ → List ℕ → Instance
 listed n src dst cap sources sinks =
     record { net = listed_net n src dst cap; sources = from_one sources; sinks = from_one sinks }
+
+-- the same of the lists that are lent
+abbrev pub network_of : Lent → List ℕ → Instance
+network_of lent cap =
+    listed lent.nodes lent.src.now lent.dst.now cap lent.sources.now lent.sinks.now
 
 -- a capacity of 1 for each place
 abbrev pub ones : List ℕ → List ℕ

@@ -4,6 +4,7 @@ use Rattle.std.specs.List.{All}
 use Rattle.flow_net.specs.declared.limits.TheConstants.{FEWEST_NODES, MOST_NODES, MOST_ARCS_BOTH_WAYS}
 use Rattle.flow_net.specs.Limits.{AreDistinct}
 use Rattle.flow_c.specs.Lists.{from_one}
+use Rattle.flow_c.specs.declared.lists.Lent.{Lent}
 use Rattle.flow_c.specs.declared.refusals.Refusal.{Refusal}
 use Rattle.flow_c.specs.declared.refusals.Refusal.TheVariants.{Nodes, Lengths, BadEnd, Terminal, Memory}
 
@@ -14,6 +15,10 @@ IsBadCount n = (n < FEWEST_NODES) ⊎ (MOST_NODES < n)
 -- the lists of arcs have one length, at most as many as a network's arcs
 abbrev pub AreLengths : List ℕ → List ℕ → List ℕ → Type 0
 AreLengths src dst cap = (length src ≤ MOST_ARCS_BOTH_WAYS) × (length dst ≡ length src) × (length cap ≡ length src)
+
+-- the same of the lists that are lent
+abbrev pub AreLengthsOf : Lent → List ℕ → Type 0
+AreLengthsOf lent cap = AreLengths lent.src.now lent.dst.now cap
 
 -- some end of an arc is no node
 abbrev pub HasBadEnd : ℕ → List ℕ → List ℕ → Type 0
@@ -40,6 +45,11 @@ IsReason Lens n src dst sources sinks Lengths = Lens → ⊥
 IsReason Lens n src dst sources sinks BadEnd = HasBadEnd n src dst
 IsReason Lens n src dst sources sinks Terminal = HasBadTerminals n sources sinks
 IsReason Lens n src dst sources sinks Memory = ⊤
+
+-- the same of the lists that are lent
+abbrev pub IsReasonFor : Type 0 → Lent → Refusal → Type 0
+IsReasonFor Lens lent =
+    IsReason Lens lent.nodes lent.src.now lent.dst.now lent.sources.now lent.sinks.now
 
 -- the status of a refusal
 abbrev pub status_number : Refusal → ℕ

@@ -30,6 +30,7 @@ mod tests;
 
 use checking::check_lists;
 use flow_tools::Side;
+use lists::Lent;
 use refusals::status_of;
 use solving::{count_links, cut_lists, solve_lists};
 use std::alloc::Global;
@@ -70,7 +71,14 @@ pub extern "C" fn provedflow_flow_lists(
     ensures refused { AreArcs (AreLengths src.now dst.now cap.now × (length flow.old ≡ length src.now))
         nodes src.now dst.now → AreEnds nodes sources.now sinks.now → (result ≡ 0) ⊎ (result ≡ 5) }
 {
-    let value = match solve_lists(alloc, nodes, src, dst, cap, sources, sinks, flow) {
+    let lent = Lent {
+        nodes,
+        src,
+        dst,
+        sources,
+        sinks,
+    };
+    let value = match solve_lists(alloc, lent, cap, flow) {
         Ok(value) => value,
         Err(refusal) => return status_of(refusal),
     };
@@ -113,9 +121,14 @@ pub extern "C" fn provedflow_cut_lists(
     } else {
         Side::Source
     };
-    let value = match cut_lists(
-        alloc, nodes, src, dst, cap, sources, sinks, nearest, flow, side,
-    ) {
+    let lent = Lent {
+        nodes,
+        src,
+        dst,
+        sources,
+        sinks,
+    };
+    let value = match cut_lists(alloc, lent, cap, nearest, flow, side) {
         Ok(value) => value,
         Err(refusal) => return status_of(refusal),
     };
@@ -154,19 +167,25 @@ pub extern "C" fn provedflow_links_lists(
         nodes src.now dst.now → (pair ≢ 0 → AreEnds nodes sources.now sinks.now)
         → (result ≡ 0) ⊎ (result ≡ 5) }
 {
+    let undirected = undirected != 0;
     let found = if pair != 0 {
-        count_links(
-            alloc,
+        let lent = Lent {
             nodes,
             src,
             dst,
             sources,
             sinks,
-            undirected != 0,
-            true,
-        )
+        };
+        count_links(alloc, lent, undirected, true)
     } else {
-        count_links(alloc, nodes, src, dst, &[0], &[1], undirected != 0, false)
+        let lent = Lent {
+            nodes,
+            src,
+            dst,
+            sources: &[0],
+            sinks: &[1],
+        };
+        count_links(alloc, lent, undirected, false)
     };
     match found {
         Ok(count) => *links = count,
@@ -204,7 +223,14 @@ pub extern "C" fn provedflow_check_lists(
     ensures refused { AreArcs (AreLengths src.now dst.now cap.now × (length flow.now ≡ length src.now))
         nodes src.now dst.now → AreEnds nodes sources.now sinks.now → (result ≡ 0) ⊎ (result ≡ 5) }
 {
-    let checked = match check_lists(alloc, nodes, src, dst, cap, sources, sinks, flow) {
+    let lent = Lent {
+        nodes,
+        src,
+        dst,
+        sources,
+        sinks,
+    };
+    let checked = match check_lists(alloc, lent, cap, flow) {
         Ok(checked) => checked,
         Err(refusal) => return status_of(refusal),
     };

@@ -1,56 +1,52 @@
 //! Networks from lists that a caller lends.
-ghost use Rattle.std.specs.Prelude.{◌≡◌, ◌⊎◌, ℕ, ◌≤◌, ◌++◌, [], length, replicate, IfOk, IfErr};
+ghost use Rattle.std.specs.Prelude.{◌≡◌, ◌⊎◌, ℕ, ◌≤◌, ◌++◌, [], length, IfOk, IfErr};
 ghost use Rattle.std.specs.List.{All};
 ghost use Rattle.flow_net.specs.NodeSets.{one_of};
 ghost use Rattle.flow_net.specs.Limits.{AreDistinct};
 ghost use Rattle.flow_net.specs.MarkedNodes.{marked};
-ghost use Rattle.flow_net.specs.declared.limits.TheConstants.{FEWEST_NODES, MOST_NODES, MOST_ARCS_BOTH_WAYS};
-ghost use Rattle.flow_c.specs.Lists.{listed_net, listed, from_one};
-ghost use Rattle.flow_c.specs.Refusals.{IsReason, HasBadEnd, HasBadTerminal, AreLengths};
+ghost use Rattle.flow_net.specs.declared.limits.TheConstants.{FEWEST_NODES, MOST_NODES};
+ghost use Rattle.flow_c.specs.Lists.{listed_net, network_of, from_one};
+ghost use Rattle.flow_c.specs.Refusals.{IsReasonFor, HasBadEnd, HasBadTerminal, AreLengthsOf};
 ghost use Rattle.flow_c.specs.declared.refusals.Refusal.TheVariants.{BadEnd, Terminal, Memory};
 
 use crate::refusals::Refusal;
 use flow_net::{Arc, FEWEST_NODES, MOST_ARCS_BOTH_WAYS, MOST_NODES, Network};
-use flow_tools::FlowNetwork;
+use flow_tools::{FlowNetwork, filled};
 use std::alloc::Global;
 
-/// So many cells, each with this value.
-pub(crate) fn filled<T: Clone>(alloc: Global, value: T, len: usize) -> Result<Vec<T>, Refusal>
-    ensures len { IfOk result (λ cells. length cells.items ≡ len) }
-    ensures all { IfOk result (λ cells. ((y : T) → T.is_clone value y → y ≡ value)
-        → cells.items ≡ replicate len value) }
-    ensures refused { IfErr result (λ r. r ≡ Memory) }
-{
-    match Vec::from_elem(alloc, value, len) {
-        Ok(cells) => Ok(cells),
-        Err(_) => Err(Refusal::Memory),
-    }
+/// The lists that a caller lends, but for the capacities, and the number of nodes.
+#[derive(Clone, Copy)]
+pub(crate) struct Lent<'a> {
+    /// How many nodes there are.
+    pub nodes: u32,
+    /// Where each arc begins.
+    pub src: &'a [u32],
+    /// Where each arc ends.
+    pub dst: &'a [u32],
+    /// The sources.
+    pub sources: &'a [u32],
+    /// The sinks.
+    pub sinks: &'a [u32],
 }
 
-/// The network of three lists.
-fn read_arcs(
-    alloc: Global,
-    nodes: u32,
-    src: &[u32],
-    dst: &[u32],
-    cap: &[u64],
-) -> Result<Network, Refusal>
-    requires least { FEWEST_NODES ≤ nodes }
-    requires most { nodes ≤ MOST_NODES }
-    requires arcs { length src.now ≤ MOST_ARCS_BOTH_WAYS }
-    requires dst { length dst.now ≡ length src.now }
-    requires cap { length cap.now ≡ length src.now }
-    ensures net { IfOk result (λ net. net ≡ listed_net nodes src.now dst.now cap.now) }
-    ensures refused { IfErr result (λ r. (r ≡ Memory) ⊎ ((r ≡ BadEnd) × HasBadEnd nodes src.now dst.now)) }
+/// The network of the lists of arcs.
+fn read_arcs(alloc: Global, lent: Lent<'_>, cap: &[u64]) -> Result<Network, Refusal>
+    requires least { FEWEST_NODES ≤ lent.nodes }
+    requires most { lent.nodes ≤ MOST_NODES }
+    requires lengths { AreLengthsOf lent cap.now }
+    ensures net { IfOk result (λ net. net ≡ listed_net lent.entry.nodes lent.entry.src.now lent.entry.dst.now cap.now) }
+    ensures refused { IfErr result (λ r. (r ≡ Memory)
+        ⊎ ((r ≡ BadEnd) × HasBadEnd lent.entry.nodes lent.entry.src.now lent.entry.dst.now)) }
 {
-    let mut net = Network::new(alloc, nodes);
-    for i in 0..src.len() {
-        if src[i] >= nodes || dst[i] >= nodes {
+    let mut net = Network::new(alloc, lent.nodes);
+    for i in 0..lent.src.len() {
+        let (src, dst) = (lent.src[i], lent.dst[i]);
+        if src >= lent.nodes || dst >= lent.nodes {
             return Err(Refusal::BadEnd);
         }
         let arc = Arc {
-            src: src[i] + 1,
-            dst: dst[i] + 1,
+            src: src + 1,
+            dst: dst + 1,
             cap: cap[i],
         };
         if net.push(arc).is_err() {
@@ -93,54 +89,45 @@ fn read_terminals(
     Ok(taken)
 }
 
-/// The terminals of two lists.
-fn read_both(
-    alloc: Global,
-    nodes: u32,
-    sources: &[u32],
-    sinks: &[u32],
-) -> Result<(Vec<u32>, Vec<u32>), Refusal>
-    requires most { nodes ≤ MOST_NODES }
-    ensures sources { IfOk result (λ both. both.0.items ≡ from_one sources.now) }
-    ensures sinks { IfOk result (λ both. both.1.items ≡ from_one sinks.now) }
-    ensures sources_within { IfOk result (λ both. All (λ v. (1 ≤ v) × (v ≤ nodes)) both.0.items) }
-    ensures sinks_within { IfOk result (λ both. All (λ v. (1 ≤ v) × (v ≤ nodes)) both.1.items) }
+/// The sources and the sinks.
+fn read_both(alloc: Global, lent: Lent<'_>) -> Result<(Vec<u32>, Vec<u32>), Refusal>
+    requires most { lent.nodes ≤ MOST_NODES }
+    ensures sources { IfOk result (λ both. both.0.items ≡ from_one lent.entry.sources.now) }
+    ensures sinks { IfOk result (λ both. both.1.items ≡ from_one lent.entry.sinks.now) }
+    ensures sources_within { IfOk result (λ both. All (λ v. (1 ≤ v) × (v ≤ lent.entry.nodes)) both.0.items) }
+    ensures sinks_within { IfOk result (λ both. All (λ v. (1 ≤ v) × (v ≤ lent.entry.nodes)) both.1.items) }
     ensures distinct { IfOk result (λ both. AreDistinct (both.0.items ++ both.1.items)) }
-    ensures refused { IfErr result (λ r. (r ≡ Memory) ⊎ ((r ≡ Terminal) × (HasBadTerminal nodes [] sources.now
-        ⊎ HasBadTerminal nodes (from_one sources.now) sinks.now))) }
+    ensures refused { IfErr result (λ r. (r ≡ Memory) ⊎ ((r ≡ Terminal)
+        × (HasBadTerminal lent.entry.nodes [] lent.entry.sources.now
+        ⊎ HasBadTerminal lent.entry.nodes (from_one lent.entry.sources.now) lent.entry.sinks.now))) }
 {
-    let mut marks = filled(alloc, false, nodes as usize)?;
-    let s = read_terminals(alloc, nodes, sources, &[], marks.as_mut_slice())?;
-    let t = read_terminals(alloc, nodes, sinks, s.as_slice(), marks.as_mut_slice())?;
+    let mut marks = filled(alloc, false, lent.nodes as usize)?;
+    let marks = marks.as_mut_slice();
+    let s = read_terminals(alloc, lent.nodes, lent.sources, &[], marks)?;
+    let t = read_terminals(alloc, lent.nodes, lent.sinks, s.as_slice(), marks)?;
     Ok((s, t))
 }
 
 /// The network of the lists, with its terminals. All that the lists say is tested.
 pub(crate) fn read_network(
     alloc: Global,
-    nodes: u32,
-    src: &[u32],
-    dst: &[u32],
+    lent: Lent<'_>,
     cap: &[u64],
-    sources: &[u32],
-    sinks: &[u32],
 ) -> Result<FlowNetwork, Refusal>
-    ensures network { IfOk result (λ network. network
-        ≡ listed nodes src.now dst.now cap.now sources.now sinks.now) }
-    ensures refused { IfErr result (IsReason (AreLengths src.now dst.now cap.now)
-        nodes src.now dst.now sources.now sinks.now) }
+    ensures network { IfOk result (λ network. network ≡ network_of lent.entry cap.now) }
+    ensures refused { IfErr result (IsReasonFor (AreLengthsOf lent.entry cap.now) lent.entry) }
 {
-    if nodes < FEWEST_NODES || nodes > MOST_NODES {
+    if lent.nodes < FEWEST_NODES || lent.nodes > MOST_NODES {
         return Err(Refusal::Nodes);
     }
-    let arcs = src.len();
-    if arcs > MOST_ARCS_BOTH_WAYS as usize || dst.len() != arcs || cap.len() != arcs {
+    let arcs = lent.src.len();
+    if arcs > MOST_ARCS_BOTH_WAYS as usize || lent.dst.len() != arcs || cap.len() != arcs {
         return Err(Refusal::Lengths);
     }
-    if sources.is_empty() || sinks.is_empty() {
+    if lent.sources.is_empty() || lent.sinks.is_empty() {
         return Err(Refusal::Terminal);
     }
-    let net = read_arcs(alloc, nodes, src, dst, cap)?;
-    let (s, t) = read_both(alloc, nodes, sources, sinks)?;
+    let net = read_arcs(alloc, lent, cap)?;
+    let (s, t) = read_both(alloc, lent)?;
     Ok(FlowNetwork::new(net, s, t))
 }

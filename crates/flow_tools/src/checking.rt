@@ -1,5 +1,6 @@
 //! The checker of solutions.
-ghost use Rattle.std.specs.Prelude.{◌≡◌, ◌↔◌, ◌<◌, ◌^◌, true, false, IfOk, IsTrue};
+ghost use Rattle.std.specs.Prelude.{◌≡◌, ◌↔◌, ◌<◌, ◌^◌, true, IfOk, IsTrue};
+ghost use Rattle.flow_net.specs.Limits.{IsNet, AreTerminals};
 ghost use Rattle.flow_net.specs.NodeSets.{one_of};
 ghost use Rattle.flow_net.specs.Flows.{Fits, IsFeasible};
 ghost use Rattle.flow_net.specs.GreatestFlows.{HasGreatestValue};
@@ -8,16 +9,16 @@ ghost use Rattle.flow_tools.specs.checking.SolutionFlows.{pair_flow, pair_cap};
 ghost use Rattle.flow_tools.specs.checking.FeasibleSolutions.{IsFeasibleSolution, is_of_feasible};
 ghost use Rattle.flow_tools.specs.checking.Verdicts.{IsVerdict, IsWithinCapacities};
 ghost use Rattle.flow_tools.specs.checking.FirstFaults.{IsSumsVerdict};
-ghost use Rattle.flow_tools.specs.checking.ArcShares.{Carries, HasLessValue};
+ghost use Rattle.flow_tools.specs.checking.ArcShares.{Carries};
 
-mod node_flows;
-mod sharing;
+pub(crate) mod node_flows;
+pub(crate) mod sharing;
 
 use crate::cells::work_for;
 use flow_net::{FlowTable, Network, OutOfMemory, Problem};
 use flow_solve::has_augmenting_path;
 use flow_text::{FlowLine, Solution, Verdict};
-use node_flows::{first_unbalanced, node_flows, outflow_of_sources};
+use node_flows::node_flows;
 use sharing::{Shared, share_out};
 use std::alloc::Global;
 
@@ -50,21 +51,25 @@ fn cap_of_pair(net: &Network, src: u32, dst: u32) -> u128
 }
 
 /// Whether a feasible flow has the greatest value.
-fn is_greatest(alloc: Global, problem: &Problem, flow: &mut FlowTable) -> Result<bool, OutOfMemory>
-    requires { IsFeasible problem.now.net (one_of problem.now.sources) (one_of problem.now.sinks) flow.old.flows }
-    ensures greatest { IfOk result (λ greatest. greatest ≡ true
-        → HasGreatestValue problem.now.net (one_of problem.now.sources) (one_of problem.now.sinks) flow.old.flows) }
-    ensures less { IfOk result (λ greatest. greatest ≡ false → HasLessValue problem.now flow.old.flows) }
+///
+/// # Errors
+///
+/// `OutOfMemory`.
+pub fn is_greatest(
+    alloc: Global,
+    net: &Network,
+    s: &[u32],
+    t: &[u32],
+    flow: &mut FlowTable,
+) -> Result<bool, OutOfMemory>
+    requires feasible { IsFeasible net.now (one_of s.now) (one_of t.now) flow.old.flows }
+    requires terminals { AreTerminals net.now s.now t.now }
+    ensures greatest { IfOk result (λ greatest. (greatest ≡ true)
+        ↔ HasGreatestValue net.now (one_of s.now) (one_of t.now) flow.old.flows) }
+    ensures limits { IfOk result (λ _. IsNet net.now) }
 {
-    let net = problem.net();
     let mut work = work_for(alloc, net)?;
-    let grows = has_augmenting_path(
-        net,
-        problem.sources(),
-        problem.sinks(),
-        flow,
-        work.as_mut_slice(),
-    );
+    let grows = has_augmenting_path(net, s, t, flow, work.as_mut_slice());
     Ok(!grows)
 }
 
@@ -78,8 +83,9 @@ fn wrong_sum(
     requires within { IsWithinCapacities problem.now.net solution.now.lines.items }
     ensures { IfOk result (IsSumsVerdict problem.now solution.now.value solution.now.lines.items) }
 {
-    let flows = node_flows(alloc, problem.net().nodes(), solution.lines.as_slice())?;
-    if let Some(node) = first_unbalanced(alloc, problem, &flows)? {
+    let (net, s, t) = (problem.net(), problem.sources(), problem.sinks());
+    let flows = node_flows(alloc, net.nodes(), solution.lines.as_slice())?;
+    if let Some(node) = flows.first_unbalanced(alloc, net, s, t)? {
         let i = node as usize - 1;
         return Ok(Some(Verdict::Unbalanced {
             node,
@@ -88,7 +94,7 @@ fn wrong_sum(
         }));
     }
     let given = solution.value;
-    let found = outflow_of_sources(problem, &flows);
+    let found = flows.outflow_of(s);
     if given as i128 != found {
         return Ok(Some(Verdict::Value { given, found }));
     }
@@ -115,7 +121,8 @@ fn judge(
     if feasible_only {
         return Ok(Verdict::Feasible(value));
     }
-    if is_greatest(alloc, problem, flow)? {
+    let (net, s, t) = (problem.net(), problem.sources(), problem.sinks());
+    if is_greatest(alloc, net, s, t, flow)? {
         Ok(Verdict::Optimal(value))
     } else {
         Ok(Verdict::NotMaximal(value))

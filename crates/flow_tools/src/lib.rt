@@ -22,7 +22,10 @@ mod running;
 mod solving;
 mod streams;
 
-pub use checking::check;
+pub use cells::filled;
+pub use checking::node_flows::NodeFlows;
+pub use checking::sharing::fill;
+pub use checking::{check, is_greatest};
 pub use connecting::answers::connect;
 pub use connecting::connectivity;
 pub use laws::{greatest_is_least, printed_cut_is_minimum, solved_is_optimal};

@@ -2,7 +2,7 @@
 use Rattle.std.proofs.Common.{◌≡◌, ◌≢◌, ℕ, zero, suc, ◌+◌, ◌-◌, ◌^◌, ◌≤◌, ◌<◌, Bool, true, false, cond, eqb, ◌||◌, List}
 use Rattle.std.proofs.Common.{[]}
 use Rattle.std.proofs.Common.{◌∷◌, ◌++◌, length, get_or, set, take, refl, ◌∙◌, sym, ap, subst, inl, inr, add-one}
-use Rattle.std.proofs.Common.{eq-eqb, sum_by, get_or-set_same, get_or-set_other, length-take, length-append, Option}
+use Rattle.std.proofs.Common.{eq-eqb, sum_by, get_or-set_same, get_or-set_other, length-take, length-append, length-set, Option}
 use Rattle.std.proofs.Common.{Some, None, MatchOption, arith}
 use Rattle.std.specs.List.{All}
 use Rattle.std.proofs.lemmas.Bool.{cases_eq, ne_eqb, eqb-true, or_left, or_right}
@@ -10,7 +10,7 @@ use Rattle.std.proofs.lemmas.List.{get_or_default, get_or_append_left}
 use Rattle.std.proofs.lemmas.List.Elements.{All-take}
 use Rattle.std.proofs.lemmas.List.Sums.{sum_by-cons}
 use Rattle.flow_net.specs.Nets.{Instance}
-use Rattle.flow_net.specs.Limits.{IsProblem, AreDistinct}
+use Rattle.flow_net.specs.Limits.{AreDistinct}
 use Rattle.flow_net.specs.NodeSets.{one_of, just}
 use Rattle.flow_net.specs.MarkedNodes.{marked}
 use Rattle.flow_net.proofs.Arrangements.{node_among}
@@ -23,7 +23,8 @@ use Rattle.flow_tools.specs.checking.LineFlows.{line_flow}
 use Rattle.flow_tools.specs.checking.Verdicts.{IsInner, IsBalanced}
 use Rattle.flow_tools.specs.checking.FirstFaults.{IsBalancedAt}
 use Rattle.flow_tools.specs.checking.FirstFaults.{IsFirstUnbalanced}
-use Rattle.flow_tools.specs.checking.NodeSums.{IsCellOf, at_node, AreNodeFlows, AreEqualUnless, IsFirstUnequal}
+use Rattle.flow_tools.specs.checking.NodeSums.{IsCellOf, at_node, AreNodeFlows, HaveOneMore}
+use Rattle.flow_tools.specs.checking.NodeSums.{AreEqualUnless, IsFirstUnequal}
 use Rattle.flow_tools.proofs.checking.LineSums.{line_flow-most, line_flow-cons, line_flow_agree}
 
 -- ---- marks
@@ -58,6 +59,42 @@ mark_more before cells nodes k v l at h = rw add-one (elim (cases_eq v (get_or n
 ])
 
 -- ---- cells
+
+-- a cell that is raised, and the others
+raised : (cells : List ℕ) (v x k : ℕ) → IsCellOf (length cells) v
+    → get_or (set cells (v - 1) (get_or cells (v - 1) 0 + x)) k 0 ≡ get_or cells k 0 + cond (just (k + 1) v) x 0
+raised cells v x k at = elim (cases_eq k (v - 1)) [
+  | inl here ↦
+      let put : get_or (set cells (v - 1) (get_or cells (v - 1) 0 + x)) k 0 ≡ get_or cells (v - 1) 0 + x =
+      ap (λ j. get_or (set cells (v - 1) (get_or cells (v - 1) 0 + x)) j 0) here
+      ∙ get_or-set_same cells (v - 1) (get_or cells (v - 1) 0 + x) 0 (omega (arith, at.0, at.1)) in
+      let cell : get_or cells k 0 ≡ get_or cells (v - 1) 0 = ap (λ j. get_or cells j 0) here in
+      let part : cond (just (k + 1) v) x 0 ≡ x =
+      ap (λ b. cond b x 0) (eq-eqb v (k + 1) (omega (arith, here, at.0))) in
+      omega (arith, put, cell, part)
+  | inr other ↦
+      let kept = get_or-set_other cells (v - 1) k (get_or cells (v - 1) 0 + x) 0 other in
+      let part : cond (just (k + 1) v) x 0 ≡ 0 =
+      ap (λ b. cond b x 0) (ne_eqb v (k + 1) (λ s. other (omega (arith, s)))) in
+      omega (arith, kept, part)
+]
+
+-- the sums with one line more
+pub sums_more : (n : ℕ) (lines more : List FlowLine) (line : FlowLine) (into out : List ℕ)
+    → IsCellOf (length into) line.dst → IsCellOf (length out) line.src → HaveOneMore lines line more
+    → AreNodeFlows n lines into out
+    → AreNodeFlows n more (set into (line.dst - 1) (get_or into (line.dst - 1) 0 + line.flow))
+    (set out (line.src - 1) (get_or out (line.src - 1) 0 + line.flow))
+sums_more n lines more line into out dst src h f = record {
+  into_len = length-set into _ _ ∙ f.into_len;
+  out_len = length-set out _ _ ∙ f.out_len;
+  entering = λ k l.
+      raised into line.dst line.flow k dst
+      ∙ ap (λ m. m + cond (just (k + 1) line.dst) line.flow 0) (f.entering k l) ∙ sym (h (λ u v. just (k + 1) v));
+  leaving = λ k l.
+      raised out line.src line.flow k src
+      ∙ ap (λ m. m + cond (just (k + 1) line.src) line.flow 0) (f.leaving k l) ∙ sym (h (λ u v. just (k + 1) u));
+}
 
 -- a sum over a part of the lines has room for one flow more
 pub tally_room : (nodes : ℕ) (p : ℕ → ℕ → Bool) (lines : List FlowLine) (i : ℕ) → All (IsLineWithin nodes) lines
@@ -121,54 +158,39 @@ sum_of_all at lines f (w ∷ ws) h d =
     let same = line_flow_agree (λ a b. eqb w (at a b)) (λ a b. just w (at a b)) lines (λ a b. turned w (at a b)) in
     omega (arith, sum_by-cons f w ws, rest, both, here, same)
 
--- ---- the sources
-
--- a beginning of a list without repetition has none
-distinct_front : (xs ys : List ℕ) → AreDistinct (xs ++ ys) → AreDistinct xs
-distinct_front xs ys d i j l k e =
-    d i j l (omega (arith, length-append xs ys))
-    (get_or_append_left xs ys 0 i (omega arith) ∙ e ∙ sym (get_or_append_left xs ys 0 j k))
+-- ---- sums over lists of nodes
 
 -- a node's cells
 pub cell_into : (nodes : ℕ) (lines : List FlowLine) (into out : List ℕ) (v : ℕ) → AreNodeFlows nodes lines into out
     → IsCellOf nodes v → at_node into v ≡ lines_into (just v) lines
 cell_into nodes lines into out v f at =
     let same : v - 1 + 1 ≡ v = omega (arith, at.0) in
-    f.tallied.entering (v - 1) (omega (arith, at.0, at.1)) ∙ ap (λ w. lines_into (just w) lines) same
+    f.entering (v - 1) (omega (arith, at.0, at.1)) ∙ ap (λ w. lines_into (just w) lines) same
 
 pub cell_out : (nodes : ℕ) (lines : List FlowLine) (into out : List ℕ) (v : ℕ) → AreNodeFlows nodes lines into out
     → IsCellOf nodes v → at_node out v ≡ lines_out_of (just v) lines
 cell_out nodes lines into out v f at =
     let same : v - 1 + 1 ≡ v = omega (arith, at.0) in
-    f.tallied.leaving (v - 1) (omega (arith, at.0, at.1)) ∙ ap (λ w. lines_out_of (just w) lines) same
+    f.leaving (v - 1) (omega (arith, at.0, at.1)) ∙ ap (λ w. lines_out_of (just w) lines) same
 
--- the sums of the sources' cells
-pub sources_out : (p : Instance) (lines : List FlowLine) (into out : List ℕ) → IsProblem p
-    → AreNodeFlows p.net.nodes lines into out → sum_by (at_node out) p.sources ≡ lines_out_of (one_of p.sources) lines
-sources_out p lines into out t f =
-    sum_of_all (λ a b. a) lines (at_node out) p.sources (λ v e. cell_out p.net.nodes lines into out v f
-    (node_among p.net p.sources v t.terminals.sources_within e)) (distinct_front p.sources p.sinks t.terminals.distinct)
+-- the sums of the cells of nodes, none twice
+pub out_at : (n : ℕ) (ws : List ℕ) (lines : List FlowLine) (into out : List ℕ) → All (IsCellOf n) ws → AreDistinct ws
+    → AreNodeFlows n lines into out → sum_by (at_node out) ws ≡ lines_out_of (one_of ws) lines
+out_at n ws lines into out w d f =
+    sum_of_all (λ a b. a) lines (at_node out) ws (λ v e. cell_out n lines into out v f
+    (node_among (record { nodes = n; arcs = [] }) ws v w e)) d
 
-pub sources_into : (p : Instance) (lines : List FlowLine) (into out : List ℕ) → IsProblem p
-    → AreNodeFlows p.net.nodes lines into out → sum_by (at_node into) p.sources ≡ lines_into (one_of p.sources) lines
-sources_into p lines into out t f =
-    sum_of_all (λ a b. b) lines (at_node into) p.sources (λ v e. cell_into p.net.nodes lines into out v f
-    (node_among p.net p.sources v t.terminals.sources_within e)) (distinct_front p.sources p.sinks t.terminals.distinct)
+pub into_at : (n : ℕ) (ws : List ℕ) (lines : List FlowLine) (into out : List ℕ) → All (IsCellOf n) ws → AreDistinct ws
+    → AreNodeFlows n lines into out → sum_by (at_node into) ws ≡ lines_into (one_of ws) lines
+into_at n ws lines into out w d f =
+    sum_of_all (λ a b. b) lines (at_node into) ws (λ v e. cell_into n lines into out v f
+    (node_among (record { nodes = n; arcs = [] }) ws v w e)) d
 
--- which have room in a signed number
-pub sources_fit : (p : Instance) (lines : List FlowLine) (into out : List ℕ) → IsProblem p
-    → AreNodeFlows p.net.nodes lines into out → All (IsLineWithin p.net.nodes) lines
-    → length lines ≤ MOST_FLOW_LINES
-    → (sum_by (at_node into) p.sources < 2 ^ 127) × (sum_by (at_node out) p.sources < 2 ^ 127)
-sources_fit p lines into out t f w few = (
-  omega (
-    arith,
-    sources_into p lines into out t f,
-    line_flow-most (λ u v. one_of p.sources v) p.net.nodes lines w,
-    few,
-  ),
-  omega (arith, sources_out p lines into out t f, line_flow-most (λ u v. one_of p.sources u) p.net.nodes lines w, few),
-)
+-- a beginning of a list without repetition has none
+pub distinct_front : (xs ys : List ℕ) → AreDistinct (xs ++ ys) → AreDistinct xs
+distinct_front xs ys d i j l k e =
+    d i j l (omega (arith, length-append xs ys))
+    (get_or_append_left xs ys 0 i (omega arith) ∙ e ∙ sym (get_or_append_left xs ys 0 j k))
 
 -- ---- the balance at the nodes
 

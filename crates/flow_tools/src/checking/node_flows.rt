@@ -1,52 +1,111 @@
-//! What the flow lines of a solution add up to at each node.
-ghost use Rattle.std.specs.Prelude.{◌≡◌, ℕ, ◌+◌, ◌-◌, ◌<◌, ◌≤◌, ◌^◌, ◌||◌, List, length, slice_index, slice_set};
-ghost use Rattle.std.specs.Prelude.{sum_by, replicate, IfOk, MatchOption};
+//! What flow lines add up to at each node.
+ghost use Rattle.std.specs.Prelude.{◌≡◌, ℕ, [], ◌+◌, ◌-◌, ◌-ℤ◌, ◌<◌, ◌≤◌, ◌^◌, ◌||◌, List, pos, length, slice_index};
+ghost use Rattle.std.specs.Prelude.{slice_set, sum_by, IfOk, IfSome, MatchOption};
 ghost use Rattle.std.specs.List.{All};
 ghost use Rattle.flow_net.specs.declared.limits.TheConstants.{MOST_NODES};
+ghost use Rattle.flow_net.specs.Nets.{Instance};
+ghost use Rattle.flow_net.specs.Limits.{AreTerminals, AreDistinct};
 ghost use Rattle.flow_net.specs.NodeSets.{one_of};
 ghost use Rattle.flow_net.specs.MarkedNodes.{marked};
 ghost use Rattle.flow_text.specs.SolutionReading.{IsLineWithin};
 ghost use Rattle.flow_text.specs.declared.limits.TheConstants.{MOST_FLOW_LINES};
 ghost use Rattle.flow_text.specs.declared.solutions.FlowLine.{FlowLine};
-ghost use Rattle.flow_tools.specs.checking.SolutionFlows.{net_outflow};
+ghost use Rattle.flow_tools.specs.checking.SolutionFlows.{lines_into, lines_out_of};
 ghost use Rattle.flow_tools.specs.checking.Verdicts.{IsBalanced};
 ghost use Rattle.flow_tools.specs.checking.FirstFaults.{IsFirstUnbalanced};
-ghost use Rattle.flow_tools.specs.checking.NodeSums.{IsCellOf, AreNodeFlows, HaveTallied, at_node, IsFirstUnequal};
+ghost use Rattle.flow_tools.specs.checking.NodeSums.{IsCellOf, AreNodeFlows, HaveOneMore, at_node, IsFirstUnequal};
 ghost use Rattle.flow_tools.specs.checking.NodeSums.{AreEqualUnless};
 
 use crate::cells::filled;
-use flow_net::{OutOfMemory, Problem};
+use flow_net::{Network, OutOfMemory};
 use flow_text::FlowLine;
 use std::alloc::Global;
 
 /// What enters each node and what leaves it, cell `v - 1` for node `v`.
 #[derive(Drop)]
-pub(crate) struct NodeFlows {
+pub struct NodeFlows {
+    /// What enters each node.
     pub into: Vec<u128>,
+    /// What leaves each node.
     pub out: Vec<u128>,
 }
 
 /// Adds a flow to a node's cell.
-fn add(cells: &mut [u128], node: u32, flow: u64)
-    requires node { IsCellOf (length cells.old) node }
-    requires fits { slice_index cells.old (node - 1) + flow < 2 ^ 128 }
-    ensures { cells.new ≡ slice_set cells.old (node - 1) (slice_index cells.old (node - 1) + flow) }
+fn raise(cells: &mut Vec<u128>, node: u32, flow: u64)
+    requires node { IsCellOf (length cells.old.items) node }
+    requires fits { slice_index cells.old.items (node - 1) + flow < 2 ^ 128 }
+    ensures { let old = cells.old.items in
+        cells.new.items ≡ slice_set old (node - 1) (slice_index old (node - 1) + flow) }
 {
     let i = node as usize - 1;
     cells[i] += flow as u128;
 }
 
-/// Adds each line's flow to the cells of its two nodes.
-fn tally(lines: &[FlowLine], into: &mut [u128], out: &mut [u128])
-    requires zero_into { into.old ≡ replicate (length into.old) 0 }
-    requires zero_out { out.old ≡ replicate (length into.old) 0 }
-    requires few { length lines.now ≤ MOST_FLOW_LINES }
-    requires within { All (IsLineWithin (length into.old)) lines.now }
-    ensures { HaveTallied (length into.old) lines.now into.new out.new }
-{
-    for line in lines {
-        add(into, line.dst, line.flow);
-        add(out, line.src, line.flow);
+impl NodeFlows {
+    /// The sums of no lines.
+    ///
+    /// # Errors
+    ///
+    /// `OutOfMemory` where the memory, 32 bytes for each node, was refused.
+    pub fn new(alloc: Global, nodes: u32) -> Result<NodeFlows, OutOfMemory>
+        ensures { IfOk result (λ flows. AreNodeFlows nodes [] flows.into.items flows.out.items) }
+    {
+        let into = filled(alloc, 0u128, nodes as usize)?;
+        let out = filled(alloc, 0u128, nodes as usize)?;
+        Ok(NodeFlows { into, out })
+    }
+
+    /// Adds a line's flow to the cells of its two nodes.
+    pub fn add(&mut self, line: FlowLine)
+        requires dst { IsCellOf (length self.old.into.items) line.dst }
+        requires src { IsCellOf (length self.old.out.items) line.src }
+        requires into_fits { slice_index self.old.into.items (line.dst - 1) + line.flow < 2 ^ 128 }
+        requires out_fits { slice_index self.old.out.items (line.src - 1) + line.flow < 2 ^ 128 }
+        ensures { (n : ℕ) (lines more : List FlowLine) → HaveOneMore lines line more
+            → AreNodeFlows n lines self.old.into.items self.old.out.items
+            → AreNodeFlows n more self.new.into.items self.new.out.items }
+    {
+        raise(&mut self.into, line.dst, line.flow);
+        raise(&mut self.out, line.src, line.flow);
+    }
+
+    /// The least node, neither source nor sink, of which what enters it isn't what leaves it.
+    ///
+    /// # Errors
+    ///
+    /// `OutOfMemory` where the memory, a byte for each node, was refused.
+    pub fn first_unbalanced(
+        &self,
+        alloc: Global,
+        net: &Network,
+        s: &[u32],
+        t: &[u32],
+    ) -> Result<Option<u32>, OutOfMemory>
+        requires into { length self.now.into.items ≡ net.now.nodes }
+        requires out { length self.now.out.items ≡ net.now.nodes }
+        requires terminals { AreTerminals net.now s.now t.now }
+        ensures node { IfOk result (λ found. IfSome found (IsCellOf net.now.nodes)) }
+        ensures balance { let p : Instance = record { net = net.now; sources = s.now; sinks = t.now } in
+            (lines : List FlowLine) → AreNodeFlows net.now.nodes lines self.now.into.items self.now.out.items
+            → IfOk result (λ found. MatchOption found (IsBalanced p lines) (IsFirstUnbalanced p lines)) }
+    {
+        let marks = terminals(alloc, net, s, t)?;
+        Ok(first_unequal(marks.as_slice(), self.into.as_slice(), self.out.as_slice()))
+    }
+
+    /// What leaves some nodes, none twice, less what enters them.
+    pub fn outflow_of(&self, nodes: &[u32]) -> i128
+        requires same { length self.now.out.items ≡ length self.now.into.items }
+        requires within { All (IsCellOf (length self.now.into.items)) nodes.now }
+        requires distinct { AreDistinct nodes.now }
+        requires fit { (sum_by (at_node self.now.into.items) nodes.now < 2 ^ 127)
+            × (sum_by (at_node self.now.out.items) nodes.now < 2 ^ 127) }
+        ensures { (n : ℕ) (lines : List FlowLine) → AreNodeFlows n lines self.now.into.items self.now.out.items
+            → result ≡ pos (lines_out_of (one_of nodes.now) lines) -ℤ pos (lines_into (one_of nodes.now) lines) }
+    {
+        let out = sum_at(self.out.as_slice(), nodes);
+        let into = sum_at(self.into.as_slice(), nodes);
+        out as i128 - into as i128
     }
 }
 
@@ -60,10 +119,11 @@ pub(crate) fn node_flows(
     requires within { All (IsLineWithin nodes) lines.now }
     ensures { IfOk result (λ flows. AreNodeFlows nodes lines.now flows.into.items flows.out.items) }
 {
-    let mut into = filled(alloc, 0u128, nodes as usize)?;
-    let mut out = filled(alloc, 0u128, nodes as usize)?;
-    tally(lines, into.as_mut_slice(), out.as_mut_slice());
-    Ok(NodeFlows { into, out })
+    let mut flows = NodeFlows::new(alloc, nodes)?;
+    for line in lines {
+        flows.add(*line);
+    }
+    Ok(flows)
 }
 
 /// Marks the nodes of a list.
@@ -77,15 +137,15 @@ fn mark(cells: &mut [bool], nodes: &[u32])
 }
 
 /// Marks the sources and the sinks, cell `v - 1` for node `v`.
-fn terminals(alloc: Global, problem: &Problem) -> Result<Vec<bool>, OutOfMemory>
-    ensures len { IfOk result (λ cells. length cells.items ≡ problem.now.net.nodes) }
+fn terminals(alloc: Global, net: &Network, s: &[u32], t: &[u32]) -> Result<Vec<bool>, OutOfMemory>
+    requires { AreTerminals net.now s.now t.now }
+    ensures len { IfOk result (λ cells. length cells.items ≡ net.now.nodes) }
     ensures few { IfOk result (λ cells. length cells.items ≤ MOST_NODES) }
-    ensures marked { IfOk result (λ cells. (v : ℕ) → marked cells.items v
-        ≡ (one_of problem.now.sources v || one_of problem.now.sinks v)) }
+    ensures marked { IfOk result (λ cells. (v : ℕ) → marked cells.items v ≡ (one_of s.now v || one_of t.now v)) }
 {
-    let mut cells = filled(alloc, false, problem.net().nodes() as usize)?;
-    mark(cells.as_mut_slice(), problem.sources());
-    mark(cells.as_mut_slice(), problem.sinks());
+    let mut cells = filled(alloc, false, net.nodes() as usize)?;
+    mark(cells.as_mut_slice(), s);
+    mark(cells.as_mut_slice(), t);
     Ok(cells)
 }
 
@@ -105,27 +165,6 @@ fn first_unequal(marks: &[bool], into: &[u128], out: &[u128]) -> Option<u32>
     None
 }
 
-/// The least node, neither source nor sink, of which what enters it isn't what leaves it.
-pub(crate) fn first_unbalanced(
-    alloc: Global,
-    problem: &Problem,
-    flows: &NodeFlows,
-) -> Result<Option<u32>, OutOfMemory>
-    requires into { length flows.now.into.items ≡ problem.now.net.nodes }
-    requires out { length flows.now.out.items ≡ problem.now.net.nodes }
-    ensures { (lines : List FlowLine)
-        → AreNodeFlows problem.now.net.nodes lines flows.now.into.items flows.now.out.items
-        → IfOk result (λ found.
-        MatchOption found (IsBalanced problem.now lines) (IsFirstUnbalanced problem.now lines)) }
-{
-    let marks = terminals(alloc, problem)?;
-    Ok(first_unequal(
-        marks.as_slice(),
-        flows.into.as_slice(),
-        flows.out.as_slice(),
-    ))
-}
-
 /// The sum of the cells of some nodes.
 fn sum_at(cells: &[u128], nodes: &[u32]) -> u128
     requires within { All (IsCellOf (length cells.now)) nodes.now }
@@ -137,19 +176,4 @@ fn sum_at(cells: &[u128], nodes: &[u32]) -> u128
         sum += cells[*node as usize - 1];
     }
     sum
-}
-
-/// What leaves the sources less what enters them.
-pub(crate) fn outflow_of_sources(problem: &Problem, flows: &NodeFlows) -> i128
-    requires into { length flows.now.into.items ≡ problem.now.net.nodes }
-    requires out { length flows.now.out.items ≡ problem.now.net.nodes }
-    requires fit { (sum_by (at_node flows.now.into.items) problem.now.sources < 2 ^ 127)
-        × (sum_by (at_node flows.now.out.items) problem.now.sources < 2 ^ 127) }
-    ensures { (lines : List FlowLine)
-        → AreNodeFlows problem.now.net.nodes lines flows.now.into.items flows.now.out.items
-        → result ≡ net_outflow problem.now lines }
-{
-    let out = sum_at(flows.out.as_slice(), problem.sources());
-    let into = sum_at(flows.into.as_slice(), problem.sources());
-    out as i128 - into as i128
 }

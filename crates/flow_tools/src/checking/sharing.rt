@@ -97,7 +97,7 @@ fn ordered_lines(alloc: Global, lines: &[FlowLine]) -> Result<Vec<FlowLine>, Out
 }
 
 /// Puts as much of an amount on an arc as it has room for, and answers what is left.
-fn fill(net: &Network, arc: u32, amount: u64, flow: &mut FlowTable) -> u64
+pub fn fill(net: &Network, arc: u32, amount: u64, flow: &mut FlowTable) -> u64
     requires fits { Fits net.now flow.old.flows }
     requires in_range { arc < length net.now.arcs }
     ensures fits { Fits net.now flow.new.flows }

@@ -9,8 +9,8 @@ new-requires c =
     let net = c.in_ok-net.ensures.net in
     let both = c.in_ok-s.ensures in
     let nodes = ap (λ n. n.nodes) net in
-    let s = ap length both.sources ∙ length-map c.args.sources.now (λ v. suc v) in
-    let t = ap length both.sinks ∙ length-map c.args.sinks.now (λ v. suc v) in
+    let s = ap length both.sources ∙ length-map c.args.lent.sources.now (λ v. suc v) in
+    let t = ap length both.sinks ∙ length-map c.args.lent.sinks.now (λ v. suc v) in
     record {
       some_source = first_of (search rules, grind (arith, common_steps));
       some_sink = first_of (search rules, grind (arith, common_steps));

@@ -5,6 +5,5 @@ use Rattle.flow_c.proofs.solving.count_links.Goals as goal
 
 pub into_problem-requires : goal.into_problem-requires
 into_problem-requires c =
-    let count = arcs_of c.in_ok-network.network c.args.nodes c.args.src.now c.args.dst.now c.as_slice.result.now
-    c.args.sources.now c.args.sinks.now c.in_ok-network.ensures.network in
-    let few = c.if-src.false in omega (arith, count, few)
+    let count = arcs_of c.in_ok-network.network c.args.lent c.as_slice.result.now c.in_ok-network.ensures.network in
+    let few = c.if-lent.false in omega (arith, count, few)

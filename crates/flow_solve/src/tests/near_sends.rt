@@ -3,7 +3,7 @@
 use super::trees::add_random_arcs;
 use super::*;
 use crate::levels::allowance;
-use crate::levels::near_sends::send_near;
+use crate::levels::near_sends::{Sent, send_near};
 
 /// Near sends alone, and how much they may take.
 #[derive(Drop)]
@@ -11,7 +11,11 @@ pub(super) struct Near(pub(super) u64);
 
 impl Stage for Near {
     fn run(&self, task: Task<'_>, flow: &mut FlowTable, cells: &mut [u32]) -> u128 {
-        send_near(task, flow, cells, 0, self.0).value
+        let begun = Sent {
+            value: 0,
+            left: self.0,
+        };
+        send_near(task, flow, cells, begun).value
     }
 }
 

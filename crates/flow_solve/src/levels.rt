@@ -64,7 +64,7 @@ use crate::method::Method;
 use crate::solving::{Raise, solve};
 use crate::task::{Given, Task};
 use flow_net::{FlowTable, Network};
-use near_sends::send_near;
+use near_sends::{Sent, send_near};
 use phases::run_phases;
 use trees::grow_trees;
 use waves::send_waves;
@@ -146,7 +146,7 @@ impl Raise for Levels {
     fn raise(task: Task<'_>, flow: &mut FlowTable, cells: &mut [u32], value: u128) -> u128 {
         let net = task.packed.net;
         let given = allowance(net);
-        let sent = send_near(task, flow, cells, value, given);
+        let sent = send_near(task, flow, cells, Sent { value, left: given });
         let Shares { trees, waves } = share_out(net, given, sent.left);
         let grown = grow_trees(task, flow, cells, sent.value, trees);
         if grown.is_finished {

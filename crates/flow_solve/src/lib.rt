@@ -23,8 +23,8 @@
 //! | `2·m` | the half-arcs, those of a node side by side |
 //! | `1` | spare |
 //!
-//! Labels, levels, parents, lists and excess, as trees, waves and forests keep them in these cells, are *hints*: nothing
-//! is claimed of them. A push is held to what looks have shown to remain, and what waves leave is tested.
+//! Labels, levels, parents, lists and excess, as trees, waves and forests keep them in these cells, are *hints*:
+//! nothing is claimed of them. A push is held to what looks have shown to remain, and what waves leave is tested.
 #![tactic(auto)]
 
 mod forests;

@@ -199,7 +199,8 @@ fn solve_and_search<M: Method>(
     ensures least { IsLeastCapacity given.entry.net.now (one_of given.entry.s.now) (one_of given.entry.t.now) result }
     ensures side { IsLeastSide direction given.entry.net.now given.entry.s.now given.entry.t.now flow.new.flows
         (seen (take given.entry.net.now.nodes work.new)) }
-    ensures steps { TakesSteps flow.old flow.new (M.steps_bound given.entry.net.now + 2 * length given.entry.net.now.arcs) }
+    ensures steps { TakesSteps flow.old flow.new
+        (M.steps_bound given.entry.net.now + 2 * length given.entry.net.now.arcs) }
     ensures rest { drop (work_cells given.entry.net.now) work.new ≡ drop (work_cells given.entry.net.now) work.old }
 {
     let value = M::greatest(given.net, given.s, given.t, flow, work);

@@ -1,10 +1,11 @@
 -- Near sends: the half-arcs that they begin and end with.
-use Rattle.std.specs.Prelude.{◌≡◌, ◌≢◌, ℕ, ◌+◌, ◌*◌, ◌<◌, IsTrue, List, length, slice_index}
+use Rattle.std.specs.Prelude.{◌≡◌, ◌≢◌, ℕ, ◌+◌, ◌*◌, ◌<◌, ◌≤◌, IsTrue, List, length, slice_index}
 use Rattle.flow_net.specs.Nets.{Net}
 use Rattle.flow_net.specs.NodeSets.{one_of}
 use Rattle.flow_net.specs.Residual.{Table, tail_of, head_of}
-use Rattle.flow_solve.specs.declared.levels.near_sends.Sent.{Sent}
+use Rattle.flow_solve.specs.declared.levels.near_sends.Sending.{Sending}
 use Rattle.flow_solve.specs.declared.task.Task.{Task}
+use Rattle.flow_solve.specs.Steps.{PaysSteps}
 use Rattle.flow_solve.specs.Task.{HasFlow, IsTask}
 
 -- a half-arc that leads from a source to another node
@@ -26,7 +27,19 @@ pub record AreLast (net : Net) (t last : List ℕ) : Type 0 where
       → LeadsToSink net t (p + 1) (slice_index last p)
 
 -- a task, a flow of some value, and last half-arcs
-pub record IsSending (job : Task) (table : Table) (sent : Sent) (cells : List ℕ) : Type 0 where
-  pub task : IsTask job
-  pub flow : HasFlow job table.flows sent.value
-  pub last : AreLast job.packed.net.now job.t.now cells
+pub record IsSending (table : Table) (sending : Sending) : Type 0 where
+  pub task : IsTask sending.task
+  pub flow : HasFlow sending.task table.flows sending.value
+  pub last : AreLast sending.task.packed.net.now sending.task.t.now sending.last.now
+
+-- the same task, and cells in the same place
+pub record StaysAt (before after : Sending) : Type 0 where
+  pub task : after.task ≡ before.task
+  pub last : after.last.ghost_name ≡ before.last.ghost_name
+
+-- Sends go on: the task has a flow still, the steps taken are paid, and no more may be done than before.
+pub record GoesOn (before : Table) (old : Sending) (given : ℕ) (after : Table) (new : Sending) : Type 0 where
+  pub sending : IsSending after new
+  pub stays : StaysAt old new
+  pub paid : PaysSteps before given after new.left
+  pub left : new.left ≤ old.left

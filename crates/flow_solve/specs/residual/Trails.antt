@@ -25,9 +25,12 @@ pub record AreTrails (net : Net) (flows dist via : List ℕ) : Type 0 where
   pub come : (p : ℕ) → p < net.nodes → IsMarked dist p → 1 ≤ slice_index dist p → IsCome net flows Backwards dist via p
   pub levels : (p : ℕ) → p < net.nodes → IsMarked dist p → slice_index dist p < net.nodes
 
--- the half-arcs of a trail
+-- the half-arcs of a trail: those from one of its nodes, and all of them
+abbrev pub halves_from : Trail → ℕ → List ℕ
+halves_from t v = trail_from t.net.now t.dist.now t.via.now v
+
 abbrev pub halves_on : Trail → List ℕ
-halves_on t = trail_from t.net.now t.dist.now t.via.now t.source
+halves_on t = halves_from t t.source
 
 -- It is one of such a flow, from a node that the search has seen.
 pub record IsTrail (t : Trail) (flows : List ℕ) : Type 0 where

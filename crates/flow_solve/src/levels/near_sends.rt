@@ -14,7 +14,7 @@ ghost use Rattle.flow_solve.specs.residual.Packs.{IsPacked};
 ghost use Rattle.flow_solve.specs.Task.{HasFlow, IsTask, KeepsFlow};
 ghost use Rattle.flow_solve.specs.Steps.{OnlyLooks, TakesSteps};
 ghost use Rattle.flow_solve.specs.levels.Carrying.{IsCarried};
-ghost use Rattle.flow_solve.specs.levels.NearSends.{AreLast, IsFirst, IsSending};
+ghost use Rattle.flow_solve.specs.levels.NearSends.{AreLast, GoesOn, IsFirst, IsSending};
 
 use crate::levels::spending::spend;
 use crate::residual::half_arcs::{head, twin};
@@ -35,6 +35,19 @@ pub struct Sent {
     pub value: u128,
     /// How many steps may still be taken, and half-arcs passed by.
     pub left: u64,
+}
+
+/// Near sends under way.
+#[derive(Drop)]
+struct Sending<'a, 'c> {
+    /// What is worked on.
+    task: Task<'a>,
+    /// The last half-arc of each node.
+    last: &'c mut [u32],
+    /// The flow's value.
+    value: u128,
+    /// How many steps may still be taken, and half-arcs passed by.
+    left: u64,
 }
 
 /// Sets the last half-arcs of the nodes next to a sink.
@@ -117,32 +130,24 @@ fn fit_last(task: Task<'_>, flow: &mut FlowTable, last: &mut [u32], node: u32, m
 
 /// Sends on over the last half-arc of a node, at most so much, what comes there over a source's half-arc. Answers how
 /// much that is.
-fn send_over_one(
-    task: Task<'_>,
-    flow: &mut FlowTable,
-    sent: &mut Sent,
-    last: &mut [u32],
-    first: u32,
-    most: u64,
-) -> u64
-    requires sending { IsSending task flow.old sent.old last.old }
-    requires first { IsFirst task first }
-    requires most { most ≤ residual task.packed.net.now flow.old.flows first }
-    ensures flow { KeepsFlow task.entry flow.old sent.old.left flow.new sent.new.value sent.new.left }
-    ensures last { AreLast task.entry.packed.net.now task.entry.t.now last.new }
+fn send_over_one(flow: &mut FlowTable, sending: &mut Sending<'_, '_>, first: u32, most: u64) -> u64
+    requires sending { IsSending flow.old sending.old }
+    requires first { IsFirst sending.old.task first }
+    requires most { most ≤ residual sending.old.task.packed.net.now flow.old.flows first }
+    ensures going { GoesOn flow.old sending.old sending.old.left flow.new sending.new }
     ensures sent { result ≤ most }
-    ensures room { most ≤ result + residual task.entry.packed.net.now flow.new.flows first }
+    ensures room { most ≤ result + residual sending.old.task.packed.net.now flow.new.flows first }
 {
-    let packed = task.packed;
+    let packed = sending.task.packed;
     let node = head(packed.net, first);
-    let end = last[node as usize - 1];
-    if end as usize >= packed.halves.len() || first / 2 == end / 2 || !spend(&mut sent.left, 3) {
+    let end = sending.last[node as usize - 1];
+    if end as usize >= packed.halves.len() || first / 2 == end / 2 || !spend(&mut sending.left, 3) {
         return 0;
     }
-    let amount = fit_last(task, flow, last, node, most);
+    let amount = fit_last(sending.task, flow, sending.last, node, most);
     carry(packed.net, flow, first, amount);
     carry(packed.net, flow, end, amount);
-    sent.value += u128::from(amount);
+    sending.value += u128::from(amount);
     amount
 }
 
@@ -156,71 +161,69 @@ fn are_apart(first: u32, between: u32, end: u32) -> bool
 /// Sends on along an arc and then over the last half-arc of the node that it leads to, at most so much, what comes over
 /// a source's half-arc to the node that it leaves. Answers how much that is.
 fn send_over_two(
-    task: Task<'_>,
     flow: &mut FlowTable,
-    sent: &mut Sent,
-    last: &mut [u32],
+    sending: &mut Sending<'_, '_>,
     first: u32,
     between: u32,
     most: u64,
 ) -> u64
-    requires sending { IsSending task flow.old sent.old last.old }
-    requires first { IsFirst task first }
-    requires between { between < 2 * length task.packed.net.now.arcs }
-    requires on { tail_of task.packed.net.now between ≡ head_of task.packed.net.now first }
-    requires apart { tail_of task.packed.net.now between ≢ head_of task.packed.net.now between }
-    requires most { most ≤ residual task.packed.net.now flow.old.flows first }
-    ensures flow { KeepsFlow task.entry flow.old (sent.old.left + 1) flow.new sent.new.value sent.new.left }
-    ensures left { sent.new.left ≤ sent.old.left }
-    ensures last { AreLast task.entry.packed.net.now task.entry.t.now last.new }
+    requires sending { IsSending flow.old sending.old }
+    requires first { IsFirst sending.old.task first }
+    requires between { between < 2 * length sending.old.task.packed.net.now.arcs }
+    requires on { tail_of sending.old.task.packed.net.now between ≡ head_of sending.old.task.packed.net.now first }
+    requires apart { tail_of sending.old.task.packed.net.now between
+        ≢ head_of sending.old.task.packed.net.now between }
+    requires most { most ≤ residual sending.old.task.packed.net.now flow.old.flows first }
+    ensures going { GoesOn flow.old sending.old (sending.old.left + 1) flow.new sending.new }
     ensures sent { result ≤ most }
-    ensures room { most ≤ result + residual task.entry.packed.net.now flow.new.flows first }
+    ensures room { most ≤ result + residual sending.old.task.packed.net.now flow.new.flows first }
 {
-    let packed = task.packed;
+    let packed = sending.task.packed;
     // Against an arc something remains only where it was just sent, and to read its end would be one more far read.
     if between % 2 == 1 {
         return 0;
     }
     let node = head(packed.net, between);
-    let end = last[node as usize - 1];
+    let end = sending.last[node as usize - 1];
     if end as usize >= packed.halves.len() {
         return 0;
     }
     let (_, room) = flow.look(packed.net, between);
-    if room == 0 || !are_apart(first, between, end) || !spend(&mut sent.left, 4) {
+    if room == 0 || !are_apart(first, between, end) || !spend(&mut sending.left, 4) {
         return 0;
     }
-    let amount = fit_last(task, flow, last, node, room.min(most));
+    let amount = fit_last(sending.task, flow, sending.last, node, room.min(most));
     carry(packed.net, flow, first, amount);
     carry(packed.net, flow, between, amount);
     carry(packed.net, flow, end, amount);
-    sent.value += u128::from(amount);
+    sending.value += u128::from(amount);
     amount
 }
 
 /// Sends what remains on a source's half-arc over one node and over two.
-fn send_over(task: Task<'_>, flow: &mut FlowTable, sent: &mut Sent, last: &mut [u32], first: u32)
-    requires sending { IsSending task flow.old sent.old last.old }
-    requires first { IsFirst task first }
-    ensures flow { KeepsFlow task.entry flow.old (sent.old.left + 1) flow.new sent.new.value sent.new.left }
-    ensures left { sent.new.left ≤ sent.old.left }
-    ensures last { AreLast task.entry.packed.net.now task.entry.t.now last.new }
+fn send_over(flow: &mut FlowTable, sending: &mut Sending<'_, '_>, first: u32)
+    requires sending { IsSending flow.old sending.old }
+    requires first { IsFirst sending.old.task first }
+    ensures { GoesOn flow.old sending.old (sending.old.left + 1) flow.new sending.new }
 {
-    let packed = task.packed;
+    let packed = sending.task.packed;
     let (_, mut room) = flow.look(packed.net, first);
     let node = head(packed.net, first);
-    if room == 0 || last[node as usize - 1] == BARRED {
+    if room == 0 || sending.last[node as usize - 1] == BARRED {
         return;
     }
-    room -= send_over_one(task, flow, sent, last, first, room);
+    room -= send_over_one(flow, sending, first, room);
+    if room == 0 {
+        return;
+    }
     let begin = packed.first[node as usize - 1];
     let end = packed.first[node as usize];
-    if room == 0 || !spend(&mut sent.left, u64::from(end - begin)) {
+    if !spend(&mut sending.left, u64::from(end - begin)) {
         return;
     }
     for spot in begin..end {
         let between = packed.halves[spot as usize];
-        room -= send_over_two(task, flow, sent, last, first, between, room);
+        room -= send_over_two(flow, sending, first, between, room);
         if room == 0 {
             return;
         }
@@ -228,19 +231,18 @@ fn send_over(task: Task<'_>, flow: &mut FlowTable, sent: &mut Sent, last: &mut [
 }
 
 /// Sends what can leave a source.
-fn send_from(task: Task<'_>, flow: &mut FlowTable, sent: &mut Sent, last: &mut [u32], source: u32)
-    requires sending { IsSending task flow.old sent.old last.old }
-    requires source { IsNode task.packed.net.now source }
-    requires is_source { IsTrue (one_of task.s.now source) }
-    ensures flow { KeepsFlow task.entry flow.old sent.old.left flow.new sent.new.value sent.new.left }
-    ensures last { AreLast task.entry.packed.net.now task.entry.t.now last.new }
+fn send_from(flow: &mut FlowTable, sending: &mut Sending<'_, '_>, source: u32)
+    requires sending { IsSending flow.old sending.old }
+    requires source { IsNode sending.old.task.packed.net.now source }
+    requires is_source { IsTrue (one_of sending.old.task.s.now source) }
+    ensures { GoesOn flow.old sending.old sending.old.left flow.new sending.new }
 {
-    let packed = task.packed;
+    let packed = sending.task.packed;
     let begin = packed.first[source as usize - 1];
     let end = packed.first[source as usize];
-    if spend(&mut sent.left, u64::from(end - begin)) {
+    if spend(&mut sending.left, u64::from(end - begin)) {
         for spot in begin..end {
-            send_over(task, flow, sent, last, packed.halves[spot as usize]);
+            send_over(flow, sending, packed.halves[spot as usize]);
         }
     }
 }
@@ -251,22 +253,27 @@ pub fn send_near(
     task: Task<'_>,
     flow: &mut FlowTable,
     cells: &mut [u32],
-    value: u128,
-    allowance: u64,
+    begun: Sent,
 ) -> Sent
     requires task { IsTask task }
     requires size { task.packed.net.now.nodes ≤ length cells.old }
-    requires flow { HasFlow task flow.old.flows value }
-    ensures { KeepsFlow task.entry flow.old allowance flow.new result.value result.left }
+    requires flow { HasFlow task flow.old.flows begun.value }
+    ensures { KeepsFlow task.entry flow.old begun.left flow.new result.value result.left }
 {
     let (last, _) = cells.split_at_mut(task.packed.net.nodes() as usize);
     set_last(task, last);
-    let mut sent = Sent {
+    let Sent { value, left } = begun;
+    let mut sending = Sending {
+        task,
+        last,
         value,
-        left: allowance,
+        left,
     };
     for source in task.s {
-        send_from(task, flow, &mut sent, last, *source);
+        send_from(flow, &mut sending, *source);
     }
-    sent
+    Sent {
+        value: sending.value,
+        left: sending.left,
+    }
 }

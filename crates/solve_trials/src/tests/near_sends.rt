@@ -9,7 +9,11 @@ pub(super) struct Near(pub(super) u64);
 
 impl Stage for Near {
     fn run(&self, task: Task<'_>, flow: &mut FlowTable, cells: &mut [u32]) -> u128 {
-        send_near(task, flow, cells, 0, self.0).value
+        let begun = Sent {
+            value: 0,
+            left: self.0,
+        };
+        send_near(task, flow, cells, begun).value
     }
 }
 

@@ -7,7 +7,7 @@ use Rattle.flow_net.specs.Nets.{IsNode}
 use Rattle.flow_net.specs.Flows.{Fits}
 use Rattle.flow_net.specs.Paths.{HasRoom}
 use Rattle.flow_solve.specs.residual.Searches.{IsMarked}
-use Rattle.flow_solve.specs.residual.Trails.{trail_from}
+use Rattle.flow_solve.specs.residual.Trails.{halves_from, halves_on}
 use Rattle.flow_solve.proofs.paths.least_room.Given as goal
 
 abbrev pub invariant-loop-node : goal.invariant-loop-node
@@ -16,12 +16,13 @@ invariant-loop-node l = record {
   flows : l.flow.flows ≡ l.fn.flow.flows;
   node : IsNode l.trail.net.now l.node;
   marked : IsMarked l.trail.dist.now (l.node - 1);
-  ahead : (k : ℕ) → k ≤ l.least → HasRoom l.trail.net.now l.fn.flow.flows k (trail_from l.trail.net.now l.trail.dist.now l.trail.via.now l.node)
-      → HasRoom l.trail.net.now l.fn.flow.flows k (trail_from l.trail.net.now l.trail.dist.now l.trail.via.now l.trail.source);
-  most : (k : ℕ) → k ≤ GREATEST_CAPACITY → HasRoom l.trail.net.now l.fn.flow.flows k (trail_from l.trail.net.now l.trail.dist.now l.trail.via.now l.trail.source)
-      → (k ≤ l.least) × HasRoom l.trail.net.now l.fn.flow.flows k (trail_from l.trail.net.now l.trail.dist.now l.trail.via.now l.node);
+  ahead : (k : ℕ) → k ≤ l.least → HasRoom l.trail.net.now l.fn.flow.flows k (halves_from l.trail l.node)
+      → HasRoom l.trail.net.now l.fn.flow.flows k (halves_on l.trail);
+  most : (k : ℕ) → k ≤ GREATEST_CAPACITY → HasRoom l.trail.net.now l.fn.flow.flows k (halves_on l.trail)
+      → (k ≤ l.least) × HasRoom l.trail.net.now l.fn.flow.flows k (halves_from l.trail l.node);
   positive : 1 ≤ l.least;
-  steps : l.flow.steps + slice_index l.trail.dist.now (l.node - 1) ≡ l.fn.flow.steps + slice_index l.trail.dist.now (l.trail.source - 1);
+  steps : l.flow.steps + slice_index l.trail.dist.now (l.node - 1)
+      ≡ l.fn.flow.steps + slice_index l.trail.dist.now (l.trail.source - 1);
 }
 
 abbrev pub decreases-loop-node : goal.decreases-loop-node

@@ -29,7 +29,8 @@ loop-node-preserved c =
     (omega (arith, c.loop-node-test.true)) in
     let to = c.head-node.ensures.head in let rest = trail_from net dist via (head_of net half) in
     let room = subst (HasRoom net c.loop-node.flow.flows d) n.parts old.room in
-    let apart = trail_apart c.requires.trail.trails c.loop-node.node half rest old.node.0 old.node.1 old.marked n.parts in
+    let apart = trail_apart c.requires.trail.trails c.loop-node.node half rest old.node.0 old.node.1 old.marked n.parts
+    in
     let level : get_or dist (c.head-node.result - 1) 0 ≡ get_or dist (head_of net half - 1) 0 =
     ap (λ v. get_or dist (v - 1) 0) to in
     record {

@@ -6,7 +6,7 @@ use Rattle.flow_net.specs.Nets.{IsNode}
 use Rattle.flow_net.specs.Flows.{Fits}
 use Rattle.flow_net.specs.Paths.{HasRoom, push_all}
 use Rattle.flow_solve.specs.residual.Searches.{IsMarked}
-use Rattle.flow_solve.specs.residual.Trails.{trail_from}
+use Rattle.flow_solve.specs.residual.Trails.{halves_from, halves_on}
 use Rattle.flow_solve.proofs.paths.push_on.Given as goal
 
 abbrev pub invariant-loop-node : goal.invariant-loop-node
@@ -14,10 +14,11 @@ invariant-loop-node l = record {
   fits : Fits l.trail.net.now l.flow.flows;
   node : IsNode l.trail.net.now l.node;
   marked : IsMarked l.trail.dist.now (l.node - 1);
-  ahead : push_all l.flow.flows (trail_from l.trail.net.now l.trail.dist.now l.trail.via.now l.node) l.amount
-      ≡ push_all l.fn.flow.flows (trail_from l.trail.net.now l.trail.dist.now l.trail.via.now l.trail.source) l.amount;
-  room : HasRoom l.trail.net.now l.flow.flows l.amount (trail_from l.trail.net.now l.trail.dist.now l.trail.via.now l.node);
-  steps : l.flow.steps + slice_index l.trail.dist.now (l.node - 1) ≡ l.fn.flow.steps + slice_index l.trail.dist.now (l.trail.source - 1);
+  ahead : push_all l.flow.flows (halves_from l.trail l.node) l.amount
+      ≡ push_all l.fn.flow.flows (halves_on l.trail) l.amount;
+  room : HasRoom l.trail.net.now l.flow.flows l.amount (halves_from l.trail l.node);
+  steps : l.flow.steps + slice_index l.trail.dist.now (l.node - 1)
+      ≡ l.fn.flow.steps + slice_index l.trail.dist.now (l.trail.source - 1);
 }
 
 abbrev pub decreases-loop-node : goal.decreases-loop-node

@@ -9,10 +9,11 @@ use Rattle.flow_solve.proofs.sides.leads_on_packed.Goals as goal
 
 pub returns-clause-side : goal.returns-clause-side
 returns-clause-side c = λ e.
-    let net = c.args.given.net.now in let cells = c.leads_on.new.cells in let behind = c.split_at_mut-cells.result.1.now in
+    let given = c.args.given in let net = given.net.now in
+    let cells = c.leads_on.new.cells in let behind = c.split_at_mut-cells.result.1.now in
     let front : take net.nodes (cells ++ behind) ≡ take net.nodes cells =
     take-append-le net.nodes cells behind (omega arith) in
-    subst (λ (zs : List ℕ). IsLeastSide c.args.direction net c.args.given.s.now c.args.given.t.now c.args.flow.now.flows (seen zs))
+    subst (λ (zs : List ℕ). IsLeastSide c.args.direction net given.s.now given.t.now c.args.flow.now.flows (seen zs))
     (sym front) (c.leads_on.ensures.side e)
 
 -- the cells past those of a solver stay, as all do behind the first 5·n

@@ -4,7 +4,7 @@ ghost use Rattle.std.specs.Prelude.{◌≡◌, ◌+◌, ◌*◌, ◌<◌, ◌≤
 ghost use Rattle.flow_net.specs.Nets.{IsNode};
 ghost use Rattle.flow_solve.specs.levels.Waves.{HasCells, HasLookedOut, HasSent, IsWaving, OnlyMarks};
 
-use super::excess::{PLACES, UNSEEN, Wave};
+use super::excess::{PLACES, UNSEEN, Wave, level_in};
 use crate::levels::spending::spend;
 use crate::residual::half_arcs::head;
 use crate::residual::packing::Packed;
@@ -101,9 +101,11 @@ fn lift(packed: Packed<'_>, flow: &mut FlowTable, wave: &mut Wave<'_>, sender: &
     let (mut least, mut found) = (most, 0);
     let mut left = wave.left;
     let mut step = 0;
+    // Where they are is read once, and not at each half-arc.
+    let cells: &[u32] = wave.cells;
     while step < end - begin && own < least && spend(&mut left, 1) {
         let half = packed.halves[spot_of(begin, end, step, sender.backwards) as usize];
-        let level = wave.level(head(packed.net, half));
+        let level = level_in(cells, head(packed.net, half));
         if own <= level && level < least && flow.look(packed.net, half).1 > 0 {
             least = level;
             found = step;

@@ -57,6 +57,13 @@ pub(super) struct Wave<'a> {
     pub lost: u32,
 }
 
+/// A node's level.
+pub(super) fn level_in(cells: &[u32], node: u32) -> u32
+    requires { (1 ≤ node) × (node ≤ length cells.now) }
+{
+    cells[node as usize - 1] % LEVELS
+}
+
 /// Where a node's excess begins, in two cells.
 fn excess_cell(nodes: u32, node: u32) -> usize
     requires { 1 ≤ node }
@@ -70,7 +77,7 @@ impl Wave<'_> {
     pub(super) fn level(&self, node: u32) -> u32
         requires { (1 ≤ node) × (node ≤ length self.now.cells.now) }
     {
-        self.cells[node as usize - 1] % LEVELS
+        level_in(self.cells, node)
     }
 
     /// A node's current place.
@@ -113,8 +120,9 @@ impl Wave<'_> {
         ensures { OnlyMarks self.old self.new }
     {
         let at = excess_cell(self.nodes, node);
-        self.cells[at] = (amount % CELL) as u32;
-        self.cells[at + 1] = (amount / CELL) as u32;
+        let cells = &mut *self.cells;
+        cells[at] = (amount % CELL) as u32;
+        cells[at + 1] = (amount / CELL) as u32;
     }
 
     /// Adds an amount to a node's excess, as far as 64 bits hold it. Answers how much.

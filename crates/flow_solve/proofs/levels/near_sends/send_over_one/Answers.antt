@@ -8,11 +8,11 @@ use Rattle.flow_solve.proofs.LevelLemmas.Carried.{flow_fits, flow_same}
 use Rattle.flow_solve.proofs.LevelLemmas.NearSends.{sent_over_one}
 use Rattle.flow_solve.proofs.levels.near_sends.send_over_one.Goals as goal
 
-pub overflow_add-sent : goal.overflow_add-sent
-overflow_add-sent c =
-    let task = c.args.task in let net = task.packed.net.now in let s = task.s.now in let t = task.t.now in
-    let d = c.fit_last-amount.result in let k = c.args.sent.now.value in let first = c.args.first in
-    let place = c.head-node.result - 1 in let end = slice_index c.args.last.now place in
+pub overflow_add-sending : goal.overflow_add-sending
+overflow_add-sending c =
+    let task = c.args.sending.now.task in let net = task.packed.net.now in let s = task.s.now in let t = task.t.now in
+    let d = c.fit_last-amount.result in let k = c.args.sending.now.value in let first = c.args.first in
+    let place = c.head-node.result - 1 in let end = slice_index c.args.sending.now.last.now place in
     let node = c.head-node.ensures.node in
     let leads = c.requires.sending.last.ends place (omega arith) (omega arith) in
     let on : tail_of net end ≡ head_of net first = omega (arith, leads.from, c.head-node.ensures.head) in
@@ -30,11 +30,11 @@ overflow_add-sent c =
       c.from.ensures,
     )
 
-pub returns-clause-flow : goal.returns-clause-flow
-returns-clause-flow c =
-    let task = c.args.task in let net = task.packed.net.now in let s = task.s.now in let t = task.t.now in
-    let d = c.fit_last-amount.result in let k = c.args.sent.now.value in let first = c.args.first in
-    let place = c.head-node.result - 1 in let end = slice_index c.args.last.now place in
+pub returns-clause-going : goal.returns-clause-going
+returns-clause-going c =
+    let task = c.args.sending.now.task in let net = task.packed.net.now in let s = task.s.now in let t = task.t.now in
+    let d = c.fit_last-amount.result in let k = c.args.sending.now.value in let first = c.args.first in
+    let place = c.head-node.result - 1 in let end = slice_index c.args.sending.now.last.now place in
     let node = c.head-node.ensures.node in
     let leads = c.requires.sending.last.ends place (omega arith) (omega arith) in
     let on : tail_of net end ≡ head_of net first = omega (arith, leads.from, c.head-node.ensures.head) in
@@ -46,6 +46,12 @@ returns-clause-flow c =
     (subst (λ v. IsCarried net d v (head_of net end) c.carry.new.flow.flows c.carry-2.new.flow.flows) on
     c.carry-2.ensures.carried) in
     record {
-      flow = subst (λ (v : ℕ). HasFlow task c.carry-2.new.flow.flows (k + v)) (sym c.from.ensures) now;
+      sending = record {
+        task = c.requires.sending.task;
+        flow = subst (λ (v : ℕ). HasFlow task c.carry-2.new.flow.flows (k + v)) (sym c.from.ensures) now;
+        last = c.fit_last-amount.ensures.last;
+      };
+      stays = search rules;
       paid = search rules;
+      left = search rules;
     }

@@ -10,20 +10,21 @@ use Rattle.flow_solve.proofs.levels.near_sends.send_over_two.Goals as goal
 
 pub carry-requires-3-clause-room : goal.carry-requires-3-clause-room
 carry-requires-3-clause-room c =
-    let end = slice_index c.args.last.now (c.head-node.result - 1) in
+    let end = slice_index c.args.sending.now.last.now (c.head-node.result - 1) in
     let apart = c.are_apart.ensures c.if-not-are_apart.false in
     let behind : end / 2 ≢ c.args.between / 2 = λ e. apart.1 (sym e) in
     let beside : end / 2 ≢ c.args.first / 2 = λ e. apart.2 (sym e) in
     let second = c.carry-2.ensures.others end behind in let one = c.carry.ensures.others end beside in
-    let kept = ap (λ (xs : List ℕ). residual c.args.task.packed.net.now xs end) c.fit_last-amount.ensures.looks.flows in
+    let kept = ap (λ (xs : List ℕ). residual c.args.sending.now.task.packed.net.now xs end)
+    c.fit_last-amount.ensures.looks.flows in
     omega (arith, second, one, kept, c.fit_last-amount.ensures.room)
 
-pub overflow_add-sent : goal.overflow_add-sent
-overflow_add-sent c =
-    let task = c.args.task in let net = task.packed.net.now in let s = task.s.now in let t = task.t.now in
-    let d = c.fit_last-amount.result in let k = c.args.sent.now.value in
+pub overflow_add-sending : goal.overflow_add-sending
+overflow_add-sending c =
+    let task = c.args.sending.now.task in let net = task.packed.net.now in let s = task.s.now in let t = task.t.now in
+    let d = c.fit_last-amount.result in let k = c.args.sending.now.value in
     let first = c.args.first in let between = c.args.between in
-    let place = c.head-node.result - 1 in let end = slice_index c.args.last.now place in
+    let place = c.head-node.result - 1 in let end = slice_index c.args.sending.now.last.now place in
     let node = c.head-node.ensures.node in
     let leads = c.requires.sending.last.ends place (omega arith) (omega arith) in
     let on : tail_of net end ≡ head_of net between = omega (arith, leads.from, c.head-node.ensures.head) in
@@ -40,12 +41,12 @@ overflow_add-sent c =
       c.from.ensures,
     )
 
-pub returns-clause-flow : goal.returns-clause-flow
-returns-clause-flow c =
-    let task = c.args.task in let net = task.packed.net.now in let s = task.s.now in let t = task.t.now in
-    let d = c.fit_last-amount.result in let k = c.args.sent.now.value in
+pub returns-clause-going : goal.returns-clause-going
+returns-clause-going c =
+    let task = c.args.sending.now.task in let net = task.packed.net.now in let s = task.s.now in let t = task.t.now in
+    let d = c.fit_last-amount.result in let k = c.args.sending.now.value in
     let first = c.args.first in let between = c.args.between in
-    let place = c.head-node.result - 1 in let end = slice_index c.args.last.now place in
+    let place = c.head-node.result - 1 in let end = slice_index c.args.sending.now.last.now place in
     let node = c.head-node.ensures.node in
     let leads = c.requires.sending.last.ends place (omega arith) (omega arith) in
     let on : tail_of net end ≡ head_of net between = omega (arith, leads.from, c.head-node.ensures.head) in
@@ -57,8 +58,14 @@ returns-clause-flow c =
     (subst (λ v. IsCarried net d v (head_of net between) xs ys) c.requires.on c.carry-2.ensures.carried)
     (subst (λ v. IsCarried net d v (head_of net end) ys zs) on c.carry-3.ensures.carried) in
     record {
-      flow = subst (λ (v : ℕ). HasFlow task zs (k + v)) (sym c.from.ensures) now;
+      sending = record {
+        task = c.requires.sending.task;
+        flow = subst (λ (v : ℕ). HasFlow task zs (k + v)) (sym c.from.ensures) now;
+        last = c.fit_last-amount.ensures.last;
+      };
+      stays = search rules;
       paid = search rules;
+      left = search rules;
     }
 
 pub returns-clause-room : goal.returns-clause-room
@@ -66,6 +73,6 @@ returns-clause-room c =
     let apart = c.are_apart.ensures c.if-not-are_apart.false in
     let third = c.carry-3.ensures.others c.args.first apart.2 in
     let second = c.carry-2.ensures.others c.args.first apart.0 in
-    let kept = ap (λ (xs : List ℕ). residual c.args.task.packed.net.now xs c.args.first)
+    let kept = ap (λ (xs : List ℕ). residual c.args.sending.now.task.packed.net.now xs c.args.first)
     (c.fit_last-amount.ensures.looks.flows ∙ c.look-room.ensures.flows) in
     omega (arith, second, third, kept, c.carry.ensures.room, c.requires.most)

@@ -154,7 +154,8 @@ fn forests_for(least: u64, is_even: bool) -> u64
 }
 
 /// Lets as many forests grow as there have to be. `least` holds the least number so far and how many looks and pushes
-/// are left; the answer is the same afterwards, or nothing where they are used up or a test fails.
+/// are left; the answer is the same afterwards, or nothing where they are used up or a test fails. The first cells have
+/// the degrees, as a hint.
 fn run_pass(
     ground: Ground<'_>,
     rows: &mut [u32],
@@ -178,7 +179,7 @@ fn run_pass(
 {
     let n = ground.net.nodes() as usize;
     let (state, hints) = cells.split_at_mut(n);
-    fill_rows(ground, rows, hints);
+    fill_rows(ground, rows, state, hints);
     let mut least = least;
     let mut count = 0;
     while count < forests_for(least.value, is_even) {
@@ -255,6 +256,8 @@ pub fn connectivity_by_forests(
     if is_balanced {
         return Some(forth.value);
     }
+    // The cells get the degrees again.
+    let _ = has_balanced_degrees(net, cells);
     ground.direction = Direction::Forwards;
     let back = run_pass(ground, rows, cells, flow, false, forth)?;
     Some(back.value)

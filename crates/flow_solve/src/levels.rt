@@ -7,19 +7,20 @@
 //!    that a push could break, so they cost no repair. Assignments get most of their flow so, and so does a network
 //!    with an arc from each node to every later one. Without them such a network and a densest subgraph take 2.1 times
 //!    as long, matchings 1.3, transports 1.2, open pits 1.1, and all others as long as with them.
-//! 2. **Two trees** (`trees`, `chains`, `orphans`, `forest`). Search trees grow from the sources and from the sinks
-//!    (Boykov and Kolmogorov 2004), from one *active* node after another. Each node in a tree has a *parent*, the
+//! 2. **Two trees** (`trees`, `chains`, `orphans`, `forest`, `border`). Search trees grow from the sources and the
+//!    sinks (Boykov and Kolmogorov 2004), from one *active* node after another. Each node in a tree has a *parent*, the
 //!    half-arc that leads towards its root, a *label*, which tells how far that was when it was last looked at, and a
 //!    *stamp*, the time when its parents were last known to lead to a root. Where the trees touch, an augmenting path
 //!    is pushed through. A node whose half-arc to its parent was filled is an *orphan*: it is *adopted* by the nearest
 //!    node of its tree whose parents lead to a root, unless that moves it much farther from its own. Or else it comes
 //!    free, with its children as orphans in turn, and the tree may come back to it by a shorter way. So no search
-//!    begins anew. The trees end by themselves where they bring little for what they take: they may take little at
-//!    first, and more for each half-arc of a path that flow is pushed along, since repairs cost the more the longer
-//!    paths are. That serves where the first paths are short and most of a tree outlives a push: images, assignments,
-//!    closures. Without them evacuations take 9 times as long, images 3 to 4, stereo and clouds 2, volumes, matchings,
-//!    transports and open pits 1.5 to 1.6, surfaces and densest subgraphs 1.3. They cost a quarter of what communities
-//!    take, a tenth of netlists, and a third of chains.
+//!    begins anew. When no node is active any more, one pass over the arcs shows that the flow is greatest: nothing
+//!    remains on a half-arc that leads into the tree of the sinks. The trees end by themselves where they bring little
+//!    for what they take: they may take little at first, and more for each half-arc of a path that flow is pushed
+//!    along, since repairs cost the more the longer paths are. That serves where the first paths are short and most of
+//!    a tree outlives a push: images, assignments, closures. Without them evacuations take 9 times as long, images 3 to
+//!    4, stereo and clouds 2, volumes, matchings, transports and open pits 1.5 to 1.6, surfaces and densest subgraphs
+//!    1.3. They cost a quarter of what communities take, a tenth of netlists, and a third of chains.
 //! 3. **Waves that lift** (`waves`, `settling`), where the trees had to end before their active nodes ran out. All
 //!    that can leave the sources does, and each node sends what it has received, its *excess*, on to nodes that a
 //!    search has found a level nearer to the sinks, the farthest level first (after Karzanov 1974). A node that is
@@ -34,13 +35,14 @@
 //! 4. **Phases** (`phases`, `walking`). A search backwards from the sinks ranks the nodes, walks from the sources along
 //!    falling ranks block all shortest paths, and the distance from the sources to the sinks grows by each phase
 //!    (Dinitz 1970). They go on from whatever feasible flow they find, and their last search, which sees no source,
-//!    shows that the flow is greatest. Mostly that is their only one, and takes some hundredths of the
+//!    shows that the flow is greatest. Behind the waves that is mostly their only one, and takes some hundredths of the
 //!    time, in a dense network a third.
 //!
 //! Nodes with excess are lifted, and yet this is no push-relabel method: to lift is the business of a stage, which
-//! hands on a feasible flow or none, and the phases carry the proof and the bound whatever it does. Each half-arc of a
-//! path of the trees is looked at when something is pushed over it, and a push that doesn't go from a source to a sink
-//! isn't kept; what waves leave is tested at their end. A stage may leave wherever it is.
+//! hands on a feasible flow or none, and the phases carry the proof and the bound whatever it does. Nothing is claimed
+//! of the trees: each half-arc of a path is looked at when something is pushed over it, a push that doesn't go from a
+//! source to a sink isn't kept, and it is tested that they are finished. Of waves no more is claimed than what their
+//! end tests. A stage may leave wherever it is.
 //!
 //! What near sends and trees take is counted off an allowance of 128 steps for each arc, and what the waves take off
 //! the rest of `n²·m`, at most 1024 steps for each arc in each direction; a half-arc that is passed by without a look,

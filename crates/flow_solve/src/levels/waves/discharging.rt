@@ -48,10 +48,12 @@ fn accept(wave: &mut Wave<'_>, node: u32, level: u32, amount: u64) -> u64
     if level == 0 || amount == 0 {
         return amount;
     }
-    if wave.excess(node) == 0 {
+    let had_none = wave.excess(node) == 0;
+    let booked = wave.book(node, amount);
+    if had_none {
         wave.list(node, level);
     }
-    wave.book(node, amount)
+    booked
 }
 
 /// Passes a sender's half-arcs, and sends its excess on over those that lead to the next nearer level.

@@ -64,6 +64,18 @@ pub(super) fn level_in(cells: &[u32], node: u32) -> u32
     cells[node as usize - 1] % LEVELS
 }
 
+/// Where the next node on a node's list stands.
+fn next_cell(nodes: u32, node: u32) -> usize
+    requires { 1 ≤ node }
+{
+    nodes as usize + node as usize - 1
+}
+
+/// Where the first node with excess on a level stands.
+fn first_cell(nodes: u32, level: u32) -> usize {
+    2 * nodes as usize + level as usize
+}
+
 /// Where a node's excess begins, in two cells.
 fn excess_cell(nodes: u32, node: u32) -> usize
     requires { 1 ≤ node }
@@ -137,7 +149,7 @@ impl Wave<'_> {
         booked
     }
 
-    /// The node of a place in the search's queue, or the node behind another on its list.
+    /// The node of a place in the search's queue.
     pub(super) fn queued_at(&self, place: u32) -> u32 {
         get(self.cells, self.nodes as usize + place as usize)
     }
@@ -152,26 +164,16 @@ impl Wave<'_> {
         self.queued = self.queued.saturating_add(1);
     }
 
-    /// The first node with excess on a level, or 0.
-    fn first(&self, level: u32) -> u32 {
-        get(self.cells, 2 * self.nodes as usize + level as usize)
-    }
-
-    /// Sets the first node with excess on a level.
-    fn set_first(&mut self, level: u32, node: u32)
-        ensures { OnlyMarks self.old self.new }
-    {
-        put(self.cells, 2 * self.nodes as usize + level as usize, node);
-    }
-
     /// Puts a node with excess on the list of its level.
     pub(super) fn list(&mut self, node: u32, level: u32)
         requires { 1 ≤ node }
         ensures { OnlyMarks self.old self.new }
     {
-        let first = self.first(level);
-        put(self.cells, self.nodes as usize + node as usize - 1, first);
-        self.set_first(level, node);
+        let (next, first) = (next_cell(self.nodes, node), first_cell(self.nodes, level));
+        let cells = &mut *self.cells;
+        let behind = get(cells, first);
+        put(cells, next, behind);
+        put(cells, first, node);
         self.farthest = self.farthest.max(level);
     }
 
@@ -179,10 +181,12 @@ impl Wave<'_> {
     pub(super) fn take_listed(&mut self, level: u32) -> u32
         ensures { OnlyMarks self.old self.new }
     {
-        let node = self.first(level);
+        let (nodes, first) = (self.nodes, first_cell(self.nodes, level));
+        let cells = &mut *self.cells;
+        let node = get(cells, first);
         if node > 0 {
-            let next = self.queued_at(node - 1);
-            self.set_first(level, next);
+            let behind = get(cells, next_cell(nodes, node));
+            put(cells, first, behind);
         }
         node
     }

@@ -15,8 +15,8 @@ TOP = Path(__file__).resolve().parent.parent
 SOURCES = 'crates/flow_solve/src/levels'
 # For each stage the file, the text that stands once in it, and the text in its place.
 EDITS = {
-    'near sends': (f'{SOURCES}.rt', 'send_near(task, flow, cells, value, given);',
-                   'near_sends::Sent { value, left: given };'),
+    'near sends': (f'{SOURCES}.rt', 'send_near(task, flow, cells, Sent { value, left: given });',
+                   'Sent { value, left: given };'),
     'trees': (f'{SOURCES}/trees.rt', 'const FIRST_SHARE: u64 = 4;', 'const FIRST_SHARE: u64 = 0;'),
     'waves': (f'{SOURCES}.rt', 'const REST_SHARE: u64 = 2 * 1024 + 1;', 'const REST_SHARE: u64 = 0;'),
 }

@@ -48,7 +48,7 @@ SENTENCES = {
         "arcs, whole capacities up to {GREATEST_CAPACITY}, lines of {LONGEST_LINE} bytes",
         "{GREATEST_CAPACITY}, {MOST_FLOW_LINES} lines f, lines of {LONGEST_LINE} bytes",
     ],
-    "crates/flow/src/tests.rt": [
+    "scripts/words.py": [
         "\"Limits: 2 to {MOST_NODES} nodes, {MOST_ARCS}\\n\"",
         "\"capacities up to {GREATEST_CAPACITY}, lines of {LONGEST_LINE} bytes\"",
         "b\"p max {MOST_NODES} {MOST_ARCS}\\n\"",

@@ -83,8 +83,11 @@ say "planted, beside what follows"
 python3 scripts/planted.py --begin "$folder/begun" > "$folder/planted" 2>&1 &
 watched=$!
 
-# The built programs under hostile use.
+# What the words of the command line lead to.
 [ -x crates/flow/out/flow ] || (cd crates/flow && rt run -- solve --value < stdin > /dev/null) || exit 1
+add words python3 scripts/words.py crates/flow/out/flow
+
+# The built programs under hostile use.
 [ -x crates/growths/out/growths ] || (cd crates/growths && rt run < stdin > /dev/null) || exit 1
 add hostile python3 scripts/hostile.py crates/flow/out/flow crates/growths/out/growths
 

@@ -53,6 +53,39 @@ static void small_cuts(void) {
     equal("cut near the sinks, low", low, 5);
 }
 
+/* A path of three nodes, of two arcs of the same capacity: each of them is a minimum cut. */
+static void cuts_of_a_path(void) {
+    static const uint32_t src[] = {0, 1}, dst[] = {1, 2}, sink[] = {2};
+    static const uint64_t cap[] = {2, 2};
+    static const uint8_t near[] = {1, 0, 0}, far[] = {1, 1, 0}, kept[] = {9, 9, 9};
+    uint64_t flow[] = {9, 9}, high = 9, low = 9;
+    uint8_t side[] = {9, 9, 9};
+    equal("a path, a side of too few cells",
+          provedflow_cut_lists(3, src, 2, dst, 2, cap, 2, SOURCE, 1, sink, 1, 0, flow, 2, side, 2, &high, &low),
+          PROVEDFLOW_LENGTHS);
+    equal("a path, nothing written", (uint64_t)memcmp(side, kept, sizeof side) + flow[0] + flow[1] + high + low, 36);
+    equal("a path", provedflow_cut(3, 2, src, dst, cap, 1, SOURCE, 1, sink, 0, flow, side, &high, &low), 0);
+    equal("a path, near the source", (uint64_t)memcmp(side, near, sizeof side), 0);
+    equal("a path", provedflow_cut(3, 2, src, dst, cap, 1, SOURCE, 1, sink, 1, flow, side, &high, &low), 0);
+    equal("a path, near the sink", (uint64_t)memcmp(side, far, sizeof side), 0);
+    equal("a path, value", high * 10 + low, 2);
+    equal("a path, flows", flow[0] * 10 + flow[1], 22);
+}
+
+/* A circle of three nodes: one way round, and two without direction. */
+static void links_of_a_circle(void) {
+    static const uint32_t src[] = {0, 1, 2}, dst[] = {1, 2, 0}, sink[] = {2};
+    uint64_t links = 9;
+    equal("a circle", provedflow_links(3, 3, src, dst, 0, NULL, 0, NULL, 0, 0, &links), 0);
+    equal("a circle, directed", links, 1);
+    equal("a circle", provedflow_links(3, 3, src, dst, 0, NULL, 0, NULL, 1, 0, &links), 0);
+    equal("a circle, undirected", links, 2);
+    equal("a circle", provedflow_links(3, 3, src, dst, 1, SOURCE, 1, sink, 0, 256, &links), 0);
+    equal("a circle, a pair", links, 1);
+    equal("a circle", provedflow_links(3, 3, src, dst, 1, SOURCE, 1, sink, 256, 1, &links), 0);
+    equal("a circle, an undirected pair", links, 2);
+}
+
 static void small_links(void) {
     uint64_t links = 9;
     /* No arc leaves node 3. Without direction, node 0 has two. */
@@ -76,9 +109,11 @@ static void small_checks(void) {
     } cases[] = {
         {{3, 2, 1, 2, 3}, PROVEDFLOW_GREATEST, 5},   {{0, 0, 0, 0, 0}, PROVEDFLOW_FEASIBLE, 0},
         {{2, 2, 0, 2, 2}, PROVEDFLOW_FEASIBLE, 4},   {{3, 2, 1, 4, 4}, PROVEDFLOW_OVER, 3},
-        {{3, 2, 1, 2, 2}, PROVEDFLOW_UNBALANCED, 2},
+        {{3, 2, 1, 2, 2}, PROVEDFLOW_UNBALANCED, 2}, {{2, 1, 0, 2, 1}, PROVEDFLOW_FEASIBLE, 3},
+        {{3, 2, 2, 1, 4}, PROVEDFLOW_OVER, 2},       {{3, 2, 1, 1, 2}, PROVEDFLOW_UNBALANCED, 1},
     };
-    static const uint64_t back[] = {1, 0, 0, 0, 0};
+    static const uint64_t back[] = {1, 0, 0, 0, 0}, three[] = {3};
+    static const uint32_t one[] = {1};
     uint32_t turned = 99;
     uint64_t upper = 9, lower = 9;
     size_t i;
@@ -97,6 +132,10 @@ static void small_checks(void) {
     equal("check, a negative value", turned, PROVEDFLOW_FEASIBLE);
     equal("check, a negative value, high", upper, UINT64_MAX);
     equal("check, a negative value, low", lower, UINT64_MAX);
+    equal("check", provedflow_check(2, 1, one, SOURCE, three, 1, SOURCE, 1, one, three, &turned, &upper, &lower), 0);
+    equal("check, a value of -3", turned, PROVEDFLOW_FEASIBLE);
+    equal("check, a value of -3, high", upper, UINT64_MAX);
+    equal("check, a value of -3, low", lower, UINT64_MAX - 2);
 }
 
 /* Three arcs of the greatest capacity beside each other: 3 * (2^64 - 1) is 2 * 2^64 + (2^64 - 3). */
@@ -144,7 +183,7 @@ static void refused(const char *name, uint32_t status, uint32_t nodes, size_t ar
 
 static void refusals(void) {
     static const uint32_t out[] = {0, 4, 1, 1, 2}, wide[] = {1, 2, 2, UINT32_MAX, 3}, twice[] = {3, 3}, none[] = {4};
-    static const uint32_t both[] = {1, 3};
+    static const uint32_t both[] = {1, 3}, again[] = {0, 0};
     uint64_t high, low, flow[ARCS] = {7, 7, 7, 7, 7};
     refused("one node", PROVEDFLOW_NODES, 1, ARCS, SRC, DST, 1, SOURCE, 1, SINK);
     refused("no node", PROVEDFLOW_NODES, 0, ARCS, SRC, DST, 1, SOURCE, 1, SINK);
@@ -157,6 +196,7 @@ static void refusals(void) {
     refused("a sink that is no node", PROVEDFLOW_TERMINALS, NODES, ARCS, SRC, DST, 1, SOURCE, 1, none);
     refused("a source that is no node", PROVEDFLOW_TERMINALS, NODES, ARCS, SRC, DST, 1, none, 1, SINK);
     refused("a source that is a sink", PROVEDFLOW_TERMINALS, NODES, ARCS, SRC, DST, 2, both, 1, SINK);
+    refused("a source twice", PROVEDFLOW_TERMINALS, NODES, ARCS, SRC, DST, 2, again, 1, SINK);
     refused("a sink twice", PROVEDFLOW_TERMINALS, NODES, ARCS, SRC, DST, 1, SOURCE, 2, twice);
     equal(
         "lists of different lengths",
@@ -221,7 +261,9 @@ static void at_the_limits(void) {
 int main(int argc, char **argv) {
     small_flow();
     small_cuts();
+    cuts_of_a_path();
     small_links();
+    links_of_a_circle();
     small_checks();
     wide_value();
     no_arcs();

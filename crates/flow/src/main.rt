@@ -57,6 +57,3 @@ fn without_text<E: Output>(err: &mut E) -> ExitCode {
     let _ = put_all(err, b"flow: a word of the command line isn't UTF-8\n");
     ExitCode::from(2)
 }
-
-#[cfg(test)]
-mod tests;

@@ -1,9 +1,9 @@
 -- What a status tells, and that good lists have no fault.
-use Rattle.std.proofs.Common.{◌≡◌, ◌≤◌, ◌<◌, ℕ, zero, suc, ◌⊎◌, List, [], ◌∷◌, ◌++◌, length, inl, inr, arith, sym, ◌∙◌}
-use Rattle.std.proofs.Common.{length-append, refl}
-use Rattle.std.proofs.lemmas.List.{get_or_append_left}
+use Rattle.std.proofs.Common.{◌≡◌, ◌≤◌, ◌<◌, ℕ, zero, suc, ◌⊎◌, List, [], ◌∷◌, ◌++◌, length, inl, inr, arith}
+use Rattle.std.proofs.Common.{refl}
 use Rattle.std.specs.List.{All}
 use Rattle.flow_net.specs.Limits.{AreDistinct}
+use Rattle.flow_tools.proofs.NodeSumLemmas.{distinct_front}
 use Rattle.flow_c.specs.Lists.{from_one}
 use Rattle.flow_c.specs.declared.refusals.Refusal.{Refusal}
 use Rattle.flow_c.specs.declared.refusals.Refusal.TheVariants.{Nodes, Lengths, BadEnd, Terminal, Memory}
@@ -12,52 +12,16 @@ use Rattle.flow_c.specs.Refusals.{IsTold, AreArcs, AreEnds}
 
 -- an answer tells nothing
 pub told_nothing : (L : Type 0) (n : ℕ) (src dst sources sinks : List ℕ) → IsTold L n src dst sources sinks 0
-told_nothing L n src dst sources sinks = record {
-  nodes = λ e. absurd (omega (arith, e));
-  lengths = λ e. absurd (omega (arith, e));
-  ends = λ e. absurd (omega (arith, e));
-  terminals = λ e. absurd (omega (arith, e));
-  most = omega arith;
-}
+told_nothing L n src dst sources sinks = grind arith
 
 -- the status of a refusal tells its reason
 pub told_by : (L : Type 0) (n : ℕ) (src dst sources sinks : List ℕ) (r : Refusal)
     → IsReason L n src dst sources sinks r → IsTold L n src dst sources sinks (status_number r)
-told_by L n src dst sources sinks Nodes h = record {
-  nodes = λ e. h;
-  lengths = λ e. absurd (omega (arith, e));
-  ends = λ e. absurd (omega (arith, e));
-  terminals = λ e. absurd (omega (arith, e));
-  most = omega arith;
-}
-told_by L n src dst sources sinks Lengths h = record {
-  nodes = λ e. absurd (omega (arith, e));
-  lengths = λ e. h;
-  ends = λ e. absurd (omega (arith, e));
-  terminals = λ e. absurd (omega (arith, e));
-  most = omega arith;
-}
-told_by L n src dst sources sinks BadEnd h = record {
-  nodes = λ e. absurd (omega (arith, e));
-  lengths = λ e. absurd (omega (arith, e));
-  ends = λ e. h;
-  terminals = λ e. absurd (omega (arith, e));
-  most = omega arith;
-}
-told_by L n src dst sources sinks Terminal h = record {
-  nodes = λ e. absurd (omega (arith, e));
-  lengths = λ e. absurd (omega (arith, e));
-  ends = λ e. absurd (omega (arith, e));
-  terminals = λ e. h;
-  most = omega arith;
-}
-told_by L n src dst sources sinks Memory h = record {
-  nodes = λ e. absurd (omega (arith, e));
-  lengths = λ e. absurd (omega (arith, e));
-  ends = λ e. absurd (omega (arith, e));
-  terminals = λ e. absurd (omega (arith, e));
-  most = omega arith;
-}
+told_by L n src dst sources sinks Nodes h = grind arith
+told_by L n src dst sources sinks Lengths h = grind arith
+told_by L n src dst sources sinks BadEnd h = grind arith
+told_by L n src dst sources sinks Terminal h = grind arith
+told_by L n src dst sources sinks Memory h = grind arith
 
 no_bad_end : (n : ℕ) (src dst : List ℕ) → length dst ≡ length src → All (λ v. v < n) src → All (λ v. v < n) dst
     → HasBadEnd n src dst → ⊥
@@ -73,12 +37,6 @@ no_bad_terminal n before given a distinct bad = elim bad [
   | inr two ↦ distinct two.0 two.1 two.2 two.3 two.4
 ]
 
-front_distinct : (xs ys : List ℕ) → AreDistinct (xs ++ ys) → AreDistinct xs
-front_distinct xs ys distinct = λ i j lt high same.
-    let total = length-append xs ys in
-    distinct i j lt (omega (arith, high, total))
-    (get_or_append_left xs ys 0 i (omega (arith, lt, high)) ∙ same ∙ sym (get_or_append_left xs ys 0 j high))
-
 no_bad_terminals : (n : ℕ) (sources sinks : List ℕ) → AreEnds n sources sinks → HasBadTerminals n sources sinks → ⊥
 no_bad_terminals n sources sinks g bad = elim bad [
   | inl e ↦ let some = g.some_source in omega (arith, e, some)
@@ -86,7 +44,7 @@ no_bad_terminals n sources sinks g bad = elim bad [
     | inl e ↦ let some = g.some_sink in omega (arith, e, some)
     | inr two ↦ elim two [
       | inl a ↦
-          no_bad_terminal n [] sources g.sources_within (front_distinct (from_one sources)
+          no_bad_terminal n [] sources g.sources_within (distinct_front (from_one sources)
           (from_one sinks) g.distinct) a
       | inr b ↦ no_bad_terminal n (from_one sources) sinks g.sinks_within g.distinct b
     ]
@@ -109,6 +67,13 @@ good_lists L n (suc (suc (suc (suc zero)))) src dst sources sinks same told arcs
 good_lists L n (suc (suc (suc (suc (suc zero))))) src dst sources sinks same told arcs ends = inr refl
 good_lists L n (suc (suc (suc (suc (suc (suc k)))))) src dst sources sinks same told arcs ends =
     let most = told.most in absurd (omega (arith, most))
+
+-- so where they are refused, it is for want of memory
+pub good_refused : (L : Type 0) (n : ℕ) (src dst sources sinks : List ℕ) (r : Refusal) → (L → length dst ≡ length src)
+    → IsReason L n src dst sources sinks r → AreArcs L n src dst → AreEnds n sources sinks
+    → (status_number r ≡ 0) ⊎ (status_number r ≡ 5)
+good_refused L n src dst sources sinks r same h =
+    good_lists L n (status_number r) src dst sources sinks same (told_by L n src dst sources sinks r h)
 
 -- nodes 0 and 1 are good terminals
 pub two_ends : (n : ℕ) → 2 ≤ n → AreEnds n (0 ∷ []) (1 ∷ [])

@@ -25,8 +25,6 @@ mod checking;
 mod lists;
 mod refusals;
 mod solving;
-#[cfg(test)]
-mod tests;
 
 use checking::check_lists;
 use flow_tools::Side;

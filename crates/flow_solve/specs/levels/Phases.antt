@@ -1,6 +1,7 @@
 -- The method by levels (Dinitz 1970): the ranks that a search gives, places that only move on, and what a phase leaves.
 use Rattle.std.specs.Prelude.{◌≡◌, ◌≢◌, ℕ, zero, suc, ◌+◌, ◌-◌, ◌*◌, ◌≤◌, ◌<◌, ◌==◌, ◌⊎◌, ◌&&◌, min, nat_lt, Bool}
-use Rattle.std.specs.Prelude.{true, false, not, IsTrue, IsFalse, List, [], ◌∷◌, length, slice_index, if◌then◌else◌}
+use Rattle.std.specs.Prelude.{true, false, not, IsTrue, IsFalse, List, [], ◌∷◌, length, slice_index, take}
+use Rattle.std.specs.Prelude.{if◌then◌else◌}
 use Rattle.std.specs.List.{AllByRecursion}
 use Rattle.flow_net.specs.Nets.{Net, IsNode}
 use Rattle.flow_net.specs.Limits.{AreTerminals}
@@ -11,6 +12,7 @@ use Rattle.flow_solve.specs.declared.residual.half_arcs.Direction.TheVariants.{B
 use Rattle.flow_solve.specs.declared.residual.searching.Plan.{Plan}
 use Rattle.flow_solve.specs.declared.residual.searching.TheConstants.{FAR}
 use Rattle.flow_solve.specs.declared.levels.walking.Phase.{Phase}
+use Rattle.flow_solve.specs.declared.levels.walking.Walks.{Walks}
 use Rattle.flow_solve.specs.residual.Packs.{IsPacked}
 use Rattle.flow_solve.specs.residual.Searches.{seen, IsSearched}
 
@@ -183,6 +185,22 @@ abbrev pub IsAt : Phase → List ℕ → List ℕ → ℕ → Type 0
 IsAt phase current xs k =
     IsInPhase phase.packed.net.now phase.s.now phase.t.now phase.packed.first.now phase.packed.halves.now
     phase.rank.now current xs k
+
+-- walks at a phase's places, with cells for a path
+pub record AreWalks (run : Phase) (xs : List ℕ) (walks : Walks) : Type 0 where
+  pub phase : IsAt run walks.current.now xs walks.value
+  pub path_size : length walks.path.now ≡ run.packed.net.now.nodes
+
+-- the first half-arcs of their path
+abbrev pub path_of : Walks → ℕ → List ℕ
+path_of walks k = take k walks.path.now
+
+-- the same cells, whatever they hold
+pub record AreSameWalks (before after : Walks) : Type 0 where
+  pub current : after.current.ghost_name ≡ before.current.ghost_name
+  pub current_size : length after.current.now ≡ length before.current.now
+  pub path : after.path.ghost_name ≡ before.path.ghost_name
+  pub path_size : length after.path.now ≡ length before.path.now
 
 abbrev pub owes : Phase → List ℕ → Table → ℕ
 owes phase current table = owed phase.packed.net.now phase.packed.halves.now phase.rank.now current table.flows

@@ -24,10 +24,10 @@ ghost use Rattle.flow_solve.specs.Solving.{IsFlow};
 ghost use Rattle.flow_solve.specs.residual.Searches.{AreCells, HasMissed};
 ghost use Rattle.flow_solve.specs.Task.{HasFlow, IsTask};
 ghost use Rattle.flow_solve.specs.Steps.{OnlyLooks, TakesSteps};
-ghost use Rattle.flow_solve.specs.levels.Phases.{AreDead, FindsLevels, HasLevels, AreRankedIn, HasRank, IsAt, IsFarIn};
-ghost use Rattle.flow_solve.specs.levels.Phases.{IsPhase, KeepsGentle, PaysOwed};
+ghost use Rattle.flow_solve.specs.levels.Phases.{AreDead, FindsLevels, HasLevels, AreRankedIn, HasRank, IsFarIn};
+ghost use Rattle.flow_solve.specs.levels.Phases.{AreSameWalks, AreWalks, IsPhase, KeepsGentle, PaysOwed};
 
-use crate::levels::walking::{Phase, walk};
+use crate::levels::walking::{Phase, Walks, walk};
 use crate::residual::half_arcs::Direction;
 use crate::residual::packing::Packed;
 use crate::residual::searching::{FAR, Plan, WANTED, search};
@@ -82,55 +82,42 @@ fn find_levels(
     true
 }
 
-/// Walks from each source that the search has seen, until all of them are dead. Answers the flow's value.
-fn walk_from_sources(
-    phase: Phase<'_>,
-    flow: &mut FlowTable,
-    current: &mut [u32],
-    path: &mut [u32],
-    value: u128,
-) -> u128
+/// Walks from each source that the search has seen, until all of them are dead.
+fn walk_from_sources(phase: Phase<'_>, flow: &mut FlowTable, walks: &mut Walks<'_>)
     requires run { IsPhase phase }
-    requires path_size { length path.old ≡ phase.packed.net.now.nodes }
     requires ranked { AreRankedIn phase }
-    requires phase { IsAt phase current.old flow.old.flows value }
-    ensures phase { IsAt phase.entry current.new flow.new.flows result }
-    ensures dead { AreDead phase.entry current.new }
+    requires walks { AreWalks phase flow.old.flows walks.old }
+    ensures walks { AreWalks phase.entry flow.new.flows walks.new }
+    ensures same { AreSameWalks walks.old walks.new }
+    ensures dead { AreDead phase.entry walks.new.current.now }
     ensures gentle { KeepsGentle phase.entry flow.old.flows flow.new.flows }
     ensures never_lowered { flow.old.steps ≤ flow.new.steps }
-    ensures steps { PaysOwed phase.entry current.old flow.old current.new flow.new }
+    ensures steps { PaysOwed phase.entry walks.old.current.now flow.old walks.new.current.now flow.new }
 {
-    let mut raised = value;
     for source in phase.s {
         if phase.dist[*source as usize - 1] < WANTED {
-            raised = walk(phase, flow, current, path, *source, raised);
+            walk(phase, flow, walks, *source);
         }
     }
-    raised
 }
 
-/// A phase after its search: every node begins at its first half-arc again, and each source walks. Answers the flow's
-/// value.
-fn run_phase(
-    phase: Phase<'_>,
-    flow: &mut FlowTable,
-    current: &mut [u32],
-    path: &mut [u32],
-    value: u128,
-) -> u128
+/// A phase after its search: every node begins at its first half-arc again, and each source walks.
+fn run_phase(phase: Phase<'_>, flow: &mut FlowTable, walks: &mut Walks<'_>)
     requires run { IsPhase phase }
-    requires size { length current.old ≡ phase.packed.net.now.nodes }
-    requires path_size { length path.old ≡ phase.packed.net.now.nodes }
+    requires size { length walks.old.current.now ≡ phase.packed.net.now.nodes }
+    requires path_size { length walks.old.path.now ≡ phase.packed.net.now.nodes }
     requires levels { HasLevels phase flow.old.flows }
-    requires flow { IsFlow phase.packed.net.now phase.s.now phase.t.now flow.old.flows value }
-    ensures flow { IsFlow phase.entry.packed.net.now phase.entry.s.now phase.entry.t.now flow.new.flows result }
+    requires flow { IsFlow phase.packed.net.now phase.s.now phase.t.now flow.old.flows walks.old.value }
+    ensures flow { IsFlow phase.entry.packed.net.now phase.entry.s.now phase.entry.t.now flow.new.flows
+        walks.new.value }
+    ensures same { AreSameWalks walks.old walks.new }
     ensures few { (j : ℕ) → IsFarIn phase.entry flow.old.flows j → j + 1 < phase.entry.packed.net.now.nodes }
     ensures far { (j : ℕ) → IsFarIn phase.entry flow.old.flows j → IsFarIn phase.entry flow.new.flows (j + 1) }
     ensures steps { TakesSteps flow.old flow.new (phase_bound phase.entry.packed.net.now) }
 {
     let n = phase.packed.net.nodes() as usize;
-    current.copy_from_slice(&phase.packed.first[..n]);
-    walk_from_sources(phase, flow, current, path, value)
+    walks.current.copy_from_slice(&phase.packed.first[..n]);
+    walk_from_sources(phase, flow, walks);
 }
 
 /// Raises a feasible flow by phases until a search backwards from the sinks sees no source, and answers its value,
@@ -149,7 +136,9 @@ pub fn run_phases(task: Task<'_>, flow: &mut FlowTable, cells: &mut [u32], value
     let Task { packed, s, t } = task;
     let n = packed.net.nodes() as usize;
     let (dist, rest) = cells.split_at_mut(n);
-    let (rank, walks) = rest.split_at_mut(n);
+    let (rank, rest) = rest.split_at_mut(n);
+    let (current, rest) = rest.split_at_mut(n);
+    let (path, queue) = rest.split_at_mut(n);
     let plan = Plan {
         packed,
         direction: Direction::Backwards,
@@ -157,11 +146,14 @@ pub fn run_phases(task: Task<'_>, flow: &mut FlowTable, cells: &mut [u32], value
         until: s,
         enough: count(s),
     };
-    let mut value = value;
+    let mut walks = Walks {
+        current,
+        path,
+        value,
+    };
     // Read by the loop's invariant alone, `invariant-phases`: after so many phases the sources are farther than that.
     let mut phases = 0u32;
-    'phases: while find_levels(plan, flow, dist, rank, &mut walks[2 * n..]) {
-        let (current, path) = walks[..2 * n].split_at_mut(n);
+    'phases: while find_levels(plan, flow, dist, rank, queue) {
         let phase = Phase {
             packed,
             s,
@@ -169,9 +161,9 @@ pub fn run_phases(task: Task<'_>, flow: &mut FlowTable, cells: &mut [u32], value
             dist,
             rank,
         };
-        value = run_phase(phase, flow, current, path, value);
+        run_phase(phase, flow, &mut walks);
         // Each phase brings the sources farther from the sinks, so there are fewer than `n`.
         phases += 1;
     }
-    value
+    walks.value
 }

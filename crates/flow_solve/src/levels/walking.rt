@@ -9,8 +9,8 @@ ghost use Rattle.flow_net.specs.Flows.{Fits};
 ghost use Rattle.flow_net.specs.Residual.{tail_of, head_of, residual};
 ghost use Rattle.flow_net.specs.Paths.{IsApart, push_all};
 ghost use Rattle.flow_solve.specs.residual.Packs.{IsPacked};
-ghost use Rattle.flow_solve.specs.levels.Phases.{cell_of, HasLooked, IsAt, IsCurrent, IsDeadIn, IsFilling, IsNext};
-ghost use Rattle.flow_solve.specs.levels.Phases.{IsPhase, KeepsGentle, Looks, PaysOwed};
+ghost use Rattle.flow_solve.specs.levels.Phases.{cell_of, HasLooked, IsCurrent, IsDeadIn, IsFilling, IsNext, IsPhase};
+ghost use Rattle.flow_solve.specs.levels.Phases.{AreSameWalks, AreWalks, KeepsGentle, Looks, PaysOwed, path_of};
 
 use crate::residual::half_arcs::{head, tail};
 use crate::residual::packing::Packed;
@@ -53,6 +53,17 @@ fn push_over(net: &Network, flow: &mut FlowTable, path: &[u32], amount: u64)
     }
 }
 
+/// The walks of a phase.
+#[derive(Drop)]
+pub(crate) struct Walks<'a> {
+    /// Each node's current place: the half-arc that they try next.
+    pub current: &'a mut [u32],
+    /// The half-arcs of the path of the walk under way.
+    pub path: &'a mut [u32],
+    /// The flow's value.
+    pub value: u128,
+}
+
 /// What an augmentation has pushed, and where the walk goes on after it.
 #[derive(Clone, Copy)]
 struct Augmentation {
@@ -66,20 +77,23 @@ struct Augmentation {
 
 /// Pushes along a path as much as remains on each of its half-arcs, and retreats to the first half-arc that this
 /// fills: the walk goes on from the node that it leaves, and keeps the half-arcs before it.
-fn augment(net: &Network, flow: &mut FlowTable, path: &[u32]) -> Augmentation
+fn augment(net: &Network, flow: &mut FlowTable, walks: &Walks<'_>, len: u32) -> Augmentation
     requires limits { IsNet net.now }
     requires fits { Fits net.now flow.old.flows }
-    requires some { 1 ≤ length path.now }
-    requires few { length path.now ≤ net.now.nodes }
-    requires halves { All (λ h. h < 2 * length net.now.arcs) path.now }
-    requires apart { IsApart path.now }
-    ensures filling { IsFilling net.now flow.old.flows path.now result.depth result.sent }
-    ensures filled { residual net.now flow.new.flows (slice_index path.now result.depth) ≡ 0 }
-    ensures open_before { (i : ℕ) → i < result.depth → 0 < residual net.now flow.new.flows (slice_index path.now i) }
-    ensures tail { result.node ≡ tail_of net.now (slice_index path.now result.depth) }
-    ensures flows { flow.new.flows ≡ push_all flow.old.flows path.now result.sent }
-    ensures steps { flow.new.steps ≡ flow.old.steps + 2 * length path.now }
+    requires some { 1 ≤ len }
+    requires few { len ≤ net.now.nodes }
+    requires path { len ≤ length walks.now.path.now }
+    requires halves { All (λ h. h < 2 * length net.now.arcs) (path_of walks.now len) }
+    requires apart { IsApart (path_of walks.now len) }
+    ensures filling { IsFilling net.now flow.old.flows (path_of walks.now len) result.depth result.sent }
+    ensures filled { residual net.now flow.new.flows (slice_index (path_of walks.now len) result.depth) ≡ 0 }
+    ensures open_before { (i : ℕ) → i < result.depth
+        → 0 < residual net.now flow.new.flows (slice_index (path_of walks.now len) i) }
+    ensures tail { result.node ≡ tail_of net.now (slice_index (path_of walks.now len) result.depth) }
+    ensures flows { flow.new.flows ≡ push_all flow.old.flows (path_of walks.now len) result.sent }
+    ensures steps { flow.new.steps ≡ flow.old.steps + 2 * len }
 {
+    let path = &walks.path[..len as usize];
     let (depth, sent) = least_on(net, flow, path);
     push_over(net, flow, path, sent);
     let node = tail(net, path[depth as usize]);
@@ -135,51 +149,43 @@ pub(crate) struct Phase<'a> {
 }
 
 /// Walks from a source until it is dead: it goes on along admissible half-arcs, augments where it comes to a sink, goes
-/// back to where the first half-arc was filled, and takes one back from a node that has none. Answers the flow's value.
+/// back to where the first half-arc was filled, and takes one back from a node that has none.
 ///
 /// The half-arcs that it passes and fills pay for its steps. What a filled one pays is enough for its path and for the
 /// looks from where it begins to a sink, but not for looks from the source: the walk goes on where [`augment`] says.
-pub(crate) fn walk(
-    phase: Phase<'_>,
-    flow: &mut FlowTable,
-    current: &mut [u32],
-    path: &mut [u32],
-    source: u32,
-    value: u128,
-) -> u128
+pub(crate) fn walk(phase: Phase<'_>, flow: &mut FlowTable, walks: &mut Walks<'_>, source: u32)
     requires run { IsPhase phase }
-    requires path_size { length path.old ≡ phase.packed.net.now.nodes }
-    requires phase { IsAt phase current.old flow.old.flows value }
+    requires walks { AreWalks phase flow.old.flows walks.old }
     requires source { IsTrue (one_of phase.s.now source) }
     requires node { IsNode phase.packed.net.now source }
     requires ranked { cell_of phase.rank.now source < phase.packed.net.now.nodes }
-    ensures phase { IsAt phase.entry current.new flow.new.flows result }
-    ensures dead { IsDeadIn phase.entry current.new source }
+    ensures walks { AreWalks phase.entry flow.new.flows walks.new }
+    ensures same { AreSameWalks walks.old walks.new }
+    ensures dead { IsDeadIn phase.entry walks.new.current.now source }
     ensures gentle { KeepsGentle phase.entry flow.old.flows flow.new.flows }
-    ensures risen { (v : ℕ) → cell_of current.old v ≤ cell_of current.new v }
+    ensures risen { (v : ℕ) → cell_of walks.old.current.now v ≤ cell_of walks.new.current.now v }
     ensures never_lowered { flow.old.steps ≤ flow.new.steps }
-    ensures steps { PaysOwed phase.entry current.old flow.old current.new flow.new }
+    ensures steps { PaysOwed phase.entry walks.old.current.now flow.old walks.new.current.now flow.new }
 {
     let packed = phase.packed;
-    let mut raised = value;
     let mut node = source;
     let mut depth: u32 = 0;
     'turns: loop {
         if phase.dist[node as usize - 1] == 0 {
-            let done = augment(packed.net, flow, &path[..depth as usize]);
-            raised += u128::from(done.sent);
+            let done = augment(packed.net, flow, walks, depth);
+            walks.value += u128::from(done.sent);
             depth = done.depth;
             node = done.node;
-        } else if let Some(half) = admissible(phase, flow, current, node) {
-            path[depth as usize] = half;
+        } else if let Some(half) = admissible(phase, flow, walks.current, node) {
+            walks.path[depth as usize] = half;
             depth += 1;
             node = head(packed.net, half);
         } else if depth == 0 {
-            return raised;
+            return;
         } else {
             depth -= 1;
-            node = tail(packed.net, path[depth as usize]);
-            current[node as usize - 1] += 1;
+            node = tail(packed.net, walks.path[depth as usize]);
+            walks.current[node as usize - 1] += 1;
         }
     }
 }

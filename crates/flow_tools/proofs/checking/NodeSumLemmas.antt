@@ -1,5 +1,5 @@
 -- What the flow lines add up to at each node, and at the sources.
-use Rattle.std.proofs.Common.{◌≡◌, ◌≢◌, ℕ, zero, suc, ◌+◌, ◌-◌, ◌^◌, ◌≤◌, ◌<◌, Bool, true, false, cond, eqb, ◌||◌, List}
+use Rattle.std.proofs.Common.{◌≡◌, ◌≢◌, ℕ, zero, suc, ◌+◌, ◌-◌, ◌≤◌, ◌<◌, Bool, true, false, cond, eqb, ◌||◌, List}
 use Rattle.std.proofs.Common.{[]}
 use Rattle.std.proofs.Common.{◌∷◌, ◌++◌, length, get_or, set, take, refl, ◌∙◌, sym, ap, subst, inl, inr, add-one}
 use Rattle.std.proofs.Common.{eq-eqb, sum_by, get_or-set_same, get_or-set_other, length-take, length-append, length-set, Option}

@@ -13,7 +13,7 @@ use crate::cells::work_for;
 use crate::connecting::connectivity;
 use crate::solving::arranging::arrange_if_scattered;
 use flow_net::{FlowTable, Network, OutOfMemory, Problem};
-use flow_solve::{Levels, Method};
+use flow_solve::Levels;
 use std::alloc::Global;
 
 /// The network in which a flow counts arcs: every capacity is 1, and where `undirected` is true each arc is there both
@@ -29,7 +29,7 @@ fn counting_network(mut net: Network, undirected: bool) -> Result<Network, OutOf
 }
 
 /// The connectivity of a network of capacities of 1. All the memory is asked for first.
-fn solve_connectivity<M: Method>(
+fn solve_connectivity(
     alloc: Global,
     net: &Network,
     pair: bool,
@@ -43,22 +43,7 @@ fn solve_connectivity<M: Method>(
 {
     let mut table = FlowTable::new(alloc, net)?;
     let mut work = work_for(alloc, net)?;
-    Ok(connectivity::<M>(net, pair, s, t, &mut table, work.as_mut_slice()))
-}
-
-/// The connectivity that is asked for.
-fn find_connectivity<M: Method>(
-    alloc: Global,
-    problem: Problem,
-    undirected: bool,
-    pair: bool,
-) -> Result<u64, OutOfMemory>
-    ensures { IfOk result (IsLeastOver (IsSeparating problem pair) (counted undirected problem.net)) }
-{
-    let problem = arrange_if_scattered(alloc, problem)?;
-    let (net, sources, sinks) = problem.into_parts();
-    let net = counting_network(net, undirected)?;
-    solve_connectivity::<M>(alloc, &net, pair, &sources, &sinks)
+    Ok(connectivity::<Levels>(net, pair, s, t, &mut table, work.as_mut_slice()))
 }
 
 /// The edge connectivity of a problem's network, by arcs of any capacity: the least number of arcs that leave a set of
@@ -76,5 +61,8 @@ pub fn connect(
 ) -> Result<u64, OutOfMemory>
     ensures { IfOk result (IsLeastOver (IsSeparating problem pair) (counted undirected problem.net)) }
 {
-    find_connectivity::<Levels>(alloc, problem, undirected, pair)
+    let problem = arrange_if_scattered(alloc, problem)?;
+    let (net, sources, sinks) = problem.into_parts();
+    let net = counting_network(net, undirected)?;
+    solve_connectivity(alloc, &net, pair, &sources, &sinks)
 }

@@ -1,9 +1,10 @@
 //! A greatest flow and a minimum cut, as values. All memory is asked for before anything is computed.
-ghost use Rattle.std.specs.Prelude.{◌≡◌, ℕ, not, List, ◌≤◌, length, replicate, IfOk, IfSome};
+ghost use Rattle.std.specs.Prelude.{◌≡◌, ℕ, not, List, ◌≤◌, length, IfOk};
+ghost use Rattle.flow_net.specs.Nets.{Instance};
 ghost use Rattle.flow_net.specs.Flows.{Fits};
 ghost use Rattle.flow_net.specs.MarkedNodes.{marked};
 ghost use Rattle.flow_solve.specs.Bounds.{work_cells};
-ghost use Rattle.flow_tools.specs.solving.ArrangedProblems.{AreListsFor};
+ghost use Rattle.flow_tools.specs.solving.ArrangedProblems.{IsReady};
 ghost use Rattle.flow_tools.specs.solving.Solutions.{IsSolution, IsMarkedCut, is_sink};
 
 use crate::cells::{filled, work_for};
@@ -44,26 +45,31 @@ pub enum Side {
     Sink,
 }
 
-/// The memory for a network: a table of flows, the cells that a solver works in, and for a network whose arcs come in
-/// no order the lists by which it is arranged.
+/// A network as it is solved, arranged where its arcs come in no order, and the memory for that: a table of flows, the
+/// cells that a solver works in, and the lists by which it is arranged.
 #[derive(Drop)]
-struct Room {
+struct Arranged {
+    network: FlowNetwork,
     table: FlowTable,
     work: Vec<u32>,
     lists: Option<Lists>,
 }
 
-/// All the memory that a network needs.
-fn make_room(alloc: Global, network: &FlowNetwork) -> Result<Room, OutOfMemory>
-    ensures empty { IfOk result (λ room. room.table.flows ≡ replicate (length network.now.net.arcs) 0) }
-    ensures cells { IfOk result (λ room. work_cells network.now.net ≤ length room.work.items) }
-    ensures lists { IfOk result (λ room. IfSome room.lists (AreListsFor network.now.net)) }
+/// Asks for all the memory that a network needs, and arranges it.
+fn arrange_for(alloc: Global, network: FlowNetwork) -> Result<Arranged, OutOfMemory>
+    ensures { IfOk result (IsReady network) }
 {
     let net = network.net();
     let table = FlowTable::new(alloc, net)?;
-    let work = work_for(alloc, net)?;
-    let lists = lists_if_scattered(alloc, network)?;
-    Ok(Room { table, work, lists })
+    let mut work = work_for(alloc, net)?;
+    let lists = lists_if_scattered(alloc, &network)?;
+    let (network, lists) = arrange_network(network, lists, work.as_mut_slice());
+    Ok(Arranged {
+        network,
+        table,
+        work,
+        lists,
+    })
 }
 
 /// Finds the greatest value of a flow, and a flow that has it.
@@ -75,8 +81,20 @@ pub fn solve(alloc: Global, network: FlowNetwork) -> Result<Solved, OutOfMemory>
     ensures network { IfOk result (λ solved. solved.network ≡ network) }
     ensures solution { IfOk result (λ solved. IsSolution network solved.value solved.flows.items) }
 {
-    let room = make_room(alloc, &network)?;
-    Ok(solve_in(room, network))
+    let Arranged {
+        network: arranged,
+        mut table,
+        mut work,
+        lists,
+    } = arrange_for(alloc, network)?;
+    let value = find_flow(&arranged, &mut table, work.as_mut_slice());
+    let mut flows = table.into_flows();
+    let network = restore_network(arranged, flows.as_mut_slice(), lists);
+    Ok(Solved {
+        network,
+        value,
+        flows,
+    })
 }
 
 /// Finds a minimum cut: the one nearest the sources, or nearest the sinks.
@@ -91,8 +109,8 @@ pub fn cut(alloc: Global, network: FlowNetwork, nearest: Side) -> Result<Minimum
     ensures count { IfOk result (λ cut. length cut.side.items ≡ network.net.nodes) }
 {
     let mut side = filled(alloc, false, network.net().nodes() as usize)?;
-    let room = make_room(alloc, &network)?;
-    let solved = cut_in(room, network, nearest, side.as_mut_slice());
+    let arranged = arrange_for(alloc, network)?;
+    let solved = cut_in(arranged, nearest, side.as_mut_slice());
     Ok(MinimumCut { solved, side })
 }
 
@@ -104,75 +122,29 @@ pub fn cut(alloc: Global, network: FlowNetwork, nearest: Side) -> Result<Minimum
 pub fn solve_value(alloc: Global, network: FlowNetwork) -> Result<u128, OutOfMemory>
     ensures { IfOk result (λ value. (flows : List ℕ) × IsSolution network value flows) }
 {
-    let room = make_room(alloc, &network)?;
-    Ok(value_in(room, network))
-}
-
-/// Solves a network in the memory that it needs.
-fn solve_in(room: Room, network: FlowNetwork) -> Solved
-    requires empty { room.table.flows ≡ replicate (length network.net.arcs) 0 }
-    requires cells { work_cells network.net ≤ length room.work.items }
-    requires lists { IfSome room.lists (AreListsFor network.net) }
-    ensures network { result.network ≡ network }
-    ensures solution { IsSolution network result.value result.flows.items }
-{
-    // Brings the network's limits, `IsNet`, into the proof.
-    let _ = network.net().nodes();
-    let Room {
-        mut table,
-        mut work,
-        lists,
-    } = room;
-    let work = work.as_mut_slice();
-    let (arranged, lists) = arrange_network(network, lists, work);
-    let value = find_flow(&arranged, &mut table, work);
-    let mut flows = table.into_flows();
-    let network = restore_network(arranged, flows.as_mut_slice(), lists);
-    Solved {
+    let Arranged {
         network,
-        value,
-        flows,
-    }
+        mut table,
+        mut work,
+        lists: _,
+    } = arrange_for(alloc, network)?;
+    Ok(find_flow(&network, &mut table, work.as_mut_slice()))
 }
 
-/// Finds the greatest value in the memory that a network needs.
-fn value_in(room: Room, network: FlowNetwork) -> u128
-    requires empty { room.table.flows ≡ replicate (length network.net.arcs) 0 }
-    requires cells { work_cells network.net ≤ length room.work.items }
-    requires lists { IfSome room.lists (AreListsFor network.net) }
-    ensures { (flows : List ℕ) × IsSolution network result flows }
+/// Finds a flow of an arranged network and marks the source side of a minimum cut, both as the network was given.
+fn cut_in(arranged: Arranged, nearest: Side, side: &mut [bool]) -> Solved
+    requires ready { (p : Instance) × IsReady p arranged × (length side.old ≡ p.net.nodes) }
+    ensures network { (p : Instance) → IsReady p arranged → result.network ≡ p }
+    ensures solution { (p : Instance) → IsReady p arranged → IsSolution p result.value result.flows.items }
+    ensures cut { (p : Instance) → IsReady p arranged → IsMarkedCut p (is_sink nearest) result.value side.new }
 {
-    // Brings the network's limits, `IsNet`, into the proof.
-    let _ = network.net().nodes();
-    let Room {
+    let Arranged {
+        network: arranged,
         mut table,
         mut work,
         lists,
-    } = room;
+    } = arranged;
     let work = work.as_mut_slice();
-    let (arranged, _) = arrange_network(network, lists, work);
-    find_flow(&arranged, &mut table, work)
-}
-
-/// The same, and marks the source side of a minimum cut.
-fn cut_in(room: Room, network: FlowNetwork, nearest: Side, side: &mut [bool]) -> Solved
-    requires empty { room.table.flows ≡ replicate (length network.net.arcs) 0 }
-    requires cells { work_cells network.net ≤ length room.work.items }
-    requires lists { IfSome room.lists (AreListsFor network.net) }
-    requires side { length side.old ≡ network.net.nodes }
-    ensures network { result.network ≡ network }
-    ensures solution { IsSolution network result.value result.flows.items }
-    ensures cut { IsMarkedCut network (is_sink nearest) result.value side.new }
-{
-    // Brings the network's limits, `IsNet`, into the proof.
-    let _ = network.net().nodes();
-    let Room {
-        mut table,
-        mut work,
-        lists,
-    } = room;
-    let work = work.as_mut_slice();
-    let (arranged, lists) = arrange_network(network, lists, work);
     let value = find_cut(&arranged, &mut table, work, nearest, side);
     name_side(side, &lists, work);
     let mut flows = table.into_flows();

@@ -219,7 +219,8 @@ pub(super) fn add_random_arcs(net: &mut Network, random: &mut Random) -> bool {
     true
 }
 
-/// Where the active nodes ran out the flow is greatest: a hint to the stages after the trees, which no contract tells.
+/// Where the trees say that they are finished the flow is greatest, as their contract tells. That they mostly are, none
+/// does.
 #[test]
 fn trees_on_random_networks(rt: HostRuntime) {
     let mut random = Random { state: 2011 };

@@ -8,11 +8,14 @@ use Rattle.flow_solve.proofs.LevelLemmas.Turning.{fresh_phase}
 use Rattle.flow_solve.proofs.levels.phases.run_phase.Goals as goal
 
 -- with all places at the first half-arc nothing has been passed
-pub walk_from_sources-requires-clause-phase : goal.walk_from_sources-requires-clause-phase
-walk_from_sources-requires-clause-phase c =
-    fresh_phase c.nodes-n.ensures.is_net c.requires.run.packed
-    (c.copy_from_slice.ensures.after ∙ ap (λ (j : ℕ). take j c.args.phase.packed.first.now) c.nodes-n.ensures.nodes)
-    c.requires.flow.feasible c.requires.flow.value c.requires.flow.no_loops
+pub walk_from_sources-requires-clause-walks : goal.walk_from_sources-requires-clause-walks
+walk_from_sources-requires-clause-walks c = record {
+  phase =
+      fresh_phase c.nodes-n.ensures.is_net c.requires.run.packed
+      (c.copy_from_slice.ensures.after ∙ ap (λ (j : ℕ). take j c.args.phase.packed.first.now) c.nodes-n.ensures.nodes)
+      c.requires.flow.feasible c.requires.flow.value c.requires.flow.no_loops;
+  path_size = c.requires.path_size;
+}
 
 -- there are more nodes than phases
 pub returns-clause-few : goal.returns-clause-few
@@ -29,7 +32,7 @@ returns-clause-far c = λ j far.
       gentle = now.gentle level slope.ordered slope.gentle;
       ordered = slope.ordered;
       sinks = slope.sinks;
-      blocked = now.phase.blocked;
+      blocked = now.walks.phase.blocked;
       near = slope.near;
       far = slope.far;
       dead = now.dead;

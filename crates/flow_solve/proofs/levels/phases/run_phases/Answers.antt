@@ -1,5 +1,5 @@
 -- `run_phases`: each phase brings the sources farther from the sinks.
-use Rattle.std.proofs.Common.{ℕ, List, ◌-◌, length, sym, subst, arith}
+use Rattle.std.proofs.Common.{ℕ, List, ◌-◌, length, sym, subst, arith, rules}
 use Rattle.flow_net.proofs.NodeLists.{terminals_apart}
 use Rattle.flow_solve.specs.residual.Searches.{seen}
 use Rattle.flow_solve.specs.levels.Phases.{IsFar}
@@ -12,6 +12,7 @@ use Rattle.flow_solve.proofs.levels.phases.run_phases.Goals as goal
 pub phases-init : goal.phases-init
 phases-init c = record {
   flow = c.requires.flow;
+  same = search rules;
   far =
       far_start c.args.task.packed.net.now c.args.task.s.now c.args.task.t.now c.args.flow.now.flows
       (terminals_apart c.args.task.packed.net.now c.args.task.s.now c.args.task.t.now c.requires.task.terminals);
@@ -25,13 +26,14 @@ pub phases-preserved : goal.phases-preserved
 phases-preserved c =
     let old = c.phases.invariant in
     let found = c.find_levels.ensures in
-    let now = c.run_phase-value.ensures in
+    let now = c.run_phase.ensures in
     let net = c.args.task.packed.net.now in
     let far : IsFar net c.args.task.s.now c.args.task.t.now c.find_levels.new.flow.flows c.phases.phases =
     subst (λ (ys : List ℕ). IsFar net c.args.task.s.now c.args.task.t.now ys c.phases.phases) (sym found.looks.flows)
     old.far in
     record {
       flow = now.flow;
+      same = search rules;
       far = now.far c.phases.phases far;
       few = now.few c.phases.phases far;
       never_lowered = omega (arith, old.never_lowered, found.looks.never_lowered, now.steps.never_lowered);
@@ -43,16 +45,16 @@ pub returns-clause-greatest : goal.returns-clause-greatest
 returns-clause-greatest c =
     let old = c.phases.invariant in let found = c.find_levels.ensures in
     let task = c.args.task in
-    (settled task.packed.net.now task.s.now task.t.now c.phases.flow.flows (seen c.find_levels.new.dist) c.phases.value
-    c.nodes-n.ensures.is_net old.flow (found.missed c.phases-test.false).whole
+    (settled task.packed.net.now task.s.now task.t.now c.phases.flow.flows (seen c.find_levels.new.dist)
+    c.phases.walks.value c.nodes-n.ensures.is_net old.flow (found.missed c.phases-test.false).whole
     (found.missed c.phases-test.false).outside).0
 
 pub returns-clause-least : goal.returns-clause-least
 returns-clause-least c =
     let old = c.phases.invariant in let found = c.find_levels.ensures in
     let task = c.args.task in
-    (settled task.packed.net.now task.s.now task.t.now c.phases.flow.flows (seen c.find_levels.new.dist) c.phases.value
-    c.nodes-n.ensures.is_net old.flow (found.missed c.phases-test.false).whole
+    (settled task.packed.net.now task.s.now task.t.now c.phases.flow.flows (seen c.find_levels.new.dist)
+    c.phases.walks.value c.nodes-n.ensures.is_net old.flow (found.missed c.phases-test.false).whole
     (found.missed c.phases-test.false).outside).1
 
 -- fewer phases than nodes, each with its search
@@ -65,8 +67,8 @@ returns-clause-steps c =
     omega (arith, paid, old.never_lowered, found.looks.never_lowered)
 
 -- what the phase's walks go by
-pub run_phase-value-requires-clause-run : goal.run_phase-value-requires-clause-run
-run_phase-value-requires-clause-run c = record {
+pub run_phase-requires-clause-run : goal.run_phase-requires-clause-run
+run_phase-requires-clause-run c = record {
   terminals = c.requires.task.terminals;
   packed = c.requires.task.packed;
   dist_size = omega arith;

@@ -1,5 +1,5 @@
 -- `walk_from_sources`: from each source until it is dead; a dead node stays so.
-use Rattle.std.proofs.Common.{ℕ, IsTrue, get_or, below_more, sym, subst, arith}
+use Rattle.std.proofs.Common.{ℕ, IsTrue, get_or, below_more, sym, subst, arith, rules}
 use Rattle.std.specs.Prelude.{slice_index}
 use Rattle.flow_net.specs.NodeSets.{one_of}
 use Rattle.flow_solve.specs.residual.Searches.{seen}
@@ -20,27 +20,29 @@ loop-source-preserved c =
     let node = c.requires.run.terminals.sources_within c.loop-source.source-index 0 c.loop-source-test.true in
     elim c.if-phase-source-lt-WANTED.branch [
       | then-phase-source-lt-WANTED w ↦
-          let now = w.walk-raised.ensures in
-          rw (w.flow-is, w.current-is, w.raised-is) (record {
-            phase = now.phase;
+          let now = w.walk.ensures in
+          rw (w.flow-is, w.walks-is) (record {
+            walks = now.walks;
+            same = search rules;
             dead =
                 below_more (λ k. IsTrue (seen dist (slice_index s k))
                 → IsDead net (one_of c.args.phase.t.now) (first_at c.args.phase.packed.halves.now)
-                (cell_of w.walk-raised.new.current) (slice_index s k)) c.loop-source.source-index
+                (cell_of w.walk.new.walks.current.now) (slice_index s k)) c.loop-source.source-index
                 (λ k l i. dead_on net (one_of c.args.phase.t.now) (first_at c.args.phase.packed.halves.now)
-                (cell_of c.loop-source.current) (cell_of w.walk-raised.new.current) (slice_index s k) now.risen
-                (old.dead k l i)) (λ i. now.dead);
+                (cell_of c.loop-source.walks.current.now) (cell_of w.walk.new.walks.current.now) (slice_index s k)
+                now.risen (old.dead k l i)) (λ i. now.dead);
             gentle = λ level o g. now.gentle level o (old.gentle level o g);
             never_lowered = omega (arith, old.never_lowered, now.never_lowered);
             steps = omega (arith, old.steps, now.steps);
           })
       | else-phase-source-lt-WANTED w ↦
-          rw (w.flow-is, w.current-is, w.raised-is) (record {
-            phase = old.phase;
+          rw (w.flow-is, w.walks-is) (record {
+            walks = old.walks;
+            same = old.same;
             dead =
                 below_more (λ k. IsTrue (seen dist (slice_index s k))
                 → IsDead net (one_of c.args.phase.t.now) (first_at c.args.phase.packed.halves.now)
-                (cell_of c.loop-source.current) (slice_index s k)) c.loop-source.source-index old.dead
+                (cell_of c.loop-source.walks.current.now) (slice_index s k)) c.loop-source.source-index old.dead
                 (λ i. let out = unmarked_unseen dist source node.0 w.if-phase-source-lt-WANTED.false in absurd (cc));
             gentle = old.gentle;
             never_lowered = old.never_lowered;
@@ -54,5 +56,5 @@ returns-clause-dead c = λ v i k.
     let p = place_in c.args.phase.s.now v i in
     let Seen : ℕ → Type 0 = λ w. IsTrue (seen c.args.phase.dist.now w) in
     subst (λ w. IsDead c.args.phase.packed.net.now (one_of c.args.phase.t.now) (first_at c.args.phase.packed.halves.now)
-    (cell_of c.loop-source.current) w) p.2
+    (cell_of c.loop-source.walks.current.now) w) p.2
     (c.loop-source.invariant.dead p.0 (omega (arith, p.1, c.loop-source-test.false)) (subst Seen (sym p.2) k))

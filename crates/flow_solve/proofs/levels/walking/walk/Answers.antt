@@ -1,6 +1,6 @@
 -- `walk`: a turn augments, goes on, or goes back. What is left of the phase's half-arcs, counted with the path, gets
 -- less each turn, and pays for its steps.
-use Rattle.std.proofs.Common.{ℕ, List, ◌+◌, ◌-◌, ◌≤◌, ◌<◌, set, refl, ◌∙◌, sym, ap, subst, arith}
+use Rattle.std.proofs.Common.{ℕ, List, ◌+◌, ◌-◌, ◌≤◌, ◌<◌, set, refl, ◌∙◌, sym, ap, subst, arith, rules}
 use Rattle.std.specs.Prelude.{slice_index}
 use Rattle.std.proofs.lemmas.List.{get_or-take, length-take-le}
 use Rattle.flow_net.specs.NodeSets.{one_of}
@@ -21,21 +21,16 @@ use Rattle.flow_solve.proofs.levels.walking.walk.Goals as goal
 
 pub augment-done-requires-clause-some : goal.augment-done-requires-clause-some
 augment-done-requires-clause-some c =
-    let w = c.turns.invariant.turning in
-    let sink = sink_here c.args.phase.packed.net.now c.args.phase.t.now c.args.phase.dist.now c.turns.node
-    c.requires.run.sinks w.node c.if-phase-node-eq0.true in
-    omega (
-      arith,
-      some_path w c.requires.run.terminals c.requires.source sink,
-      length-take-le c.turns.depth c.turns.path (omega (arith, w.short, w.path_size)),
-    )
+    some_path c.turns.invariant.turning c.requires.run.terminals c.requires.source
+    (sink_here c.args.phase.packed.net.now c.args.phase.t.now c.args.phase.dist.now c.turns.node
+    c.requires.run.sinks c.turns.invariant.turning.node c.if-phase-node-eq0.true)
 
 pub augment-done-requires-clause-apart : goal.augment-done-requires-clause-apart
 augment-done-requires-clause-apart c = turning_apart c.turns.invariant.turning
 
 -- the turn that augments
-pub overflow_add-raised : goal.overflow_add-raised
-overflow_add-raised c =
+pub overflow_add-walks : goal.overflow_add-walks
+overflow_add-walks c =
     let net = c.args.phase.packed.net.now in let s = one_of c.args.phase.s.now in let t = one_of c.args.phase.t.now in
     let p = (turning_augment c.turns.invariant.turning c.augment-done.result.sent c.augment-done.result.depth
     c.requires.run.packed.limits c.requires.run.terminals c.requires.source
@@ -43,10 +38,10 @@ overflow_add-raised c =
     c.requires.run.sinks c.turns.invariant.turning.node c.if-phase-node-eq0.true) c.augment-done.ensures.filling).phase
     in
     let most = value_most net (one_of c.args.phase.s.now) (one_of c.args.phase.t.now) _
-    (c.turns.raised + c.augment-done.result.sent) c.requires.run.packed.limits
+    (c.turns.walks.value + c.augment-done.result.sent) c.requires.run.packed.limits
     (terminals_apart net c.args.phase.s.now c.args.phase.t.now c.requires.run.terminals) p.feasible p.value in
     let fit = capacities_fit net c.requires.run.packed.limits in
-    omega (arith, most, fit, c.from-raised.ensures)
+    omega (arith, most, fit, c.from.ensures)
 
 pub turns-smaller-then-phase-node-eq0 : goal.turns-smaller-then-phase-node-eq0
 turns-smaller-then-phase-node-eq0 c =
@@ -55,14 +50,16 @@ turns-smaller-then-phase-node-eq0 c =
     let rank = c.args.phase.rank.now in
     let less = to_go_fill c.turns.invariant.turning c.augment-done.result.sent c.augment-done.result.depth
     c.augment-done.ensures.filling in
-    subst (λ (ys : List ℕ). to_go net halves rank c.turns.current ys c.augment-done.result.depth
-    < to_go net halves rank c.turns.current c.turns.flow.flows c.turns.depth) (sym c.augment-done.ensures.flows) less
+    subst (λ (ys : List ℕ). to_go net halves rank c.turns.walks.current.now ys c.augment-done.result.depth
+    < to_go net halves rank c.turns.walks.current.now c.turns.flow.flows c.turns.depth)
+    (sym c.augment-done.ensures.flows) less
 
 pub turns-preserved-then-phase-node-eq0 : goal.turns-preserved-then-phase-node-eq0
 turns-preserved-then-phase-node-eq0 c =
     let old = c.turns.invariant in let net = c.args.phase.packed.net.now in
-    let long = length-take-le c.turns.depth c.turns.path (omega (arith, old.turning.short, old.turning.path_size)) in
-    let lead = get_or-take c.turns.depth c.turns.path c.augment-done.result.depth 0
+    let long = length-take-le c.turns.depth c.turns.walks.path.now
+    (omega (arith, old.turning.short, old.turning.path_size)) in
+    let lead = get_or-take c.turns.depth c.turns.walks.path.now c.augment-done.result.depth 0
     (omega (arith, long, c.augment-done.ensures.filling.place)) in
     let tail = c.augment-done.ensures.tail ∙ ap (tail_of net) lead in
     record {
@@ -71,12 +68,13 @@ turns-preserved-then-phase-node-eq0 c =
           c.requires.run.packed.limits c.requires.run.terminals c.requires.source
           (sink_here c.args.phase.packed.net.now c.args.phase.t.now c.args.phase.dist.now c.turns.node
           c.requires.run.sinks c.turns.invariant.turning.node c.if-phase-node-eq0.true) c.augment-done.ensures.filling)
-          refl c.augment-done.ensures.flows tail (ap (λ z. c.turns.raised + z) c.from-raised.ensures)
+          refl c.augment-done.ensures.flows tail (ap (λ z. c.turns.walks.value + z) c.from.ensures)
           (omega (arith, c.augment-done.ensures.steps, long));
       gentle = λ level o g.
           subst (λ (ys : List ℕ). IsGentle net ys level) (sym c.augment-done.ensures.flows)
           (turning_gentle old.turning c.augment-done.result.sent level c.requires.run.packed.limits o
           (old.gentle level o g));
+      same = search rules;
       risen = old.risen;
       never_lowered = omega (arith, old.never_lowered, c.augment-done.ensures.steps);
     }
@@ -87,10 +85,11 @@ turns-smaller-in-Some c =
     let net = c.args.phase.packed.net.now in
     let halves = c.args.phase.packed.halves.now in
     let rank = c.args.phase.rank.now in
-    let less = to_go_longer net halves rank c.turns.current c.admissible.new.current c.turns.flow.flows c.turns.node
-    c.turns.depth c.admissible.ensures.looked.moved c.turns.invariant.turning.short in
+    let less = to_go_longer net halves rank c.turns.walks.current.now c.admissible.new.current c.turns.flow.flows
+    c.turns.node c.turns.depth c.admissible.ensures.looked.moved c.turns.invariant.turning.short in
     subst (λ (ys : List ℕ). to_go net halves rank c.admissible.new.current ys (c.turns.depth + 1)
-    < to_go net halves rank c.turns.current c.turns.flow.flows c.turns.depth) (sym c.admissible.ensures.flows) less
+    < to_go net halves rank c.turns.walks.current.now c.turns.flow.flows c.turns.depth)
+    (sym c.admissible.ensures.flows) less
 
 pub turns-preserved-in-Some : goal.turns-preserved-in-Some
 turns-preserved-in-Some c =
@@ -99,23 +98,28 @@ turns-preserved-in-Some c =
     c.requires.ranked c.admissible.ensures.looked found.some found.steps_some in
     record {
       turning = turning_as on refl found.flows c.head-node.ensures.head refl refl;
+      same = search rules;
       gentle = λ level o g. subst (λ (ys : List ℕ). IsGentle net ys level) (sym found.flows) (old.gentle level o g);
       risen = λ v.
           omega (
             arith,
             old.risen v,
-            moved_up (cell_of c.turns.current) (cell_of c.admissible.new.current) c.turns.node found.looked.moved v,
+            moved_up (cell_of c.turns.walks.current.now) (cell_of c.admissible.new.current) c.turns.node
+                found.looked.moved v,
           );
       never_lowered = omega (arith, old.never_lowered, found.never_lowered);
     }
 
 -- the end: the source has no half-arc left
-pub returns-then-depth-eq0-clause-phase : goal.returns-then-depth-eq0-clause-phase
-returns-then-depth-eq0-clause-phase c =
-    subst (λ (ys : List ℕ). IsInPhase c.args.phase.packed.net.now c.args.phase.s.now c.args.phase.t.now
-    c.args.phase.packed.first.now c.args.phase.packed.halves.now c.args.phase.rank.now c.admissible.new.current ys
-    c.turns.raised) (sym c.admissible.ensures.flows)
-    (looked_phase c.admissible.ensures.looked c.turns.invariant.turning.phase)
+pub returns-then-depth-eq0-clause-walks : goal.returns-then-depth-eq0-clause-walks
+returns-then-depth-eq0-clause-walks c = record {
+  phase =
+      subst (λ (ys : List ℕ). IsInPhase c.args.phase.packed.net.now c.args.phase.s.now c.args.phase.t.now
+      c.args.phase.packed.first.now c.args.phase.packed.halves.now c.args.phase.rank.now c.admissible.new.current ys
+      c.turns.walks.value) (sym c.admissible.ensures.flows)
+      (looked_phase c.admissible.ensures.looked c.turns.invariant.turning.phase);
+  path_size = c.turns.invariant.turning.path_size;
+}
 
 pub returns-then-depth-eq0-clause-dead : goal.returns-then-depth-eq0-clause-dead
 returns-then-depth-eq0-clause-dead c =
@@ -142,15 +146,15 @@ returns-then-depth-eq0-clause-steps c =
     let paid = turning_end c.turns.invariant.turning c.admissible.new.flow.steps c.if-depth-eq0.true
     c.admissible.ensures.looked (omega (arith, c.in_default.ensures.steps_none)) in
     subst (λ (ys : List ℕ). c.admissible.new.flow.steps + owed net halves rank c.admissible.new.current ys
-    ≤ c.args.flow.now.steps + owed net halves rank c.args.current.now c.args.flow.now.flows)
+    ≤ c.args.flow.now.steps + owed net halves rank c.args.walks.now.current.now c.args.flow.now.flows)
     (sym c.admissible.ensures.flows) paid
 
 -- a half-arc of the path is one of the network's
 pub tail-node-requires : goal.tail-node-requires
 tail-node-requires c = half_on c.turns.invariant.turning (c.turns.depth - 1) (omega (arith, c.if-depth-eq0.false))
 
-pub overflow_add-current : goal.overflow_add-current
-overflow_add-current c =
+pub overflow_add-walks-else-depth-eq0 : goal.overflow_add-walks-else-depth-eq0
+overflow_add-walks-else-depth-eq0 c =
     let node = c.tail-node.ensures.node in let net = c.args.phase.packed.net.now in
     let place = c.admissible.ensures.looked.places c.tail-node.result node in
     let most = c.requires.run.packed.most c.tail-node.result (omega (arith, node)) in
@@ -166,14 +170,14 @@ turns-smaller c =
     let less = to_go_pass c.turns.invariant.turning (c.turns.depth - 1) (omega (arith, c.if-depth-eq0.false))
     c.requires.run.packed.limits c.admissible.ensures.looked in
     subst (λ (zs : List ℕ). to_go net halves rank zs c.admissible.new.flow.flows (c.turns.depth - 1)
-    < to_go net halves rank c.turns.current c.turns.flow.flows c.turns.depth)
+    < to_go net halves rank c.turns.walks.current.now c.turns.flow.flows c.turns.depth)
     (sym (stepped c.admissible.new.current c.tail-node.result c.tail-node.ensures.node.0
     ∙ ap (λ (z : ℕ). set c.admissible.new.current (z - 1) (cell_of c.admissible.new.current z + 1))
     c.tail-node.ensures.tail))
     (subst (λ (ys : List ℕ). to_go net halves rank
-    (set c.admissible.new.current (tail_of net (slice_index c.turns.path (c.turns.depth - 1)) - 1)
-    (cell_of c.admissible.new.current (tail_of net (slice_index c.turns.path (c.turns.depth - 1))) + 1)) ys
-    (c.turns.depth - 1) < to_go net halves rank c.turns.current c.turns.flow.flows c.turns.depth)
+    (set c.admissible.new.current (tail_of net (slice_index c.turns.walks.path.now (c.turns.depth - 1)) - 1)
+    (cell_of c.admissible.new.current (tail_of net (slice_index c.turns.walks.path.now (c.turns.depth - 1))) + 1)) ys
+    (c.turns.depth - 1) < to_go net halves rank c.turns.walks.current.now c.turns.flow.flows c.turns.depth)
     (sym c.admissible.ensures.flows) less)
 
 pub turns-preserved : goal.turns-preserved
@@ -194,11 +198,13 @@ turns-preserved c =
           ∙ ap (λ (z : ℕ). set c.admissible.new.current (z - 1)
           (cell_of c.admissible.new.current z + 1)) c.tail-node.ensures.tail) found.flows c.tail-node.ensures.tail refl
           refl;
+      same = search rules;
       gentle = λ level o g. subst (λ (ys : List ℕ). IsGentle net ys level) (sym found.flows) (old.gentle level o g);
       risen = λ v. omega (
         arith,
         old.risen v,
-        moved_up (cell_of c.turns.current) (cell_of c.admissible.new.current) c.turns.node found.looked.moved v,
+        moved_up (cell_of c.turns.walks.current.now) (cell_of c.admissible.new.current) c.turns.node
+            found.looked.moved v,
         on_up (cell_of c.admissible.new.current)
             (cell_of (set c.admissible.new.current (y - 1) (cell_of c.admissible.new.current y + 1))) y o v,
         ap (λ (zs : List ℕ). cell_of zs v) same,

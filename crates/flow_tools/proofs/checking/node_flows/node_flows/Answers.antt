@@ -1,5 +1,5 @@
 -- A cell with a line's flow added fits 128 bits, since the sum over all lines does.
-use Rattle.std.proofs.Common.{◌≡◌, ◌+◌, ◌-◌, length, get_or, take, arith}
+use Rattle.std.proofs.Common.{◌+◌, ◌-◌, get_or, take, arith}
 use Rattle.flow_net.specs.NodeSets.{just}
 use Rattle.flow_tools.proofs.checking.LineSums.{line_flow_more}
 use Rattle.flow_tools.proofs.checking.Shares.{no_line}

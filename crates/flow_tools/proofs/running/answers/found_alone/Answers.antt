@@ -1,5 +1,5 @@
 -- `found_alone`: what was found, or that memory was refused.
-use Rattle.std.proofs.Common.{IfOk, subst, Ok, Err, []}
+use Rattle.std.proofs.Common.{IfOk, subst, []}
 use Rattle.flow_tools.specs.running.AnswerExits.{IsAnswerTo}
 use Rattle.flow_tools.proofs.running.EndLemmas.{found, no_memory}
 use Rattle.flow_tools.proofs.running.answers.found_alone.Goals as goal

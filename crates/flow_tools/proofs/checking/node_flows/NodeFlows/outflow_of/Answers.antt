@@ -1,5 +1,5 @@
 -- The sums of the cells are those over the lines, and their difference is taken in signed numbers.
-use Rattle.std.proofs.Common.{◌≡◌, ◌∙◌, ap, subst, List, ℕ, length, sym, sum_by, arith}
+use Rattle.std.proofs.Common.{◌≡◌, ◌∙◌, ap, subst, List, ℕ, sum_by, arith}
 use Rattle.std.specs.List.{All}
 use Rattle.std.proofs.lemmas.Int.{ints}
 use Rattle.flow_tools.specs.checking.NodeSums.{IsCellOf, at_node}

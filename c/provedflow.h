@@ -15,7 +15,8 @@
  *     be NULL.
  *   - What a call writes (flow, side, high, low, links, verdict) overlaps nothing else that is passed to it.
  *   - While the call runs, nobody else writes what it reads, and nobody else reads or writes what it writes.
- *   - malloc, realloc and free belong to one allocator, and no call is made from a signal handler.
+ *   - malloc, realloc and free belong to one allocator, which aligns blocks as C wants it.
+ *   - No call is made from a signal handler, nor in a forked child of a process with threads.
  * Everything else is tested before it is used: the number of nodes, the ends of arcs, the terminals.
  *
  * Each function answers a status. Where it isn't PROVEDFLOW_OK, nothing was written. Lists that keep the limits are

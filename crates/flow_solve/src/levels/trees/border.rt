@@ -3,12 +3,11 @@
 //! Where the active nodes have run out nothing remains on a half-arc that leads into that tree from outside, so that
 //! the nodes outside are the source side of a minimum cut. Nothing is claimed of the trees, so each such half-arc is
 //! looked at. The arcs are read in their order, and few of them cross the border.
-ghost use Rattle.std.specs.Prelude.{◌≡◌, ℕ, ◌+◌, ◌*◌, ◌<◌, ◌≤◌, true, false, IsTrue, length};
+ghost use Rattle.std.specs.Prelude.{◌≡◌, ◌+◌, ◌*◌, ◌<◌, ◌≤◌, IsTrue, length};
 ghost use Rattle.std.specs.List.{All};
-ghost use Rattle.flow_net.specs.Nets.{IsNode};
 ghost use Rattle.flow_net.specs.Limits.{IsNet};
 ghost use Rattle.flow_net.specs.Flows.{Fits};
-ghost use Rattle.flow_net.specs.Residual.{residual, IsClosed};
+ghost use Rattle.flow_net.specs.Residual.{IsClosed};
 ghost use Rattle.flow_solve.specs.Task.{IsTask};
 ghost use Rattle.flow_solve.specs.levels.Trees.{outside, HasNoMore, IsPassed};
 ghost use Rattle.flow_solve.specs.Steps.{OnlyLooks};

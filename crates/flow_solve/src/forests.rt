@@ -24,11 +24,10 @@
 //! | `4·n + 1` | four hints for each node |
 //! | `n` | the nodes that the forest goes back to; the queue of a search |
 //! | `1` | spare |
-ghost use Rattle.std.specs.Prelude.{◌≡◌, ℕ, Bool, ◌+◌, ◌*◌, ◌≤◌, ◌<◌, ◌-◌, IfSome, IsTrue, if◌then◌else◌, length};
+ghost use Rattle.std.specs.Prelude.{◌≡◌, ℕ, ◌+◌, ◌*◌, ◌≤◌, ◌<◌, ◌-◌, IfSome, IsTrue, if◌then◌else◌, length};
 ghost use Rattle.std.specs.List.{All};
 ghost use Rattle.flow_net.specs.Nets.{IsNode};
 ghost use Rattle.flow_net.specs.Flows.{Fits};
-ghost use Rattle.flow_net.specs.Connectivity.{leaving, IsProper};
 ghost use Rattle.flow_net.specs.LeastCuts.{IsConnectivity};
 ghost use Rattle.flow_net.specs.Limits.{IsNet};
 ghost use Rattle.flow_solve.specs.Bounds.{work_cells};
@@ -41,7 +40,7 @@ mod joining;
 mod rows;
 
 use crate::residual::half_arcs::Direction;
-use degrees::{are_even, goes_both_ways, has_balanced_degrees};
+use degrees::{are_balanced, are_even, goes_both_ways, least_degree};
 use flow_net::{FlowTable, Network};
 use growing::{DONE, Front, begin, grow, is_whole, next_node, reach};
 use joining::{Budgeted, raise};
@@ -214,9 +213,8 @@ fn has_more_arcs(net: &Network, least: u64) -> bool {
     net.len() as u64 > least.saturating_mul(net.nodes() as u64)
 }
 
-/// The edge connectivity of a network in which every capacity is 1, where a set of nodes is known that `least` arcs
-/// leave and that is neither empty nor all. It takes at most `budget` looks and pushes, and answers nothing where these
-/// don't suffice or a test fails.
+/// The edge connectivity of a network in which every capacity is 1. It takes at most `budget` looks and pushes, and
+/// answers nothing where these don't suffice or a test fails.
 ///
 /// That it answers at all is tested, and not promised: a body that always answers nothing meets this contract. Whoever
 /// calls it needs another way to the number, as `connectivity` of `flow_tools` has, and so is right either way.
@@ -224,14 +222,12 @@ fn has_more_arcs(net: &Network, least: u64) -> bool {
 /// It takes no memory: it works in the first [`work_len`](crate::work_len) cells of `work`.
 pub fn connectivity_by_forests(
     net: &Network,
-    least: u64,
     flow: &mut FlowTable,
     work: &mut [u32],
     budget: u64,
 ) -> Option<u64>
     requires fits { Fits net.now flow.old.flows }
     requires unit { All (λ a. a.cap ≡ 1) net.now.arcs }
-    requires reached { (X : ℕ → Bool) × IsProper net.now X × (leaving net.now X ≡ least) }
     requires cells { length work.old ≡ work_cells net.now }
     ensures connectivity { IfSome result (λ k. IsConnectivity net.now k) }
     ensures never_lowered { flow.old.steps ≤ flow.new.steps }
@@ -240,7 +236,11 @@ pub fn connectivity_by_forests(
 {
     let m = net.len() as usize;
     let (rows, cells) = work.split_at_mut(2 * m);
-    let is_balanced = has_balanced_degrees(net, cells);
+    let least = least_degree(net, cells);
+    if least == 0 {
+        return Some(0);
+    }
+    let is_balanced = are_balanced(net, cells);
     let is_even = is_balanced && are_even(net, cells);
     let mut ground = Ground {
         net,
@@ -257,7 +257,7 @@ pub fn connectivity_by_forests(
         return Some(forth.value);
     }
     // The cells get the degrees again.
-    let _ = has_balanced_degrees(net, cells);
+    let _ = least_degree(net, cells);
     ground.direction = Direction::Forwards;
     let back = run_pass(ground, rows, cells, flow, false, forth)?;
     Some(back.value)

@@ -38,7 +38,7 @@ pub mod stages;
 mod task;
 
 pub use forests::connectivity_by_forests;
-pub use forests::degrees::{has_balanced_degrees, least_degree};
+pub use forests::degrees::{are_balanced, least_degree};
 pub use levels::Levels;
 pub use method::{Method, work_len};
 pub use paths::Paths;

@@ -89,19 +89,15 @@ fn least_cut<M: Method>(net: &Network, flow: &mut FlowTable, cells: &mut [u32]) 
     ensures steps { flow.new.steps ≤ flow.old.steps + 2 * (net.now.nodes - 1) * M.steps_bound net.now }
     ensures still_fits { Fits net.now flow.new.flows }
 {
-    let n = net.nodes();
-    let least = least_degree(net, cells);
-    if least == 0 {
-        return 0;
-    }
-    if n == 2 {
-        return least;
+    if net.nodes() == 2 {
+        return least_degree(net, cells);
     }
     let spare = M::spare_steps(net);
-    match connectivity_by_forests(net, least, flow, cells, spare) {
-        Some(connectivity) => connectivity,
-        None => least_around::<M>(net, flow, cells, least),
+    if let Some(connectivity) = connectivity_by_forests(net, flow, cells, spare) {
+        return connectivity;
     }
+    let least = least_degree(net, cells);
+    least_around::<M>(net, flow, cells, least)
 }
 
 /// The edge connectivity of a network in which every capacity is 1: the least number of arcs that leave a set of nodes

@@ -2,7 +2,7 @@
 //!
 //! Where as many arcs leave each node as enter it, forests one way are enough. Such a network is Eulerian if
 //! it is connected. Networks both ways are balanced, with their arcs in any order, and directed rings.
-ghost use Rattle.std.specs.Prelude.{◌≡◌, ℕ, ◌-◌, ◌*◌, ◌≤◌, ◌<◌, Bool, IsTrue, length, slice_index};
+ghost use Rattle.std.specs.Prelude.{◌≡◌, ℕ, ◌-◌, ◌*◌, ◌≤◌, ◌<◌, Bool, IsTrue, length, slice_index, drop};
 ghost use Rattle.flow_net.specs.Nets.{IsNode};
 ghost use Rattle.flow_net.specs.NodeSets.{just};
 ghost use Rattle.flow_net.specs.Connectivity.{leaving, IsProper};
@@ -45,11 +45,13 @@ fn least_of(numbers: &[u32]) -> u32
     least
 }
 
-/// The least number of arcs that leave a node, or that enter one: the connectivity is no greater.
+/// The least number of arcs that leave a node, or that enter one: the connectivity is no greater. The first cells then
+/// have how many leave each node, and those behind them how many enter each.
 pub fn least_degree(net: &Network, cells: &mut [u32]) -> u64
     requires cells { 2 * net.now.nodes ≤ length cells.old }
     ensures reached { (X : ℕ → Bool) × IsProper net.now X × (leaving net.now X ≡ result) }
     ensures least { (v : ℕ) → IsNode net.now v → result ≤ leaving net.now (just v) }
+    ensures degrees { AreDegrees net.now.nodes net.now.arcs cells.new (drop net.now.nodes cells.new) }
 {
     let n = net.nodes() as usize;
     let (counts, _rest) = cells.split_at_mut(2 * n);
@@ -60,18 +62,15 @@ pub fn least_degree(net: &Network, cells: &mut [u32]) -> u64
     leaving.min(entering) as u64
 }
 
-/// Whether as many arcs leave each node as enter it: as many then leave each set of nodes as enter it. It works in the
-/// first cells of `degrees`, two for each node.
-pub fn has_balanced_degrees(net: &Network, degrees: &mut [u32]) -> bool
-    requires cells { 2 * net.now.nodes ≤ length degrees.old }
-    ensures balanced { IsTrue result → IsEitherWay net.now }
-    ensures leaving { (v : ℕ) → IsNode net.now v → slice_index degrees.new (v - 1) ≡ leaving net.now (just v) }
+/// Whether as many arcs leave each node as enter it: as many then leave each set of nodes as enter it.
+pub fn are_balanced(net: &Network, degrees: &[u32]) -> bool
+    requires cells { 2 * net.now.nodes ≤ length degrees.now }
+    requires degrees { AreDegrees net.now.nodes net.now.arcs degrees.now (drop net.now.nodes degrees.now) }
+    ensures { IsTrue result → IsEitherWay net.now }
 {
     let n = net.nodes() as usize;
-    let (leaving, rest) = degrees.split_at_mut(n);
-    let (entering, _) = rest.split_at_mut(n);
-    count_degrees(net, leaving, entering);
-    let (leaving, entering): (&[u32], &[u32]) = (leaving, entering);
+    let (leaving, rest) = degrees.split_at(n);
+    let (entering, _) = rest.split_at(n);
     leaving == entering
 }
 
@@ -90,11 +89,10 @@ pub(crate) fn goes_both_ways(net: &Network) -> bool
     net.len() % 2 == 0
 }
 
-/// Whether an even number of arcs leaves each set of nodes, as the degrees show it in a network both ways. The first
-/// cells have the number of arcs that leave each node.
+/// Whether an even number of arcs leaves each set of nodes, as the degrees show it in a network both ways.
 pub(crate) fn are_even(net: &Network, degrees: &[u32]) -> bool
     requires cells { net.now.nodes ≤ length degrees.now }
-    requires leaving { (v : ℕ) → IsNode net.now v → slice_index degrees.now (v - 1) ≡ leaving net.now (just v) }
+    requires degrees { AreDegrees net.now.nodes net.now.arcs degrees.now (drop net.now.nodes degrees.now) }
     requires balanced { IsEitherWay net.now }
     ensures { IsTrue result → IsEulerian net.now }
 {

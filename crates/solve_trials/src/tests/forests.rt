@@ -1,7 +1,6 @@
 //! Networks with balanced degrees, and the connectivity by forests of some of them: what a count by hand says of each.
-ghost use Rattle.std.specs.Prelude.{◌≡◌, ◌≤◌, ℕ, Bool, IsTrue};
+ghost use Rattle.std.specs.Prelude.{◌≡◌, ◌≤◌, IsTrue};
 ghost use Rattle.std.specs.List.{All};
-ghost use Rattle.flow_net.specs.Connectivity.{leaving, IsProper};
 
 use super::*;
 
@@ -40,25 +39,12 @@ fn are_units(net: &Network) -> bool
     true
 }
 
-/// How many arcs leave node 1.
-fn first_degree(net: &Network) -> u64
-    ensures { (X : ℕ → Bool) × IsProper net.now X × (leaving net.now X ≡ result) }
-{
-    let mut degree = 0u64;
-    for i in 0..net.len() {
-        let arc = net.arc(i);
-        if arc.src == 1 && arc.dst != 1 {
-            degree += 1;
-        }
-    }
-    degree
-}
-
 /// Whether as many arcs leave each node as enter it; nothing if memory is refused.
 fn is_balanced(alloc: Global, net: &Network) -> Option<bool> {
     let nodes = net.nodes() as usize;
     let mut degrees = Vec::from_elem(alloc, 7u32, 2 * nodes).ok()?;
-    Some(has_balanced_degrees(net, degrees.as_mut_slice()))
+    let _ = least_degree(net, degrees.as_mut_slice());
+    Some(are_balanced(net, degrees.as_slice()))
 }
 
 /// The connectivity by forests; nothing if a capacity isn't 1, memory is refused, or it takes more steps than it may.
@@ -68,13 +54,7 @@ fn grown_within(alloc: Global, net: &Network, budget: u64) -> Option<u64> {
     if !are_units(net) {
         return None;
     }
-    connectivity_by_forests(
-        net,
-        first_degree(net),
-        &mut flow,
-        work.as_mut_slice(),
-        budget,
-    )
+    connectivity_by_forests(net, &mut flow, work.as_mut_slice(), budget)
 }
 
 const UNITS: &[Unit] = &[

@@ -5,7 +5,7 @@ ghost use Rattle.std.specs.List.{All};
 ghost use Rattle.flow_solve.specs.Bounds.{levels_bound};
 
 use flow_net::{Arc, FEWEST_NODES, FlowTable, MOST_ARCS, MOST_NODES, Network};
-use flow_solve::{Levels, Method, connectivity_by_forests, least_degree, work_len};
+use flow_solve::{Levels, Method, connectivity_by_forests, work_len};
 use flow_tools::connectivity;
 use std::alloc::Global;
 
@@ -80,8 +80,7 @@ pub(super) fn grown_within(alloc: Global, net: &Network, budget: u64) -> Option<
         return None;
     };
     let work = cells.as_mut_slice();
-    let least = least_degree(net, work);
-    connectivity_by_forests(net, least, &mut flow, work, budget)
+    connectivity_by_forests(net, &mut flow, work, budget)
 }
 
 /// The next number of a fixed sequence.

@@ -4,14 +4,14 @@ use Rattle.std.proofs.Common.{arith}
 use Rattle.flow_tools.proofs.connecting.CircleLemmas.{two_nodes, both_steps}
 use Rattle.flow_tools.proofs.connecting.least_cut.Goals as goal
 
-pub returns-then-n-eq2-clause-connectivity : goal.returns-then-n-eq2-clause-connectivity
-returns-then-n-eq2-clause-connectivity g c =
-    two_nodes c.args.net.now c.least_degree-least.result c.nodes-n.ensures.is_net (omega arith)
-    c.least_degree-least.ensures.reached c.least_degree-least.ensures.least
+pub returns-then-nodes-eq2-clause-connectivity : goal.returns-then-nodes-eq2-clause-connectivity
+returns-then-nodes-eq2-clause-connectivity g c =
+    two_nodes c.args.net.now c.least_degree.result c.nodes.ensures.is_net (omega arith) c.least_degree.ensures.reached
+    c.least_degree.ensures.least
 
-pub returns-in-None-clause-steps : goal.returns-in-None-clause-steps
-returns-in-None-clause-steps g c =
-    let two = c.nodes-n.ensures.is_net.nodes_least in
+pub returns-clause-steps : goal.returns-clause-steps
+returns-clause-steps g c =
+    let two = c.nodes.ensures.is_net.nodes_least in
     let both = both_steps c.args.net.now.nodes (g.M.Method.steps_bound c.args.net.now) (omega arith) in
     omega
     (arith, both, c.spare_steps-spare.ensures, c.connectivity_by_forests.ensures.steps, c.least_around.ensures.steps)

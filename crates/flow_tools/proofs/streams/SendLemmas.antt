@@ -27,6 +27,9 @@ sends_taken a b c waiting text n s p = record {
 pub sends_stopped : (a b : Option (List ℕ)) (waiting text : List ℕ) → Sends a b waiting text → Stops a b text
 sends_stopped a b waiting text s = record { sent = s.sent; taken = s.taken; part = (waiting, s.whole) }
 
+-- how a text is put from its first byte to its last, or to where a put failed
+pub ruleset sends = (sends_start, sends_taken, sends_stopped)
+
 -- the same, of `&waiting[n..]`
 pub sends_rest : (a b c : Option (List ℕ)) (waiting text : List ℕ) (n : ℕ) → Sends a b waiting text
     → Appends b c (take n waiting) → Sends a c (take (length waiting - n) (drop n waiting)) text

@@ -13,7 +13,7 @@ pub(crate) type Gathered = ArrayVec<u8, 65536>;
 /// # Errors
 ///
 /// `Failed` where a put failed. A beginning of the bytes was then taken.
-#[tactic(auto, using(crate::proofs::streams::SendLemmas::sends_start, crate::proofs::streams::SendLemmas::sends_taken, crate::proofs::streams::SendLemmas::sends_stopped))]
+#[tactic(auto, using(crate::proofs::streams::SendLemmas::sends))]
 pub fn put_all<O: Output>(out: &mut O, bytes: &[u8]) -> Result<(), Failed>
     ensures { IsPut bytes.now (over (O.state out.old) (O.state out.new)) result }
 {

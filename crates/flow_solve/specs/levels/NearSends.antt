@@ -38,7 +38,7 @@ pub record StaysAt (before after : Sending) : Type 0 where
   pub last : after.last.ghost_name ≡ before.last.ghost_name
 
 -- Sends go on: the task has a flow still, the steps taken are paid, and no more may be done than before.
-pub record GoesOn (before : Table) (old : Sending) (given : ℕ) (after : Table) (new : Sending) : Type 0 where
+pub record KeepsSending (before : Table) (old : Sending) (given : ℕ) (after : Table) (new : Sending) : Type 0 where
   pub sending : IsSending after new
   pub stays : StaysAt old new
   pub paid : PaysSteps before given after new.left

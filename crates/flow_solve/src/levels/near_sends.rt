@@ -14,7 +14,7 @@ ghost use Rattle.flow_solve.specs.residual.Packs.{IsPacked};
 ghost use Rattle.flow_solve.specs.Task.{HasFlow, IsTask, KeepsFlow};
 ghost use Rattle.flow_solve.specs.Steps.{OnlyLooks, TakesSteps};
 ghost use Rattle.flow_solve.specs.levels.Carrying.{IsCarried};
-ghost use Rattle.flow_solve.specs.levels.NearSends.{AreLast, GoesOn, IsFirst, IsSending};
+ghost use Rattle.flow_solve.specs.levels.NearSends.{AreLast, IsFirst, IsSending, KeepsSending};
 
 use crate::levels::spending::spend;
 use crate::residual::half_arcs::{head, twin};
@@ -134,7 +134,7 @@ fn send_over_one(flow: &mut FlowTable, sending: &mut Sending<'_, '_>, first: u32
     requires sending { IsSending flow.old sending.old }
     requires first { IsFirst sending.old.task first }
     requires most { most ≤ residual sending.old.task.packed.net.now flow.old.flows first }
-    ensures going { GoesOn flow.old sending.old sending.old.left flow.new sending.new }
+    ensures kept { KeepsSending flow.old sending.old sending.old.left flow.new sending.new }
     ensures sent { result ≤ most }
     ensures room { most ≤ result + residual sending.old.task.packed.net.now flow.new.flows first }
 {
@@ -174,7 +174,7 @@ fn send_over_two(
     requires apart { tail_of sending.old.task.packed.net.now between
         ≢ head_of sending.old.task.packed.net.now between }
     requires most { most ≤ residual sending.old.task.packed.net.now flow.old.flows first }
-    ensures going { GoesOn flow.old sending.old (sending.old.left + 1) flow.new sending.new }
+    ensures kept { KeepsSending flow.old sending.old (sending.old.left + 1) flow.new sending.new }
     ensures sent { result ≤ most }
     ensures room { most ≤ result + residual sending.old.task.packed.net.now flow.new.flows first }
 {
@@ -204,7 +204,7 @@ fn send_over_two(
 fn send_over(flow: &mut FlowTable, sending: &mut Sending<'_, '_>, first: u32)
     requires sending { IsSending flow.old sending.old }
     requires first { IsFirst sending.old.task first }
-    ensures { GoesOn flow.old sending.old (sending.old.left + 1) flow.new sending.new }
+    ensures { KeepsSending flow.old sending.old (sending.old.left + 1) flow.new sending.new }
 {
     let packed = sending.task.packed;
     let (_, mut room) = flow.look(packed.net, first);
@@ -235,7 +235,7 @@ fn send_from(flow: &mut FlowTable, sending: &mut Sending<'_, '_>, source: u32)
     requires sending { IsSending flow.old sending.old }
     requires source { IsNode sending.old.task.packed.net.now source }
     requires is_source { IsTrue (one_of sending.old.task.s.now source) }
-    ensures { GoesOn flow.old sending.old sending.old.left flow.new sending.new }
+    ensures { KeepsSending flow.old sending.old sending.old.left flow.new sending.new }
 {
     let packed = sending.task.packed;
     let begin = packed.first[source as usize - 1];

@@ -30,8 +30,8 @@ overflow_add-sending c =
       c.from.ensures,
     )
 
-pub returns-clause-going : goal.returns-clause-going
-returns-clause-going c =
+pub returns-clause-kept : goal.returns-clause-kept
+returns-clause-kept c =
     let task = c.args.sending.now.task in let net = task.packed.net.now in let s = task.s.now in let t = task.t.now in
     let d = c.fit_last-amount.result in let k = c.args.sending.now.value in let first = c.args.first in
     let place = c.head-node.result - 1 in let end = slice_index c.args.sending.now.last.now place in

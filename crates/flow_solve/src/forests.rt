@@ -58,6 +58,8 @@ pub(crate) struct Ground<'a> {
     pub direction: Direction,
     /// Whether rows are made of pairs. The second half of the arcs are then those of the first turned round, as a hint.
     pub paired: bool,
+    /// Whether the pair of an arc and that of its opposite are put down one after the other, and so stand near.
+    pub beside: bool,
 }
 
 /// Joins the nodes that a forest hasn't come to, one after the other, and lets the forest grow on from each, as long as
@@ -242,11 +244,13 @@ pub fn connectivity_by_forests(
     }
     let is_balanced = are_balanced(net, cells);
     let is_even = is_balanced && are_even(net, cells);
+    let paired = is_even || goes_both_ways(net);
     let mut ground = Ground {
         net,
         root: hub(net, cells),
         direction: Direction::Backwards,
-        paired: (is_even || has_more_arcs(net, least)) && goes_both_ways(net),
+        paired,
+        beside: paired && (is_even || has_more_arcs(net, least)),
     };
     let start = Budgeted {
         value: least,

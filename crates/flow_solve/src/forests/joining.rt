@@ -12,7 +12,7 @@ ghost use Rattle.flow_solve.specs.Steps.{OnlyLooks, PaysLooks};
 
 use crate::forests::Ground;
 use crate::forests::growing::DONE;
-use crate::forests::rows::{FIRST, PLACE, RECORD, half_in, queue_at, record, spot_of};
+use crate::forests::rows::{FIRST, NONE, PLACE, RECORD, half_in, queue_at, record, spot_of};
 use crate::residual::cells::{get, put};
 use crate::residual::half_arcs::{cross, far, head, near};
 use flow_net::{FlowTable, Network};
@@ -101,7 +101,8 @@ fn opposite(net: &Network, half: u32) -> u32
     }
 }
 
-/// Looks at the half-arc of an entry, and at the one that stands for it.
+/// Looks at the half-arc of an entry, and before it at the one against the opposite arc, on which mostly more remains;
+/// at neither if the search has seen the node that they lead to, by the hint.
 fn search_entry(
     ground: Ground<'_>,
     rows: &[u32],
@@ -118,16 +119,24 @@ fn search_entry(
     ensures next { result.at ≡ search.at }
     ensures looks { PaysLooks flow.old search.left flow.new result.left }
 {
-    let half = half_in(get(rows, spot_of(ground, entry)));
+    let at = spot_of(ground, entry);
+    let half = half_in(get(rows, at));
     if half >= 2 * ground.net.len() {
         return search;
     }
-    let next = search_over(ground, state, hints, flow, search, half);
-    if !ground.paired || next.found.is_some() {
-        return next;
+    if !ground.paired {
+        return search_over(ground, state, hints, flow, search, half);
+    }
+    let behind = NONE - get(rows, at + 1);
+    if get(state, (behind as usize).wrapping_sub(1)) == SEEN {
+        return search;
     }
     let opposite = opposite(ground.net, half);
-    search_over(ground, state, hints, flow, next, opposite)
+    let next = search_over(ground, state, hints, flow, search, opposite);
+    if next.found.is_some() {
+        return next;
+    }
+    search_over(ground, state, hints, flow, next, half)
 }
 
 /// Looks at the half-arcs of the next node that the search has seen, until it has found a path.

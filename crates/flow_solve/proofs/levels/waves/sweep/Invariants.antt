@@ -1,13 +1,11 @@
 -- `sweep`: what the nodes before have sent on is paid, and each turn takes something off what may still be done.
-use Rattle.flow_solve.specs.levels.Waves.{IsWaving, StaysIn}
-use Rattle.flow_solve.specs.Steps.{PaysSteps}
+use Rattle.flow_solve.specs.levels.Waves.{HasSent, IsWaving}
 use Rattle.flow_solve.proofs.levels.waves.sweep.Given as goal
 
 abbrev pub invariant-turns : goal.invariant-turns
 invariant-turns l = record {
   waving : IsWaving l.packed l.flow l.wave;
-  stays : StaysIn l.fn.wave l.wave;
-  paid : PaysSteps l.fn.flow l.fn.wave.left l.flow l.wave.left;
+  sent : HasSent l.packed l.fn.flow l.fn.wave l.flow l.wave;
 }
 
 abbrev pub decreases-turns : goal.decreases-turns

@@ -15,7 +15,6 @@ use Rattle.flow_tools.specs.running.Exits.{EndsAt, HasComeToSolution, IsAllowed,
 use Rattle.flow_tools.specs.running.AnswerExits.{Runs, Finds, FindsAt, IsAnswerTo, text_of, status_of}
 use Rattle.flow_tools.specs.declared.running.answers.Answer.{Answer}
 use Rattle.flow_tools.specs.declared.running.jobs.Job.{Job}
-use Rattle.flow_tools.specs.declared.running.jobs.Job.TheVariants.{Check}
 use Rattle.flow_tools.specs.declared.running.jobs.Stop.{Stop}
 use Rattle.flow_tools.specs.declared.running.jobs.Stop.TheVariants.{Fault, ReadFailed, WriteFailed, OutOfMemory}
 
@@ -157,7 +156,7 @@ module _ (job : Job) (instance : Instance) (given : StreamState) where
     exit = refl;
   }
 
-module _ (feasible_only : Bool) (instance : Instance) (given : Stream) {T : Type 0}
+module _ (job : Job) (check : IsCheck job) (instance : Instance) (given : Stream) {T : Type 0}
     (accepts : List ℕ → T → Type 0) where
   -- how a solution was read
   abbrev pub IsReadAs : Result T Stop → Type 0
@@ -166,36 +165,36 @@ module _ (feasible_only : Bool) (instance : Instance) (given : Stream) {T : Type
       accepts given true end
 
   -- the solution is refused, or can't be read
-  pub solution_stops : (stop : Stop) → IsReadAs (Err stop) → Finds (Check feasible_only) instance given (Err stop)
+  pub solution_stops : (stop : Stop) → IsReadAs (Err stop) → Finds job instance given (Err stop)
   solution_stops stop r = record {
     q = r.text;
     delivered = r.delivered;
-    solution_read = inr ((feasible_only, refl), r.one_pass);
+    solution_read = inr (check, r.one_pass);
     exit = exit_of stop r;
   } where
-    exit_of : (stop : Stop) (r : IsReadAs (Err stop)) → FindsAt (Check feasible_only) instance given r.text (Err stop)
+    exit_of : (stop : Stop) (r : IsReadAs (Err stop)) → FindsAt job instance given r.text (Err stop)
     exit_of (Fault false line code) r = absurd (true≢false (sym r.judged.1))
-    exit_of (Fault true line code) r = (r.judged.0, (feasible_only, refl), r.judged.2)
-    exit_of ReadFailed r = (r.judged.0, (feasible_only, refl), r.judged.1)
+    exit_of (Fault true line code) r = (r.judged.0, check, r.judged.2)
+    exit_of ReadFailed r = (r.judged.0, check, r.judged.1)
     exit_of WriteFailed r = absurd r.judged
     exit_of OutOfMemory r = r.judged
 
   module _ (written : T) (r : IsReadAs (Ok written)) where
     -- it is judged
-    pub solution_judged : (answer : Answer) → IsAnswerTo (Check feasible_only) instance r.text answer
-        → Finds (Check feasible_only) instance given (Ok answer)
+    pub solution_judged : (answer : Answer) → IsAnswerTo job instance r.text answer
+        → Finds job instance given (Ok answer)
     solution_judged answer a = record {
       q = r.text;
       delivered = r.delivered;
-      solution_read = inr ((feasible_only, refl), r.one_pass);
+      solution_read = inr (check, r.one_pass);
       exit = (r.judged.0.0, (λ c. r.judged.0), a);
     }
 
     -- it can't be, for want of memory
-    pub not_judged : Finds (Check feasible_only) instance given (Err OutOfMemory)
+    pub not_judged : Finds job instance given (Err OutOfMemory)
     not_judged = record {
       q = r.text;
       delivered = r.delivered;
-      solution_read = inr ((feasible_only, refl), r.one_pass);
+      solution_read = inr (check, r.one_pass);
       exit = r.judged.0.0;
     }

@@ -34,7 +34,7 @@ pub enum Job {
     },
 }
 
-/// What each command asks without a flag, and `flow solve` with `--value`.
+/// What each command asks without a flag, `flow solve` with `--value`, and `flow connect` with `--undirected`.
 impl Job {
     /// `flow solve`: the greatest value, and a flow that has it.
     pub const SOLVE: Job = Job::Solve { value_only: false };
@@ -51,6 +51,12 @@ impl Job {
     /// `flow connect`: the edge connectivity, with each arc counted by its direction.
     pub const CONNECT: Job = Job::Connect {
         undirected: false,
+        pair: false,
+    };
+
+    /// `flow connect --undirected`: the edge connectivity, with each arc counted by its ends.
+    pub const UNDIRECTED: Job = Job::Connect {
+        undirected: true,
         pair: false,
     };
 

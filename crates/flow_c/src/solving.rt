@@ -80,8 +80,8 @@ pub(crate) fn count_links(
 ) -> Result<u64, Refusal>
     ensures ok { IfOk result (IsLeastOver (IsSeparating (network_of lent.entry (ones lent.entry.src.now)) pair)
         (counted undirected (network_of lent.entry (ones lent.entry.src.now)).net)) }
-    ensures refused { IfErr result (IsReasonFor
-        ((length lent.entry.src.now ≤ MOST_ARCS) × (length lent.entry.dst.now ≡ length lent.entry.src.now)) lent.entry) }
+    ensures refused { IfErr result (IsReasonFor ((length lent.entry.src.now ≤ MOST_ARCS)
+        × (length lent.entry.dst.now ≡ length lent.entry.src.now)) lent.entry) }
 {
     if lent.src.len() > MOST_ARCS as usize || lent.dst.len() != lent.src.len() {
         return Err(Refusal::Lengths);

@@ -8,6 +8,10 @@ use flow_solve::work_len;
 use std::alloc::Global;
 
 /// So many cells, each with this value.
+///
+/// # Errors
+///
+/// `OutOfMemory` where the memory was refused.
 pub fn filled<T: Clone>(alloc: Global, value: T, len: usize) -> Result<Vec<T>, OutOfMemory>
     ensures len { IfOk result (λ cells. length cells.items ≡ len) }
     ensures all { IfOk result (λ cells. ((y : T) → T.is_clone value y → y ≡ value)

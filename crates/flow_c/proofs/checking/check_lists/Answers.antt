@@ -7,5 +7,6 @@ use Rattle.flow_c.proofs.checking.check_lists.Goals as goal
 pub check_flow-requires : goal.check_flow-requires
 check_flow-requires c =
     let count = arcs_of c.in_ok-network.network c.args.lent c.args.cap.now c.in_ok-network.ensures.network in
-    let test : length c.args.flow.now ≡ length c.args.lent.src.now = first_of (search rules, grind (arith, common_steps)) in
+    let test : length c.args.flow.now ≡ length c.args.lent.src.now =
+    first_of (search rules, grind (arith, common_steps)) in
     test ∙ sym count

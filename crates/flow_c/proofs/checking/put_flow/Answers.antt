@@ -1,5 +1,6 @@
 -- `put_flow`: at first nothing is carried; an arc that takes its flow carries what a line more does.
-use Rattle.std.proofs.Common.{◌≡◌, ◌<◌, ◌+◌, ◌-◌, ℕ, [], ◌∷◌, ◌∙◌, inl, inr, get_or, set, subst, length, replicate, arith}
+use Rattle.std.proofs.Common.{◌≡◌, ◌<◌, ◌+◌, ◌-◌, ℕ, [], ◌∷◌, ◌∙◌, inl, inr, get_or, set, subst, length}
+use Rattle.std.proofs.Common.{replicate, arith}
 use Rattle.std.proofs.Common.{rules, ap, sym, cond, Bool, List}
 use Rattle.std.proofs.lemmas.Bool.{cases_lt}
 use Rattle.std.proofs.lemmas.Grind.{common_steps, same_number_lists}
@@ -61,7 +62,8 @@ loop-i-preserved c =
     let within : i < length net.arcs = first_of (search rules, grind (arith, common_steps)) in
     let put : c.fill.new.flow.flows ≡ set xs i (get_or xs i 0 + flow) =
     first_of (search rules, grind (arith, common_steps)) in
-    let more = set_more net xs i flow arc.src arc.dst old.fits.count within (ap (λ a. a.src) (sym c.arc-arc.ensures.arc))
+    let more = set_more net xs i flow arc.src arc.dst old.fits.count within
+    (ap (λ a. a.src) (sym c.arc-arc.ensures.arc))
     (ap (λ a. a.dst) (sym c.arc-arc.ensures.arc)) in
     record {
       fits = c.fill.ensures.fits;

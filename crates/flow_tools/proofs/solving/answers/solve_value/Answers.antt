@@ -6,4 +6,5 @@ pub returns : goal.returns
 returns c =
     let ready = c.in_ok-network.ensures in
     let there = c.in_ok-network.field-0 in
-    solution_if c.args.network there.network there.lists c.find_flow.result c.find_flow.new.table.flows ready.limits ready.terminals ready.same c.find_flow.ensures
+    solution_if c.args.network there.network there.lists c.find_flow.result c.find_flow.new.table.flows
+    ready.limits ready.terminals ready.same c.find_flow.ensures

@@ -1,12 +1,15 @@
 -- The connectivity of a problem's network, from that of the network in which a flow counts arcs.
 use Rattle.std.proofs.Common.{◌≡◌, ℕ, Bool, true, false, cond, List, refl, sym, subst, inl, inr, ◌≤◌}
+use Rattle.std.proofs.Common.{◌++◌, map, ap, ◌∙◌}
+use Rattle.std.proofs.lemmas.List.{map-append}
+use Rattle.std.proofs.lemmas.Simd.{map-map}
 use Rattle.std.specs.List.{All}
 use Rattle.std.proofs.lemmas.List.Elements.{All-map, All-from_get_or}
 use Rattle.flow_net.specs.Nets.{Net, Instance, IsNode}
 use Rattle.flow_net.specs.Arrangements.{named}
 use Rattle.flow_net.specs.Arcs.{no_arc}
 use Rattle.flow_net.specs.Limits.{IsNet, IsProblem, AreTerminals}
-use Rattle.flow_net.specs.DerivedNets.{unit, unit_arc, both_ways}
+use Rattle.flow_net.specs.DerivedNets.{unit, unit_arc, reversed, both_ways}
 use Rattle.flow_net.specs.NodeSets.{one_of, IsLeastOver}
 use Rattle.flow_net.specs.LeastCuts.{IsConnectivity, IsPairConnectivity}
 use Rattle.flow_net.proofs.Connections.{undirected, undirected_pair, connectivity_of_unit, pair_of_unit}
@@ -29,6 +32,13 @@ unit_capacities net made e =
     let Ones : Net → Type 0 = λ n. All (λ a. a.cap ≡ 1) n.arcs in
     subst Ones (sym e) (All-map (λ a. a.cap ≡ 1) unit_arc net.arcs
     (All-from_get_or (λ a. (unit_arc a).cap ≡ 1) net.arcs no_arc (λ i l. refl)))
+
+-- reverse arcs of capacity 1 are reverses of such arcs
+pub unit_both_ways : (net : Net) → both_ways (unit net) ≡ unit (both_ways net)
+unit_both_ways net =
+    ap (λ z. record { nodes = net.nodes; arcs = map unit_arc net.arcs ++ z })
+    (map-map reversed unit_arc net.arcs ∙ sym (map-map unit_arc reversed net.arcs))
+    ∙ ap (λ z. record { nodes = net.nodes; arcs = z }) (sym (map-append unit_arc net.arcs (map reversed net.arcs)))
 
 -- terminals speak of nodes alone
 pub same_terminals : (net other : Net) (s t : List ℕ) → other.nodes ≡ net.nodes → AreTerminals net s t

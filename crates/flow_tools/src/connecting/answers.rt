@@ -18,14 +18,16 @@ use std::alloc::Global;
 
 /// The network in which a flow counts arcs: every capacity is 1, and where `undirected` is true each arc is there both
 /// ways.
-fn counting_network(mut net: Network, undirected: bool) -> Result<Network, OutOfMemory>
+#[tactic(auto, using(crate::proofs::connecting::ConnectAnswers::unit_both_ways))]
+fn counting_network(net: Network, undirected: bool) -> Result<Network, OutOfMemory>
     requires room { length net.arcs ≤ MOST_ARCS }
     ensures { IfOk result (λ made. made ≡ unit (if undirected then both_ways net else net)) }
 {
+    let mut net = net.unit();
     if undirected {
         net.both_ways()?;
     }
-    Ok(net.unit())
+    Ok(net)
 }
 
 /// The connectivity of a network of capacities of 1. All the memory is asked for first.

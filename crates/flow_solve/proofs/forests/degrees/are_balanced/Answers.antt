@@ -14,7 +14,13 @@ returns c = λ yes.
     let into = drop n out in
     let deg = c.requires.degrees in
     let same : take n out ≡ take n into =
-    same_text (take n out) (take n into) (sym yes ∙ grind (arith, c.eq.ensures, c.split_at.ensures.front, c.split_at-2.ensures.front, c.split_at.ensures.back)) in
+    same_text (take n out) (take n into) (sym yes ∙ grind (
+      arith,
+      c.eq.ensures,
+      c.split_at.ensures.front,
+      c.split_at-2.ensures.front,
+      c.split_at.ensures.back,
+    )) in
     balanced_sets net c.nodes-n.ensures.is_net
     (λ v at. (let low = at.0 in let high = at.1 in
     sym (degree_at net v out into at deg) ∙ sym (get_or-take n out (v - 1) 0 (omega arith))

@@ -300,6 +300,20 @@ fn add_arcs(net: &mut Network, random: &mut Random) -> bool {
     true
 }
 
+/// Adds arcs between any two of some nodes: self-loops, parallel and opposite arcs, small capacities and the largest.
+#[must_use]
+fn add_random_arcs(net: &mut Network, random: &mut Random) -> bool {
+    for _ in 0..random.below(90) {
+        let src = random_node(random, net.nodes());
+        let dst = random_node(random, net.nodes());
+        let cap = [0, 1, 2, 3, 5, 8, 100, u64::MAX][random.below(8) as usize];
+        if !add(net, src, dst, cap) || random.below(4) == 0 && !add(net, dst, src, cap) {
+            return false;
+        }
+    }
+    true
+}
+
 #[test]
 fn all_sets_agree(rt: HostRuntime) {
     let mut random = Random { state: 2026 };

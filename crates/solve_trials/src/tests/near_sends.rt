@@ -1,6 +1,5 @@
 //! Near sends: what they alone reach on an assignment, by hand, in a dense network, on random networks, and where they
 //! are left.
-use super::trees::add_random_arcs;
 use super::*;
 
 /// Near sends alone, and how much they may take.

@@ -205,20 +205,6 @@ fn trees_are_tired_of_a_hub(rt: HostRuntime) {
     assert!(&rt; !reached.is_finished);
 }
 
-/// Adds arcs between any two of some nodes: self-loops, parallel and opposite arcs, small capacities and the largest.
-#[must_use]
-pub(super) fn add_random_arcs(net: &mut Network, random: &mut Random) -> bool {
-    for _ in 0..random.below(90) {
-        let src = random_node(random, net.nodes());
-        let dst = random_node(random, net.nodes());
-        let cap = [0, 1, 2, 3, 5, 8, 100, u64::MAX][random.below(8) as usize];
-        if !add(net, src, dst, cap) || random.below(4) == 0 && !add(net, dst, src, cap) {
-            return false;
-        }
-    }
-    true
-}
-
 /// Where the trees say that they are finished the flow is greatest, as their contract tells. That they mostly are, none
 /// does.
 #[test]

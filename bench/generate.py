@@ -88,9 +88,25 @@ CONNECTIVITY = {
     'ring-with-chords': links.ring_with_chords,
     'ring': links.ring,
 }
+# Networks that connect alone is measured on, and never compared.
+ALONE = {
+    'cubic': links.cubic,
+    'simple-regular': links.simple_regular,
+    'torus': links.torus,
+    'hypercube': links.hypercube,
+    'hubs': links.hubs,
+    'clusters': links.clusters,
+    'complete': links.complete,
+    'directed-attachment': links.directed_attachment,
+    'directed-permutations': links.directed_permutations,
+}
+# Those whose arcs have one direction, and the most nodes of those that have fewer at their full size.
+DIRECTED = ('directed-attachment', 'directed-permutations')
+FULL = {'hypercube': 1 << 18, 'complete': 2000, 'directed-attachment': 300000}
+NETWORKS = {**CONNECTIVITY, **ALONE}
 # The problems that were found and not made: these have one size.
 REAL = {**PHOTOGRAPHS, **PACKAGES}
-FAMILIES = {**FLOWS, **REAL, **CONNECTIVITY}
+FAMILIES = {**FLOWS, **REAL, **NETWORKS}
 
 
 def lines_of(arcs):
@@ -158,7 +174,7 @@ def main():
     given = options()
     if given is None:
         print(__doc__, 'Flows: ' + ' '.join(FLOWS), 'Photographs: ' + ' '.join(PHOTOGRAPHS),
-              'Packages: ' + ' '.join(PACKAGES), 'Connectivity: ' + ' '.join(CONNECTIVITY), sep='\n')
+              'Packages: ' + ' '.join(PACKAGES), 'Connectivity: ' + ' '.join(NETWORKS), sep='\n')
         return 2
     gc.disable()
     what = given.family, given.size, given.seed

@@ -4,10 +4,11 @@
 With no option it proves and builds flow (minutes, unless that is done), makes the problems, measures for as long as is
 left of twenty minutes, and prints the tables; with --write it puts the tables and the picture into docs/BENCHMARKS.md,
 docs/benchmarks.svg and README.md. With --night no time is set, and every solver runs. With --stages it measures the
-program without each stage of its method in the place of other solvers. Debian's packages of the other solvers:
-liblemon-utils, glpk-utils, python3-igraph, python3-networkx, python3-scipy, libmaxflow-dev and libboost-graph-dev with
-g++; of the photographs python3-skimage, and opencv-doc with python3-pil. The packages are those that apt lists. The
-values of all solvers must agree: where two differ, the status is 1.
+program without each stage of its method in the place of other solvers, with --connect what 'flow connect' takes on all
+networks at their full size. Debian's packages of the other solvers: liblemon-utils, glpk-utils, python3-igraph,
+python3-networkx, python3-scipy, libmaxflow-dev and libboost-graph-dev with g++; of the photographs python3-skimage, and
+opencv-doc with python3-pil. The packages are those that apt lists. The values of all solvers must agree: where two
+differ, the status is 1.
 """
 import argparse
 import concurrent.futures
@@ -26,6 +27,7 @@ HERE = Path(__file__).resolve().parent
 sys.path.insert(0, str(HERE))
 sys.dont_write_bytecode = True
 
+import connect  # noqa: E402
 import generate  # noqa: E402
 import report  # noqa: E402
 import solvers  # noqa: E402
@@ -163,6 +165,16 @@ class Bench:
             problem.searches[own.name] = max(0, problem.times[own.name] - self.reading(problem, own))
         self.tell(problem)
 
+    def repeat(self, problem, solver):
+        """Runs one solver as often as asked, no more once it was stopped or failed."""
+        for _ in range(self.given.repeat):
+            run = solvers.measured(solver, problem.path, self.given.limit)
+            problem.keep(solver.name, run)
+            if run.value == 'time':
+                problem.stopped[solver.name] = math.ceil(self.given.limit)
+            if solver.name in problem.stopped:
+                break
+
     def reading(self, problem, own):
         """What flow takes to read a problem: the file with one line more that no problem has, after which it ends."""
         faulty = self.given.folder / f'faulty.{os.getpid()}.part'
@@ -239,10 +251,12 @@ def options():
     parser.add_argument('--orders', nargs='+', choices=generate.ORDERS, default=list(generate.ORDERS),
                         help='of nodes and arcs (%(default)s)')
     parser.add_argument('--seed', type=int, default=1, help='of the problems (%(default)s)')
-    parser.add_argument('--repeat', type=int, default=5,
-                        help='runs, the least of which counts, as far as they begin within a second (%(default)s)')
-    parser.add_argument('--limit', type=float, metavar='SECONDS', help='to stop a solver at (20; of a night 120)')
-    parser.add_argument('--minutes', type=float, help='after which problems are left out (20; of a night none)')
+    parser.add_argument('--repeat', type=int,
+                        help='runs, the least of which counts, as far as they begin within a second (5; of connect 2)')
+    parser.add_argument('--limit', type=float, metavar='SECONDS',
+                        help='to stop a solver at (20; of a night 120; with --connect 30)')
+    parser.add_argument('--minutes', type=float,
+                        help='after which problems are left out (20; of a night none; --connect has no such limit)')
     parser.add_argument('--night', action='store_true',
                         help='every solver on every problem, each up to the limit, and none left out for want of time')
     cache = Path(os.environ.get('XDG_CACHE_HOME') or Path.home() / '.cache')
@@ -254,11 +268,14 @@ def options():
                         help='one more solver of flows, whose last word will be the file and which prints s VALUE')
     parser.add_argument('--stages', action='store_true',
                         help='the program without each stage of its method, each proved and built, at the middle size')
+    parser.add_argument('--connect', action='store_true',
+                        help='connect on every network, at the largest of the sizes or as large as it can be')
     parser.add_argument('--no-instructions', action='store_true', help='leave valgrind out')
     parser.add_argument('--write', action='store_true', help="write the documents' tables and the picture")
     given = parser.parse_args()
-    given.limit = given.limit or (120 if given.night else 20)
-    given.minutes = given.minutes or (math.inf if given.night else 20)
+    given.repeat = given.repeat or (connect.REPEAT if given.connect else 5)
+    given.limit = given.limit or (connect.LIMIT if given.connect else 120 if given.night else 20)
+    given.minutes = given.minutes or (math.inf if given.night or given.connect else 20)
     return given
 
 
@@ -318,14 +335,36 @@ def measured_stages(bench, own):
     return f'{text}\n\n{stages.table(found, programs)}'
 
 
-def run_stages(bench, own):
-    """Measures the stages, and prints their table or writes it."""
+def measured_networks(bench, flow, version):
+    """The table of what connect takes on every network at its full size."""
+    given = bench.given
+    sizes = connect.sizes(max(SIZES[size][1] for size in given.sizes), given.only)
+    bench.make([(family, size, given.seed) for family, size in sizes.items()])
+    found = []
+    for family, size in sizes.items():
+        values = {}
+        for order in given.orders:
+            problem = Problem(family, size, order, generate.path_of(given.folder, family, size, given.seed, order))
+            for command in connect.commands(family, order):
+                bench.repeat(problem, solvers.Solver(command, version, [flow, *command.split()]))
+            bench.tell(problem)
+            for command, value in problem.values.items():
+                if values.setdefault(command, value) != value:
+                    bench.wrong.append(f'{family}: {command} says {value} {order}, and not {values[command]}')
+            found.append(problem)
+    text = (f'Run of {datetime.date.today().isoformat()} on {machine()}, flow {version}. Seed {given.seed}; seconds of '
+            f'the processor, the least of {given.repeat} runs, each stopped at {given.limit:.0f} seconds.')
+    return f'{text}\n\n{connect.table(found)}'
+
+
+def run_table(given, maker, measured):
+    """Measures one table, and prints it or writes it between its maker's markers."""
     page = HERE.parent / 'docs' / 'BENCHMARKS.md'
-    if bench.given.write:
-        report.place(page, stages.BEGIN, stages.END)
-    text = measured_stages(bench, own)
-    if bench.given.write:
-        report.put(page, text, stages.BEGIN, stages.END)
+    if given.write:
+        report.place(page, maker.BEGIN, maker.END)
+    text = measured()
+    if given.write:
+        report.put(page, text, maker.BEGIN, maker.END)
     else:
         print(text)
 
@@ -345,7 +384,7 @@ def run_all(bench, flow, version):
 
 def main():
     given = options()
-    if given.write and not given.stages:
+    if given.write and not given.stages and not given.connect:
         report.places(HERE.parent)
     bench = Bench(given, Clock(given.minutes))
     given.folder.mkdir(parents=True, exist_ok=True)
@@ -353,7 +392,10 @@ def main():
     flow = str(Path(flow).resolve())
     version = solvers.output_of(flow, '--version').removeprefix('flow ')
     if given.stages:
-        run_stages(bench, solvers.Solver('flow', version, [flow, 'solve', '--value']))
+        own = solvers.Solver('flow', version, [flow, 'solve', '--value'])
+        run_table(given, stages, lambda: measured_stages(bench, own))
+    elif given.connect:
+        run_table(given, connect, lambda: measured_networks(bench, flow, version))
     else:
         run_all(bench, flow, version)
     print('\n'.join(bench.wrong) or 'all values agree', file=sys.stderr)

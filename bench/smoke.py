@@ -4,7 +4,8 @@
 FLOW is the program that was built. Each family has to be repeatable, within the format and of the value that a plain
 search for augmenting paths finds, in both orders; the runner has to write its tables and its picture, to tell of a
 solver that is wrong or stopped, to do without one that isn't there, and to end in time; the program of the library of
-Boykov and Kolmogorov has to solve problems of several sources and sinks. The last line is 'bench: N passed, M failed'.
+Boykov and Kolmogorov has to solve problems of several sources and sinks; connect has to find the connectivity of each
+network that flows between all its nodes show. The last line is 'bench: N passed, M failed'.
 """
 import random
 import re
@@ -19,6 +20,7 @@ HERE = Path(__file__).resolve().parent
 sys.path.insert(0, str(HERE))
 sys.dont_write_bytecode = True
 
+import connect  # noqa: E402
 import generate  # noqa: E402
 import grids  # noqa: E402
 import packages  # noqa: E402
@@ -29,6 +31,9 @@ import stages  # noqa: E402
 
 ARCS = 200
 NODES = 60
+FEW_NODES = 18
+# What no seed changes.
+SAME = ('grid', 'ring', 'two-halves', 'torus', 'hypercube', 'complete')
 passed = failed = 0
 
 
@@ -44,7 +49,7 @@ def holds(what, truth):
 
 def size_of(family):
     """A tiny size: of a network for connect its nodes, else its arcs."""
-    return NODES if family in generate.CONNECTIVITY else ARCS
+    return NODES if family in generate.NETWORKS else ARCS
 
 
 def text_of(family, seed, order='generated'):
@@ -100,16 +105,16 @@ def value_by_flow(flow, path, text):
 
 def families(flow, folder):
     """Each family, against its own definition in words and against the plain search."""
-    for family in (*generate.FLOWS, *generate.CONNECTIVITY):
+    for family in (*generate.FLOWS, *generate.NETWORKS):
         text, other = text_of(family, 1), text_of(family, 1, 'shuffled')
         holds(f'{family} is the same again', text == text_of(family, 1))
         holds(f'{family} shuffled is the same again', other == text_of(family, 1, 'shuffled'))
         holds(f'{family} differs by its seed',
-              text != text_of(family, 2) or family in ('grid', 'ring', 'two-halves'))
+              text != text_of(family, 2) or family in SAME)
         arcs = arcs_of(text)
         nodes, count = map(int, text.splitlines()[1].split()[2:])
         holds(f'{family} has as many arcs as it says, near what is wanted', len(arcs) == count and (
-            NODES / 2 <= nodes <= NODES if family in generate.CONNECTIVITY else ARCS / 2 <= count <= 2 * ARCS))
+            NODES / 2 <= nodes <= NODES if family in generate.NETWORKS else ARCS / 2 <= count <= 2 * ARCS))
         holds(f'{family} names its nodes', all(1 <= end <= nodes for arc in arcs for end in arc[:2]))
         holds(f'{family} shuffled has the same capacities and other ends',
               sorted(arc[2] for arc in arcs) == sorted(arc[2] for arc in arcs_of(other)) and arcs != arcs_of(other))
@@ -117,6 +122,61 @@ def families(flow, folder):
         path = folder / f'{family}.max'
         holds(f'{family} has the value that the plain search finds', value_by_flow(flow, path, text) == value)
         holds(f'{family} shuffled has the same value', value_by_flow(flow, path, other) == value)
+
+
+def by_flows(nodes, arcs, undirected):
+    """The edge connectivity of a network: the least of the flows from its first node to each other one and back."""
+    capacities = [(tail, head, 1) for tail, head, _ in arcs if tail != head]
+    capacities += [(head, tail, 1) for tail, head, _ in capacities] if undirected else []
+    return min(greatest_value(capacities, *pair) for node in range(2, nodes + 1) for pair in ((1, node), (node, 1)))
+
+
+def connectivities(flow, folder):
+    """What connect says of each network of few nodes, against flows."""
+    path = folder / 'few.max'
+    for family in generate.NETWORKS:
+        for seed in (1, 2):
+            what = family, FEW_NODES, seed
+            nodes, *_, arcs = problem = generate.made(*what)
+            path.write_text(''.join(generate.written(problem, *what)), encoding='ascii')
+            arcs = [(tail + 1, head + 1, capacity) for tail, head, capacity in arcs]
+            for words in ([], ['--undirected']):
+                told = subprocess.run([flow, 'connect', *words, path], capture_output=True, text=True)
+                holds(f'connect {words} finds what flows find of {family}, seed {seed}',
+                      told.stdout == f'k {by_flows(nodes, arcs, bool(words))}\n')
+
+
+def links_at_nodes(family, nodes):
+    """How many pairs of a network each node begins, ends and has, and whether no two pairs join the same nodes."""
+    count, *_, arcs = generate.made(family, nodes, 1)
+    begun, ended = ([sum(arc[side] == node for arc in arcs) for node in range(count)] for side in (0, 1))
+    pairs = {frozenset(arc[:2]) for arc in arcs}
+    return begun, ended, list(map(sum, zip(begun, ended))), (
+        len(pairs) == len(arcs) and all(len(pair) == 2 for pair in pairs))
+
+
+def shapes():
+    """Networks whose links are counted by hand."""
+    for family, nodes, links in (('cubic', 60, 60 * [3]), ('cubic', 7, 6 * [3]), ('simple-regular', 60, 60 * [6]),
+                                 ('simple-regular', 12, 12 * [6]), ('torus', 60, 49 * [4]), ('hypercube', 60, 32 * [5]),
+                                 ('complete', 60, 60 * [59])):
+        *_, found, simple = links_at_nodes(family, nodes)
+        holds(f'{family} of {nodes} nodes has its links, no two alike', found == links and simple)
+    begun, *_, simple = links_at_nodes('hubs', 60)
+    holds('all but the hubs hang on two of them', begun == 4 * [0] + 56 * [2] and simple)
+    begun, ended, *_ = links_at_nodes('directed-permutations', 60)
+    holds('three arcs leave each node of permutations and three enter it', begun == ended == 60 * [3])
+    begun, ended, *_ = links_at_nodes('directed-attachment', 60)
+    holds('each new node has two arcs to earlier ones and two from them',
+          sum(begun) == sum(ended) == 12 + 4 * 56 and min(begun + ended) == 2)
+    count, *_, arcs = generate.made('clusters', 60, 1)
+    within = [arc for arc in arcs if arc[0] // 8 == arc[1] // 8]
+    between = [((arc[0] // 8 + 1) % 7, arc[1] // 8) for arc in arcs if arc not in within]
+    holds('clusters are whole, and two links lead from each to the next', count == 56 and len(set(within)) == 7 * 28
+          and sorted(between) == [(group, group) for group in range(7) for _ in range(2)])
+    sizes = connect.sizes(generate.NODES, [])
+    holds('networks have a million nodes, or what their links leave them', list(sizes) == list(generate.NETWORKS)
+          and sizes['ring'] == 1000000 and sizes['hypercube'] == 262144 and sizes['complete'] == 2000)
 
 
 def within_limits():
@@ -278,6 +338,54 @@ def failures(flow, folder):
           told.returncode == 0 and '1 more problems were left out' in told.stdout)
 
 
+def program(folder, name, *lines):
+    """A script in the place of flow."""
+    path = folder / name
+    path.write_text('\n'.join(['#!/bin/sh', *lines, '']), encoding='ascii')
+    path.chmod(0o755)
+    return path
+
+
+def connect_table(flow, folder):
+    """The table of connect: of all networks, of one whose answer depends on the order, and of one that doesn't end."""
+    told = run(flow, folder, '--connect')
+    head, *rows = [line.strip('| ').split(' | ') for line in told.stdout.splitlines() if line.startswith('| ')]
+    holds('the table of connect has a row for each network, and its answers agree', told.returncode == 0
+          and sorted(row[0] for row in rows) == sorted(generate.NETWORKS) and 'all values agree' in told.stderr)
+    holds('the table of connect has a time for each command and order', len(head) == 8 and all(
+        re.fullmatch(r'\d\.\d{3}', cell) or cell == '-' and row[0] in generate.DIRECTED and at < 2
+        for row in rows for at, cell in enumerate(row[3:])))
+    few = '--connect', '--only', 'ring', '--limit', '1'
+    told = run(program(folder, 'wrong', 'echo k $$'), folder, *few)
+    holds('an answer of connect that depends on the order is told',
+          told.returncode == 1 and re.search(r'ring: connect says \d+ shuffled, and not \d+', told.stderr))
+    slow = program(folder, 'slow', 'case $* in *undirected*) while :; do :; done;; *) echo k 2;; esac')
+    told = run(slow, folder, *few)
+    holds('connect is stopped', told.returncode == 0 and re.search(
+        r'^\| ring \| 60 \| 60 \| > 1 \| > 1 \| 0', told.stdout, re.M))
+    page = (HERE.parent / 'docs' / 'BENCHMARKS.md').read_text(encoding='utf-8')
+    holds('the page has a place for the table of connect', page.count(connect.BEGIN) == page.count(connect.END) == 1)
+
+
+def slowest_first():
+    """The rows of the table of connect, the slowest first: what was stopped counts as long as it ran."""
+    def network(family, order, times, stopped):
+        problem = run_module.Problem.__new__(run_module.Problem)
+        problem.family, problem.order, problem.nodes, problem.arcs = family, order, 1000, 3000
+        problem.times, problem.stopped = times, stopped
+        return problem
+
+    rows = connect.table([
+        network('quick', 'generated', {connect.UNDIRECTED: .5, connect.CONNECT: .25, connect.SOLVE: 50}, {}),
+        network('quick', 'shuffled', {connect.UNDIRECTED: 1.5, connect.CONNECT: .75}, {}),
+        network('directed', 'generated', {connect.CONNECT: 12.34}, {connect.SOLVE: 'failed'}),
+        network('stopped', 'generated', {connect.UNDIRECTED: 2}, {connect.CONNECT: 30})]).splitlines()[2:]
+    holds('the table of connect has the slowest first', rows == [
+        '| stopped | 1,000 | 3,000 | 2.00 | - | > 30 | - | - |',
+        '| directed | 1,000 | 3,000 | - | - | 12.3 | - | failed |',
+        '| quick | 1,000 | 3,000 | 0.500 | 1.50 | 0.250 | 0.750 | 50.0 |'])
+
+
 def ratios():
     """What is told of a problem: behind, ahead, and bounds where one side was stopped."""
     def ratio(times, stopped):
@@ -333,12 +441,16 @@ def main():
     with tempfile.TemporaryDirectory() as name:
         folder = Path(name)
         families(flow, folder)
+        connectivities(flow, folder)
+        shapes()
         within_limits()
         photographs(folder)
         listed_packages()
         several_terminals(folder)
         ratios()
+        slowest_first()
         taken_out()
+        connect_table(flow, folder)
         runner(flow, folder)
         failures(flow, folder)
         documents(folder)

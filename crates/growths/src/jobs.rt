@@ -31,24 +31,8 @@ fn run_named(alloc: Global, name: &[u8]) -> &'static [u8] {
             FOUR_NODES,
             b"s 5\nf 1 2 3\nf 1 3 2\nf 2 3 1\nf 2 4 2\nf 3 4 3\n",
         ),
-        b"run_cut" => run_job(
-            alloc,
-            Job::Cut {
-                arcs: true,
-                sink: false,
-            },
-            FOUR_NODES,
-            b"s 5\nn 1\na 1 2 3\na 1 3 2\n",
-        ),
-        b"run_connect" => run_job(
-            alloc,
-            Job::Connect {
-                undirected: true,
-                pair: false,
-            },
-            FOUR_NODES,
-            b"k 2\n",
-        ),
+        b"run_cut" => run_job(alloc, Job::CUT, FOUR_NODES, b"s 5\nn 1\n"),
+        b"run_connect" => run_job(alloc, Job::UNDIRECTED, FOUR_NODES, b"k 2\n"),
         b"run_check" => run_job(alloc, Job::CHECK, FOUR_NODES, b"optimal 5\n"),
         b"run_faulty" => run_job(alloc, Job::SOLVE, TOO_FEW_ARCS, b""),
         b"run_on_texts" => run_texts(alloc),

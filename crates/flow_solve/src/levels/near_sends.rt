@@ -249,12 +249,7 @@ fn send_from(flow: &mut FlowTable, sending: &mut Sending<'_, '_>, source: u32)
 
 /// Sends what can leave the sources to sinks over one node and over two, and takes no more steps than are allowed.
 /// Answers what the flow is worth then, and what may still be done.
-pub fn send_near(
-    task: Task<'_>,
-    flow: &mut FlowTable,
-    cells: &mut [u32],
-    begun: Sent,
-) -> Sent
+pub fn send_near(task: Task<'_>, flow: &mut FlowTable, cells: &mut [u32], begun: Sent) -> Sent
     requires task { IsTask task }
     requires size { task.packed.net.now.nodes ≤ length cells.old }
     requires flow { HasFlow task flow.old.flows begun.value }

@@ -50,7 +50,9 @@ const CONNECTIVITIES: [Connected; 21] = [
 /// Expects an answer to a problem alone, from pieces of 4,096 bytes.
 fn expect(rt: &impl Abort, alloc: Global, job: Job, problem: &[u8], text: &[u8]) {
     let ended = answer(alloc, job, Script::new(problem, 4096, false, 0));
-    assert_eq!(rt; ended.result(), (text, b"".as_slice(), 0));
+    assert_eq!(rt; ended.out.bytes(), text);
+    assert_eq!(rt; ended.err.bytes(), b"".as_slice());
+    assert_eq!(rt; ended.status, 0);
     assert_eq!(rt; ended.solution_pulls, 0);
 }
 
@@ -119,7 +121,9 @@ fn expect_check(
         Script::new(problem, 4096, false, 0),
         Script::new(solution, 5, false, 0),
     );
-    assert_eq!(rt; ended.result(), (out, err, status));
+    assert_eq!(rt; ended.out.bytes(), out);
+    assert_eq!(rt; ended.err.bytes(), err);
+    assert_eq!(rt; ended.status, status);
     assert_eq!(rt; ended.solution_pulls > 0, !problem.is_empty());
 }
 

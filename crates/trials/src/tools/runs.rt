@@ -59,13 +59,6 @@ pub(crate) struct Ended {
     pub read_failed: bool,
 }
 
-impl Ended {
-    /// The output, the errors and the status.
-    pub fn result(&self) -> (&[u8], &[u8], u8) {
-        (self.out.bytes(), self.err.bytes(), self.status)
-    }
-}
-
 /// Runs a job over a problem and a solution.
 pub(crate) fn run_over(
     alloc: Global,

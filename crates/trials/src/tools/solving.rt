@@ -146,10 +146,9 @@ fn expect(rt: &impl Abort, alloc: Global, job: Job, text: &[u8], out: &[u8], err
             _ => Script::new(text, 4096, true, 0),
         };
         let ended = answer(alloc, job, input);
-        assert_eq!(rt;
-            ended.result(),
-            (out, err, if err.is_empty() { 0 } else { 3 })
-        );
+        assert_eq!(rt; ended.out.bytes(), out);
+        assert_eq!(rt; ended.err.bytes(), err);
+        assert_eq!(rt; ended.status, if err.is_empty() { 0 } else { 3 });
         assert_eq!(rt; ended.solution_pulls, 0);
     }
 }
@@ -286,7 +285,9 @@ fn carriage_returns_behind_a_long_comment(rt: HostRuntime) -> Result<(), Fail> {
     }
     assert_eq!(rt; text.pop(), Some(b'\n'));
     let ended = answer(rt.alloc(), SOLVE, Script::new(text.as_slice(), 1, false, 0));
-    assert_eq!(rt; ended.result(), (SOLVED_A, b"".as_slice(), 0));
+    assert_eq!(rt; ended.out.bytes(), SOLVED_A);
+    assert_eq!(rt; ended.err.bytes(), b"".as_slice());
+    assert_eq!(rt; ended.status, 0);
     Ok(())
 }
 

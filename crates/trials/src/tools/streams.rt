@@ -29,10 +29,9 @@ fn expect_stop(
 ) {
     let ended = answer(alloc, SOLVE, Script::new(text, 4096, true, fails_at));
     let has_failed = pulls == fails_at;
-    assert_eq!(rt;
-        ended.result(),
-        (b"".as_slice(), message, if has_failed { 4 } else { 3 })
-    );
+    assert_eq!(rt; ended.out.bytes(), b"".as_slice());
+    assert_eq!(rt; ended.err.bytes(), message);
+    assert_eq!(rt; ended.status, if has_failed { 4 } else { 3 });
     assert_eq!(rt; ended.pulls, pulls);
     assert_eq!(rt; ended.read_failed, has_failed);
 }
@@ -77,7 +76,9 @@ fn a_pull_fails_within_a_line(rt: HostRuntime) -> Result<(), Fail> {
 #[test]
 fn nothing_is_pulled_after_the_end(rt: HostRuntime) -> Result<(), Fail> {
     let ended = answer(rt.alloc(), SOLVE, Script::new(NET_A, 4096, true, 10));
-    assert_eq!(rt; ended.result(), (SOLVED_A, b"".as_slice(), 0));
+    assert_eq!(rt; ended.out.bytes(), SOLVED_A);
+    assert_eq!(rt; ended.err.bytes(), b"".as_slice());
+    assert_eq!(rt; ended.status, 0);
     assert_eq!(rt; ended.pulls, 9);
     assert!(rt; !ended.read_failed);
     Ok(())
@@ -97,7 +98,9 @@ fn each_byte_put_fails(rt: HostRuntime) -> Result<(), Fail> {
                 Collector::new(most, j),
                 Collector::new(64, 64),
             );
-            assert_eq!(rt; ended.result(), (&SOLVED_A[..j], WRITE_FAILED, 4));
+            assert_eq!(rt; ended.out.bytes(), &SOLVED_A[..j]);
+            assert_eq!(rt; ended.err.bytes(), WRITE_FAILED);
+            assert_eq!(rt; ended.status, 4);
             assert!(rt; ended.out.failed());
         }
     }
@@ -132,7 +135,9 @@ fn a_message_is_cut_short(rt: HostRuntime) -> Result<(), Fail> {
         Collector::new(1, 64),
         Collector::new(2, 3),
     );
-    assert_eq!(rt; ended.result(), (b"".as_slice(), b"flo".as_slice(), 3));
+    assert_eq!(rt; ended.out.bytes(), b"".as_slice());
+    assert_eq!(rt; ended.err.bytes(), b"flo".as_slice());
+    assert_eq!(rt; ended.status, 3);
     assert!(rt; ended.err.failed());
     Ok(())
 }
@@ -167,7 +172,9 @@ fn streams_of_a_check_that_fail(rt: HostRuntime) -> Result<(), Fail> {
             Collector::new(16, room.min(512)),
             Collector::new(16, 128),
         );
-        assert_eq!(rt; ended.result(), (b"".as_slice(), message, status));
+        assert_eq!(rt; ended.out.bytes(), b"".as_slice());
+        assert_eq!(rt; ended.err.bytes(), message);
+        assert_eq!(rt; ended.status, status);
         assert_eq!(rt; ended.solution_pulls, pulls);
     }
     Ok(())
@@ -200,13 +207,13 @@ fn solve_into<W: Write>(alloc: Global, out: &mut Counted<W>) -> (u8, Vec<u8>) {
 fn streams_of_std(rt: HostRuntime) -> Result<(), Fail> {
     let mut out = Counted::new(Vec::<u8>::new(rt.alloc()));
     let (status, message) = solve_into(rt.alloc(), &mut out);
+    assert_eq!(rt; status, 0);
     assert_eq!(rt; out.into_inner().as_slice(), SOLVED_A);
-    assert_eq!(rt; (message.as_slice(), status), (b"".as_slice(), 0));
+    assert_eq!(rt; message.as_slice(), b"".as_slice());
     let mut full = Counted::new(Full);
     let (status, message) = solve_into(rt.alloc(), &mut full);
-    assert_eq!(rt;
-        (message.as_slice(), status, Output::failed(&full)),
-        (WRITE_FAILED, 4, true)
-    );
+    assert_eq!(rt; status, 4);
+    assert_eq!(rt; message.as_slice(), WRITE_FAILED);
+    assert!(rt; Output::failed(&full));
     Ok(())
 }

@@ -31,17 +31,17 @@ is_as_proved() { # SUM FILE..
 # Proves the crate and builds the archive over the libraries that the gate has proved and left. The gate only checks a
 # static library, and `rt lib`, which builds one, takes none of the gate's, and would prove all of them again.
 build_over_the_gate() {
-  local crate words=()
+  local crate words=(--extern "std=$kit/rlibs/std.rlib")
   for crate in flow_net flow_text flow_solve flow_tools; do
     words+=(--extern "$crate=../$crate/out/rlib/$crate.rlib")
   done
-  echo 'Building the library over what the tests have just proved.' >&2
+  echo 'Building the library over what the tests have proved.' >&2
   (
     cd crates/flow_c
     "$kit/bin/rattle" build --crate-name flow_c src/lib.rt "${words[@]}" -L "dependency=$kit/rlibs" \
       --antt-project "$kit/rattle/logic/antt-project.json" --logic-built "$kit/logic_built" --crate-type staticlib \
       --toolchain "$kit/toolchain" --backend llvm -o out/libflow_c.a
-  ) > "$scratch/log" 2>&1
+  ) > "$scratch/log" 2>&1 || { tail -n 3 "$scratch/log" >&2; return 1; }
 }
 
 if [ -z "$archive" ]; then

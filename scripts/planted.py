@@ -12,9 +12,11 @@ get through, and sees that no goal failed of a function that was left as it is.
 
 What was refused is remembered, by the sums of all that it rests on, in the user's folder of caches.
 
-A check begins with what earlier ones kept. After the gate --begin FOLDER names what the gate's own edits began with:
---gather TEMPORARY FOLDER, run beside the gate until it is ended, collects that out of the gate's temporary folder.
-Where there is nothing of the kind the first check of a crate proves it from nothing. RT_JOBS checks run at a time.
+After the gate --begin FOLDER names what the gate's own edits began with: --gather TEMPORARY FOLDER, run beside the gate
+until it is ended, collects that out of the gate's temporary folder. Each check begins with that then, and reads the
+libraries that the gate has left in out/rlib; it is called as the gate calls it, since `rt check` builds libraries of
+its own, over which nothing of that holds. Without --begin the first check of a crate proves it from nothing. RT_JOBS
+checks run at a time.
 
 The last line is 'planted: N passed, M failed'.
 """
@@ -38,6 +40,8 @@ NAME_IS_GONE = re.compile(r"has no field|is not in scope|has no `|was not admitt
 # Where a function begins, an export for C among them.
 FUNCTION = re.compile(r'^ *(?:pub(?:\(\w+\))? )?(?:const )?(?:extern "C" )?fn (\w+)', re.M)
 REFUSED, WAITS, THROUGH = "refused", "waits", "through"
+# As many edits of a crate are tried one group after another; where there are more, by two at once, and so on.
+LANE = 48
 
 
 class Edit:
@@ -148,28 +152,66 @@ def sum_of(crates):
     return total
 
 
+def libraries_of(crate):
+    """What crates.txt says of a crate: the words before the colon, and the libraries behind it."""
+    for line in (ROOT / "crates.txt").read_text().splitlines():
+        head, _, rest = line.partition("#")[0].partition(":")
+        if head.split()[:1] == [crate]:
+            return head.split(), rest.split()
+    return [], []
+
+
+def keep_libraries(begin):
+    """Keeps the libraries that the gate has left, since other commands build theirs in their place."""
+    for library in ROOT.glob("crates/*/out/rlib/*.rlib"):
+        link_tree(library, begin / "libraries" / library.name)
+
+
+def check_over(begin, crate):
+    """The words that check a crate over the libraries that the gate has left."""
+    kit = Path(subprocess.run(["rt", "doc"], capture_output=True, text=True, check=True).stdout.strip()).parent
+    head, libraries = libraries_of(crate)
+    root = "main" if (ROOT / "crates" / crate / "src" / "main.rt").is_file() else "lib"
+    words = [str(kit / "bin" / "rattle"), "check", "--crate-name", crate, f"src/{root}.rt"]
+    for name in ("std", *libraries):
+        ours = begin / "libraries" / f"{name}.rlib"
+        words += ["--extern", f"{name}={ours if ours.is_dir() else kit / 'rlibs' / f'{name}.rlib'}"]
+    words += ["-L", f"dependency={begin / 'libraries'}", "-L", f"dependency={kit / 'rlibs'}"]
+    words += ["--antt-project", str(kit / "rattle/logic/antt-project.json"), "--logic-built", str(kit / "logic_built")]
+    words += ["--crate-type", "staticlib"] if "staticlib" in head else []
+    return [*words, "--jobs", "1", "--incremental", "out/incremental"]
+
+
 class Copy:
     """A copy of the repository's crates, in which one of them is edited and checked."""
 
     def __init__(self, crate, folder, begin):
-        self.crate, self.top = crate, Path(folder)
+        self.crate, self.top, self.begin = crate, Path(folder), begin
+        self.words = check_over(begin, crate) if begin else ["rt", "check", "--jobs", "1"]
         for name in ("crates.txt", "HANDLES"):
             shutil.copy(ROOT / name, self.top)
         for other in crates_below():
             for part in PARTS:
                 if (ROOT / "crates" / other / part).is_dir():
                     shutil.copytree(ROOT / "crates" / other / part, self.top / "crates" / other / part)
-            if begin and (begin / other).is_dir():
-                link_tree(begin / other, self.top / "crates" / other / "out" / "incremental")
         self.folder = self.top / "crates" / crate
+        (self.folder / "out").mkdir()
+
+    def begin_anew(self):
+        """Has the next check begin with what the gate's edits began with, if that was collected. What was kept for the
+        edits of another group would have their functions proved once more."""
+        if self.begin and (self.begin / self.crate).is_dir():
+            shutil.rmtree(self.folder / "out" / "incremental", ignore_errors=True)
+            link_tree(self.begin / self.crate, self.folder / "out" / "incremental")
 
     def check(self, texts):
         """What a check says with these texts in the place of the crate's own."""
+        self.begin_anew()
         for file, text in texts.items():
             (self.folder / file).write_text(text)
         ran = subprocess.run(
-            ["rt", "check", "--jobs", "1"], cwd=self.folder, stdin=subprocess.DEVNULL, text=True,
-            stdout=subprocess.PIPE, stderr=subprocess.STDOUT, errors="replace",
+            self.words, cwd=self.folder, stdin=subprocess.DEVNULL, text=True, stdout=subprocess.PIPE,
+            stderr=subprocess.STDOUT, errors="replace",
         )
         for file in texts:
             shutil.copy(ROOT / "crates" / self.crate / file, self.folder / file)
@@ -188,19 +230,24 @@ def link_tree(one, other):
     shutil.copytree(one, other, copy_function=link)
 
 
-def try_crate(crate, begin):
-    """Tries the edits of a crate; what is said, how many were refused, and how many not."""
+def lanes_of(crate):
+    """The edits of a crate that aren't known to be refused, by lanes that are tried side by side, what each is
+    remembered by, and how many are known."""
     base = sum_of(crates_below()[crate]).hexdigest()
-    todo, names, said, refused, failed, checks = [], {}, [], 0, 0, 0
-    for edit in edits_of(crate):
-        names[edit] = hashlib.sha256(f"{base} {edit.name} {edit.file} {edit.pairs}".encode()).hexdigest()
-        if (CACHE / names[edit]).exists():
-            refused += 1
-        else:
-            todo.append(edit)
-    known, start = refused, time.monotonic()
+    edits = edits_of(crate)
+    names = {edit: hashlib.sha256(f"{base} {edit.name} {edit.file} {edit.pairs}".encode()).hexdigest()
+             for edit in edits}
+    todo = [edit for edit in edits if not (CACHE / names[edit]).exists()]
+    lanes = -(-len(todo) // LANE)
+    return [todo[lane::lanes] for lane in range(lanes)], names, len(edits) - len(todo)
+
+
+def try_lane(crate, begin, todo, names):
+    """Tries edits of a crate, group after group; what is said, how many were refused, how many not, and in how many
+    checks."""
+    said, refused, failed, checks = [], 0, 0, 0
     with tempfile.TemporaryDirectory(prefix="flow-planted-") as folder:
-        copy = Copy(crate, folder, begin) if todo else None
+        copy = Copy(crate, folder, begin)
         while todo:
             group, texts, rest = next_group(crate, todo)
             if not group:
@@ -224,9 +271,7 @@ def try_crate(crate, begin):
             said += wrong
             failed += len(wrong)
             todo = rest + waiting
-    took = f", {checks} checks, {time.monotonic() - start:.0f} s" if checks else ""
-    said.append(f"{crate}: {refused} refused{f', {known} of them in earlier runs' if known else ''}{took}")
-    return said, refused, failed
+    return said, refused, failed, checks
 
 
 def remember(name):
@@ -269,17 +314,28 @@ def main(words):
         gather(Path(words[1]), Path(words[2]))
     begin = None
     if words[:1] == ["--begin"] and len(words) > 1:
-        begin, words = Path(words[1]), words[2:]
+        begin, words = Path(words[1]).resolve(), words[2:]
+        keep_libraries(begin)
     crates = [crate for crate in crates_below() if crate in words or not words]
     if any(word not in crates for word in words):
         sys.exit(__doc__)
     passed = lacking = 0
     with ThreadPoolExecutor(int(os.environ.get("RT_JOBS") or 1)) as pool:
+        started = []
         # (the crate with the most edits takes longest)
-        tries = sorted(crates, key=lambda crate: -len(edits_of(crate)))
-        for said, refused, failed in pool.map(lambda crate: try_crate(crate, begin), tries):
-            print("\n".join(said), flush=True)
-            passed, lacking = passed + refused, lacking + failed
+        for crate in sorted(crates, key=lambda crate: -len(edits_of(crate))):
+            lanes, names, known = lanes_of(crate)
+            started.append((crate, known, [pool.submit(try_lane, crate, begin, lane, names) for lane in lanes]))
+        for crate, known, lanes in started:
+            refused, checks = known, 0
+            for lane in lanes:
+                said, more, failed, tried = lane.result()
+                print("\n".join([*said, ""]), end="")
+                refused, lacking, checks = refused + more, lacking + failed, checks + tried
+            told = [f"{refused} refused", *([f"{known} of them in earlier runs"] if known else []),
+                    *([f"{checks} checks"] if checks else [])]
+            print(f"{crate}: {', '.join(told)}", flush=True)
+            passed += refused
     for name in missing():
         print(f"docs/PLANTED.md names {name}, which isn't kept")
         lacking += 1

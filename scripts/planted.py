@@ -290,9 +290,9 @@ def missing():
 
 
 def gather(temporary, folder):
-    """Collects what the gate's edits begin with: of a crate it is whole once the first edit's own folder is there. Keeps
-    in the file `edits` how many of these were begun: each has a folder while it is tried, and the gate tells of none
-    before the end."""
+    """Collects what the gate's edits begin with: of a crate it is whole once the first edit's own folder is there.
+    Keeps in the file `edits` how many of these were begun: each has a folder while it is tried, and the gate tells of
+    none before the end."""
     edits = set()
     while True:
         edits.update(temporary.glob("rt-edits-*/[0-9]*"))

@@ -14,15 +14,22 @@ fi
 cd "$(dirname "$0")/.."
 
 # Proves the crates that the last one is made of, lowest first, and says which. Readers and solvers don't stand on each
-# other, so they are proved side by side where there are processors for both; the solvers take two thirds of it all.
-prove() { # LAST
+# other, so they are proved side by side where there are processors for both, the readers in the folder ROOM: both
+# rest on flow_net, and where one of the kit's commands works in a folder, others wait.
+prove() { # LAST ROOM
   local cores
   cores=$(nproc)
   (echo "== flow_net" && cd crates/flow_net && rt lib) || return 1
   if [ "$cores" -ge 3 ]; then
-    (echo "== flow_text" && cd crates/flow_text && exec rt lib --jobs 1) &
-    (echo "== flow_solve, beside it" && cd crates/flow_solve && rt lib --jobs $((cores - 1))) || return 1
-    wait $! || return 1
+    echo "== flow_solve, and flow_text beside it"
+    mkdir "$2/crates" && grep -E '^flow_(net|text):' crates.txt > "$2/crates.txt" || return 1
+    cp -a crates/flow_net crates/flow_text "$2/crates" || return 1
+    (cd "$2/crates/flow_text" && exec rt lib --jobs 1 > /dev/null) &
+    (cd crates/flow_solve && rt lib --jobs $((cores - 1))) || return 1
+    if wait $!; then # else it is proved again below, which tells why it fails
+      rm -rf crates/flow_text/out
+      mv "$2/crates/flow_text/out" crates/flow_text
+    fi
   fi
   for crate in flow_text flow_solve flow_tools; do
     (echo "== $crate" && cd "crates/$crate" && rt lib) || return 1
@@ -36,18 +43,19 @@ prove() { # LAST
 }
 
 cat >&2 <<TEXT
-Proving and building $1, since nothing is built that isn't proved. From nothing this takes some ten minutes on
-four cores, and up to six gigabytes of memory; what an earlier run has proved is kept, and taken up.
+Proving and building $1, since nothing is built that isn't proved. From nothing this takes ten to fifteen
+minutes on four cores, and up to six gigabytes of memory; what an earlier run has proved is kept, and taken up.
 TEXT
 
 { # The rest is read at once, so that a change of this file while the proof goes on does no harm.
 log=$(mktemp)
+room=$(mktemp -d)
 start=$SECONDS
 set -m # a group of processes of its own, to be ended as one
-prove "$1" > "$log" 2>&1 &
+prove "$1" "$room" > "$log" 2>&1 &
 proof=$!
 set +m
-trap 'kill -- "-$proof" 2> /dev/null || true' EXIT
+trap 'kill -- "-$proof" 2> /dev/null || true; rm -rf "$room"' EXIT
 
 # Says how far the proof is: at each crate's beginning, and each half minute.
 crate=
@@ -62,7 +70,7 @@ while kill -0 "$proof" 2> /dev/null; do
     printf '%2d:%02d  %s\n' $(((SECONDS - start) / 60)) $(((SECONDS - start) % 60)) "${crate:-starting}$far" >&2
   fi
 done
-trap - EXIT
+trap 'rm -rf "$room"' EXIT
 
 if ! wait "$proof"; then
   tail -n 20 "$log" >&2

@@ -55,13 +55,14 @@ REFUSED = [
     ("paint", None),
     ("cut --sink=2", None),
 ]
-"""Words that are refused, and all that is told of them, where that is expected whole. No tip says how to pass an unknown
-flag as a value."""
+"""Words that are refused, and all that is told of them, where that is expected whole. No tip says how to pass an
+unknown flag as a value."""
 
 HELP = [
     ("solve", "  s VALUE "),
     ("solve", "  f SRC DST FLOW "),
-    ("solve", "  $ printf 'p max 3 2\\nn 1 s\\nn 3 t\\na 1 2 5\\na 2 3 2\\n' | flow solve\n  s 2\n  f 1 2 2\n  f 2 3 2\n"),
+    ("solve", "  $ printf 'p max 3 2\\nn 1 s\\nn 3 t\\na 1 2 5\\na 2 3 2\\n' | flow solve\n"
+     "  s 2\n  f 1 2 2\n  f 2 3 2\n"),
     ("cut", "  n NODE "),
     ("cut", "With --sink it is the one\nnearest the sinks"),
     ("cut", " | flow cut --arcs\n  s 2\n  n 1\n  n 2\n  a 2 3 2\n"),
@@ -153,7 +154,8 @@ def reads_stdin(words):
     read, write = os.pipe()
     os.write(write, NET_B)
     os.close(write)
-    subprocess.run([PROGRAM, *words.split()], stdin=read, stdout=subprocess.DEVNULL, stderr=subprocess.DEVNULL, timeout=60)
+    nowhere = subprocess.DEVNULL
+    subprocess.run([PROGRAM, *words.split()], stdin=read, stdout=nowhere, stderr=nowhere, timeout=60)
     left = os.read(read, 4096)
     os.close(read)
     return left != NET_B

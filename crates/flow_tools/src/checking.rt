@@ -50,7 +50,7 @@ fn cap_of_pair(net: &Network, src: u32, dst: u32) -> u128
     sum
 }
 
-/// Whether a feasible flow has the greatest value.
+/// Whether a feasible flow has the greatest value. It stays as it is.
 ///
 /// # Errors
 ///
@@ -66,6 +66,7 @@ pub fn is_greatest(
     requires terminals { AreTerminals net.now s.now t.now }
     ensures greatest { IfOk result (λ greatest. (greatest ≡ true)
         ↔ HasGreatestValue net.now (one_of s.now) (one_of t.now) flow.old.flows) }
+    ensures flows { flow.new.flows ≡ flow.old.flows }
     ensures limits { IfOk result (λ _. IsNet net.now) }
 {
     let mut work = work_for(alloc, net)?;

@@ -66,7 +66,8 @@ pub fn least_degree(net: &Network, cells: &mut [u32]) -> u64
 pub fn are_balanced(net: &Network, degrees: &[u32]) -> bool
     requires cells { 2 * net.now.nodes ≤ length degrees.now }
     requires degrees { AreDegrees net.now.nodes net.now.arcs degrees.now (drop net.now.nodes degrees.now) }
-    ensures { IsTrue result → IsEitherWay net.now }
+    ensures balanced { IsTrue result → IsEitherWay net.now }
+    ensures unbalanced { IsEitherWay net.now → IsTrue result }
 {
     let n = net.nodes() as usize;
     let (leaving, rest) = degrees.split_at(n);

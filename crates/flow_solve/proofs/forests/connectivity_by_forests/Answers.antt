@@ -5,13 +5,13 @@ use Rattle.flow_solve.proofs.forests.connectivity_by_forests.Goals as goal
 
 pub are_even-is_even-requires-clause-balanced : goal.are_even-is_even-requires-clause-balanced
 are_even-is_even-requires-clause-balanced c =
-    c.are_balanced-is_balanced.ensures c.if-is_balanced.true
+    c.are_balanced-is_balanced.ensures.balanced c.if-is_balanced.true
 
 pub returns-then-is_balanced-2-clause-connectivity : goal.returns-then-is_balanced-2-clause-connectivity
 returns-then-is_balanced-2-clause-connectivity c =
     let r = c.in_ok-forth.ensures in
     connected_once c.args.net.now c.hub.result c.in_ok-forth.forth.value r.reached
-    (c.are_balanced-is_balanced.ensures c.if-is_balanced-2.true) r.above
+    (c.are_balanced-is_balanced.ensures.balanced c.if-is_balanced-2.true) r.above
 
 -- what was shown one way holds of a lesser number too
 pub returns-clause-connectivity : goal.returns-clause-connectivity

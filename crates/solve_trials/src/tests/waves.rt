@@ -8,7 +8,11 @@ struct Waves(u64);
 
 impl Stage for Waves {
     fn run(&self, task: Task<'_>, flow: &mut FlowTable, cells: &mut [u32]) -> u128 {
-        send_waves(task, flow, cells, 0, self.0)
+        let begun = Sent {
+            value: 0,
+            left: self.0,
+        };
+        send_waves(task, flow, cells, begun)
     }
 }
 
@@ -22,7 +26,11 @@ struct Both {
 impl Stage for Both {
     fn run(&self, task: Task<'_>, flow: &mut FlowTable, cells: &mut [u32]) -> u128 {
         let grown = grow_trees(task, flow, cells, 0, self.trees);
-        send_waves(task, flow, cells, grown.value, self.waves)
+        let begun = Sent {
+            value: grown.value,
+            left: self.waves,
+        };
+        send_waves(task, flow, cells, begun)
     }
 }
 

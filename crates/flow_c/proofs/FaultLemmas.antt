@@ -1,5 +1,5 @@
 -- What a status tells, and that good lists have no fault.
-use Rattle.std.proofs.Common.{◌≡◌, ◌≤◌, ◌<◌, ℕ, zero, suc, ◌⊎◌, List, [], ◌∷◌, ◌++◌, length, inl, inr, arith}
+use Rattle.std.proofs.Common.{◌≡◌, ◌<◌, ℕ, zero, suc, ◌⊎◌, List, [], ◌++◌, length, inl, inr, arith}
 use Rattle.std.proofs.Common.{refl}
 use Rattle.std.specs.List.{All}
 use Rattle.flow_net.specs.Limits.{AreDistinct}
@@ -9,10 +9,6 @@ use Rattle.flow_c.specs.declared.refusals.Refusal.{Refusal}
 use Rattle.flow_c.specs.declared.refusals.Refusal.TheVariants.{Nodes, Lengths, BadEnd, Terminal, Memory}
 use Rattle.flow_c.specs.Refusals.{HasBadEnd, HasBadTerminal, HasBadTerminals, IsReason, status_number}
 use Rattle.flow_c.specs.Refusals.{IsTold, AreArcs, AreEnds}
-
--- an answer tells nothing
-pub told_nothing : (L : Type 0) (n : ℕ) (src dst sources sinks : List ℕ) → IsTold L n src dst sources sinks 0
-told_nothing L n src dst sources sinks = grind arith
 
 -- the status of a refusal tells its reason
 pub told_by : (L : Type 0) (n : ℕ) (src dst sources sinks : List ℕ) (r : Refusal)
@@ -74,25 +70,3 @@ pub good_refused : (L : Type 0) (n : ℕ) (src dst sources sinks : List ℕ) (r 
     → (status_number r ≡ 0) ⊎ (status_number r ≡ 5)
 good_refused L n src dst sources sinks r same h =
     good_lists L n (status_number r) src dst sources sinks same (told_by L n src dst sources sinks r h)
-
--- nodes 0 and 1 are good terminals
-pub two_ends : (n : ℕ) → 2 ≤ n → AreEnds n (0 ∷ []) (1 ∷ [])
-two_ends n least = record {
-  some_source = omega arith;
-  some_sink = omega arith;
-  sources_within = within 0 (omega (arith, least));
-  sinks_within = within 1 (omega (arith, least));
-  distinct = apart;
-}
-  where
-    within : (v : ℕ) → v < n → All (λ w. w < n) (v ∷ [])
-    within v h zero d l = h
-    within v h (suc k) d l = absurd (omega (arith, l))
-
-    apart : AreDistinct (1 ∷ 2 ∷ [])
-    apart zero zero l m e = omega (arith, l)
-    apart zero (suc zero) l m e = omega (arith, e)
-    apart zero (suc (suc j)) l m e = omega (arith, m)
-    apart (suc i) zero l m e = omega (arith, l)
-    apart (suc i) (suc zero) l m e = omega (arith, l)
-    apart (suc i) (suc (suc j)) l m e = omega (arith, m)

@@ -33,8 +33,8 @@ use refusals::status_of;
 use solving::{count_links, cut_lists, solve_lists};
 use std::alloc::Global;
 
-/// 2 to the power of 64.
-const WORD: u128 = 18_446_744_073_709_551_616;
+/// So many numbers have 64 bits.
+const WORD: u128 = u64::MAX as u128 + 1;
 
 /// Writes the upper and the lower 64 bits of a value.
 fn write_value(value: u128, high: &mut u64, low: &mut u64)

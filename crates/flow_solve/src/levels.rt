@@ -154,7 +154,11 @@ impl Raise for Levels {
         if grown.is_finished {
             return grown.value;
         }
-        let value = send_waves(task, flow, cells, grown.value, waves);
+        let begun = Sent {
+            value: grown.value,
+            left: waves,
+        };
+        let value = send_waves(task, flow, cells, begun);
         run_phases(task, flow, cells, value)
     }
 }

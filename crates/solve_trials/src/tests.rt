@@ -18,6 +18,7 @@ use flow_net::{Arc, FEWEST_NODES, FlowTable, MOST_ARCS_BOTH_WAYS, MOST_NODES, Ne
 use flow_solve::stages::*;
 use flow_solve::*;
 use std::alloc::Global;
+use std::process::Abort;
 
 /// Whether a number stands nowhere before its place.
 fn is_new(nodes: &[u32], j: usize) -> bool
@@ -272,38 +273,13 @@ fn random_node(random: &mut Random, nodes: u32) -> u32
     1 + random.below(u64::from(nodes)) as u32
 }
 
-/// Four of them, one maybe several times.
-fn four_nodes(random: &mut Random, nodes: u32) -> [u32; 4]
-    requires { 1 ≤ nodes }
+/// Adds arcs between any two nodes, fewer than a number of them and some in both directions: self-loops, parallel and
+/// opposite arcs among them, small capacities and the largest. Answers whether all of them were added.
+#[must_use]
+fn add_arcs(net: &mut Network, random: &mut Random, limit: u64) -> bool
+    requires { 0 < limit }
 {
-    [
-        random_node(random, nodes),
-        random_node(random, nodes),
-        random_node(random, nodes),
-        random_node(random, nodes),
-    ]
-}
-
-/// Adds arcs between any two nodes, self-loops and parallel arcs among them, small capacities and the largest. Answers
-/// whether all of them were added.
-#[must_use]
-fn add_arcs(net: &mut Network, random: &mut Random) -> bool {
-    for _ in 0..random.below(15) {
-        let nodes = net.nodes();
-        let src = random_node(random, nodes);
-        let dst = random_node(random, nodes);
-        let cap = [0, 1, 2, 3, 5, u64::MAX][random.below(6) as usize];
-        if !add(net, src, dst, cap) {
-            return false;
-        }
-    }
-    true
-}
-
-/// Adds arcs between any two of some nodes: self-loops, parallel and opposite arcs, small capacities and the largest.
-#[must_use]
-fn add_random_arcs(net: &mut Network, random: &mut Random) -> bool {
-    for _ in 0..random.below(90) {
+    for _ in 0..random.below(limit) {
         let src = random_node(random, net.nodes());
         let dst = random_node(random, net.nodes());
         let cap = [0, 1, 2, 3, 5, 8, 100, u64::MAX][random.below(8) as usize];
@@ -314,23 +290,59 @@ fn add_random_arcs(net: &mut Network, random: &mut Random) -> bool {
     true
 }
 
+/// A network, and nodes that may be its terminals.
+#[derive(Drop)]
+struct Drawn {
+    net: Network,
+    nodes: [u32; 4],
+    /// How many of the nodes are sources: the first.
+    k: usize,
+    /// How many of them are sources or sinks.
+    len: usize,
+}
+
+impl Drawn {
+    fn terminals(&self) -> &[u32] {
+        &self.nodes[..self.len.min(4)]
+    }
+}
+
+/// Draws a network of two nodes and fewer more than a number, with fewer arcs than another; and for its terminals one
+/// or two sources and one or two sinks, if no node is drawn for two of them.
+fn draw(alloc: Global, random: &mut Random, more: u64, arcs: u64) -> Option<Drawn>
+    requires more { (0 < more) × (more ≤ 100) }
+    requires arcs { 0 < arcs }
+{
+    let n = 2 + random.below(more) as u32;
+    let mut net = Network::new(alloc, n);
+    if !add_arcs(&mut net, random, arcs) {
+        return None;
+    }
+    let nodes = [
+        random_node(random, n),
+        random_node(random, n),
+        random_node(random, n),
+        random_node(random, n),
+    ];
+    let k = 1 + random.below(2) as usize;
+    let len = k + 1 + random.below(2) as usize;
+    let drawn = Drawn { net, nodes, k, len };
+    if may_be_terminals(&drawn.net, drawn.terminals(), k) {
+        Some(drawn)
+    } else {
+        None
+    }
+}
+
 #[test]
 fn all_sets_agree(rt: HostRuntime) {
     let mut random = Random { state: 2026 };
     let mut tried = 0u32;
     for _ in 0..600 {
-        let nodes = 2 + random.below(5) as u32;
-        let mut net = Network::new(rt.alloc(), nodes);
-        assert!(&rt; add_arcs(&mut net, &mut random));
-        let terminals = four_nodes(&mut random, nodes);
-        let k = 1 + random.below(2) as usize;
-        let end = k + 1 + random.below(2) as usize;
-        let terminals = &terminals[..end];
-        if !may_be_terminals(&net, terminals, k) {
-            continue;
+        if let Some(drawn) = draw(rt.alloc(), &mut random, 5, 15) {
+            assert!(&rt; agrees(rt.alloc(), &drawn.net, drawn.terminals(), drawn.k));
+            tried = tried.wrapping_add(1);
         }
-        assert!(&rt; agrees(rt.alloc(), &net, terminals, k));
-        tried = tried.wrapping_add(1);
     }
     assert!(&rt; tried > 100);
 }
@@ -375,6 +387,55 @@ fn stages<'a, S: Stage>(
     let mut other = empty_flow(alloc, net)?;
     let greatest = Paths::greatest(net, s, t, &mut other, &mut work);
     Some((reached, raised, greatest))
+}
+
+/// A stage that may take as much as is drawn.
+trait Limited: Stage {
+    fn limited(random: &mut Random) -> Self;
+}
+
+/// How runs of a stage on random networks came out.
+#[derive(Drop)]
+struct Tally {
+    /// How many there were.
+    tried: u32,
+    /// In how many the stage reached something.
+    carried: u32,
+    /// In how many it did, and left something to the phases.
+    between: u32,
+}
+
+/// Runs a stage on random networks, with as much as is drawn each time: the phases bring what it leaves.
+fn run_on_random_networks<S: Limited + Drop>(
+    rt: &impl Abort,
+    alloc: Global,
+    state: u64,
+    more: u64,
+    arcs: u64,
+) -> Tally
+    requires more { (0 < more) × (more ≤ 100) }
+    requires arcs { 0 < arcs }
+{
+    let mut random = Random { state };
+    let (mut tried, mut carried, mut between) = (0u32, 0u32, 0u32);
+    for _ in 0..6000 {
+        let Some(drawn) = draw(alloc, &mut random, more, arcs) else {
+            continue;
+        };
+        let stage = S::limited(&mut random);
+        let answer = stages(alloc, &drawn.net, drawn.terminals(), drawn.k, &stage);
+        let (reached, raised, greatest) = answer.expect(rt, "good terminals, and memory");
+        assert!(rt; reached <= greatest);
+        assert_eq!(rt; raised, greatest);
+        tried = tried.wrapping_add(1);
+        carried = carried.wrapping_add(u32::from(0 < reached));
+        between = between.wrapping_add(u32::from(0 < reached && reached < greatest));
+    }
+    Tally {
+        tried,
+        carried,
+        between,
+    }
 }
 
 #[test]

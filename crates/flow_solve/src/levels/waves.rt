@@ -23,6 +23,7 @@ mod excess;
 mod levelling;
 mod settling;
 
+use crate::levels::near_sends::Sent;
 use crate::levels::spending::spend;
 use crate::residual::half_arcs::head;
 use crate::residual::packing::Packed;
@@ -166,25 +167,19 @@ fn at_rest<'a>(cells: &'a mut [u32], nodes: u32, allowance: u64) -> Wave<'a>
 
 /// Sends waves from a flow of some value on, and settles what they leave. Answers the flow's value: 0, with the table
 /// cleared, where something couldn't be brought home.
-pub fn send_waves(
-    task: Task<'_>,
-    flow: &mut FlowTable,
-    cells: &mut [u32],
-    value: u128,
-    allowance: u64,
-) -> u128
+pub fn send_waves(task: Task<'_>, flow: &mut FlowTable, cells: &mut [u32], begun: Sent) -> u128
     requires task { IsTask task }
     requires cells { length cells.old ≡ 5 * task.packed.net.now.nodes }
-    requires flow { HasFlow task flow.old.flows value }
+    requires flow { HasFlow task flow.old.flows begun.value }
     ensures flow { HasFlow task.entry flow.new.flows result }
-    ensures steps { TakesSteps flow.old flow.new allowance }
+    ensures steps { TakesSteps flow.old flow.new begun.left }
 {
     let Task { packed, s, t } = task;
     let looks = u64::from(packed.net.len());
-    if allowance <= looks {
-        return value;
+    if begun.left <= looks {
+        return begun.value;
     }
-    let share = (allowance - looks) / 2;
+    let share = (begun.left - looks) / 2;
     let nodes = packed.net.nodes();
     let mut there = at_rest(cells, nodes, share);
     supply(task, flow, &mut there);

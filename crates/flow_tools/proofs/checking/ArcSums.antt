@@ -1,5 +1,5 @@
 -- Sums over arcs.
-use Rattle.std.proofs.Common.{◌≡◌, ℕ, zero, suc, ◌+◌, ◌*◌, ◌/◌, ◌%◌, ◌≤◌, ◌<◌, Bool, true, false, cond, eqb, List}
+use Rattle.std.proofs.Common.{◌≡◌, ℕ, zero, suc, ◌+◌, ◌*◌, ◌≤◌, ◌<◌, Bool, true, false, cond, eqb, List}
 use Rattle.std.proofs.Common.{[], ◌∷◌, length, get_or, set, take, refl, ◌∙◌, sym, ap, inl, inr, eq-eqb, add-one, arith}
 use Rattle.std.proofs.lemmas.Bool.{cases_eq, ne_eqb, and_left, and_right, and_from}
 use Rattle.std.specs.List.{AllByRecursion, AllZip}
@@ -11,7 +11,6 @@ use Rattle.flow_net.specs.Arcs.{no_arc}
 use Rattle.flow_net.specs.Limits.{IsNet, IsArcWithin}
 use Rattle.flow_net.specs.Flows.{flow_over}
 use Rattle.flow_net.specs.Cuts.{cap_over}
-use Rattle.flow_net.specs.Residual.{pushed}
 use Rattle.flow_net.proofs.Pushes.{flow_over-set}
 use Rattle.flow_tools.specs.checking.ArcShares.{is_pair}
 use Rattle.flow_tools.specs.checking.ArcShares.{arc_flow, HasMore}
@@ -52,13 +51,6 @@ cap_over-take-le p [] zero = omega arith
 cap_over-take-le p [] (suc i) = omega arith
 cap_over-take-le p (a ∷ arcs) zero = omega arith
 cap_over-take-le p (a ∷ arcs) (suc i) = omega (arith, cap_over-take-le p arcs i)
-
--- a push along an arc
-pub pushed_along : (xs : List ℕ) (i d : ℕ) → pushed xs (2 * i) d ≡ set xs i (get_or xs i 0 + d)
-pushed_along xs i d =
-    let half : 2 * i / 2 ≡ i = omega arith in
-    let even : 2 * i % 2 ≡ 0 = omega arith in
-    rw (even, half) refl
 
 -- what a sum gains where one of its parts is raised by d
 set_step : (b : Bool) (x d m k : ℕ) → m + cond b x 0 ≡ k + cond b (x + d) 0 → m ≡ k + cond b d 0

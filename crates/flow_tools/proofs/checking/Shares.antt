@@ -25,6 +25,7 @@ use Rattle.flow_tools.specs.checking.ArcShares.{pair_rank, place_rank, line_rank
 use Rattle.flow_tools.specs.checking.ArcShares.{AreOrderedArcs}
 use Rattle.flow_tools.specs.checking.ArcShares.{arc_flow, Carries, HasMore, IsFull, ArePassed}
 use Rattle.flow_tools.specs.declared.checking.sharing.ArcPlace.{ArcPlace}
+use Rattle.flow_tools.specs.declared.checking.sharing.TheConstants.{NODE_NUMBERS}
 use Rattle.flow_tools.proofs.checking.LineSums.{line_flow_more, line_flow-take-drop, line_flow_none}
 use Rattle.flow_tools.proofs.checking.LineSums.{line_flow-IsPermutation}
 use Rattle.flow_tools.proofs.checking.ArcSums.{full_over, set_more, more_twice, more_none, yes_step, no_step}
@@ -141,7 +142,7 @@ pair_full net places at src dst xs o f h past =
 -- ---- one arc after another
 
 -- a pair is told by its rank
-same_pair : (u v src dst : ℕ) → v < 4294967296 → dst < 4294967296 → pair_rank u v ≡ pair_rank src dst
+same_pair : (u v src dst : ℕ) → v < NODE_NUMBERS → dst < NODE_NUMBERS → pair_rank u v ≡ pair_rank src dst
     → (u ≡ src) × (v ≡ dst)
 same_pair u v src dst l k e = let first : u ≡ src = omega arith in (first, omega arith)
 
@@ -156,8 +157,8 @@ pub record IsPouring (net : Net) (places : List ArcPlace) (before : List ℕ) (l
 -- the place is of the line's pair
 pub record IsOfPair (places : List ArcPlace) (line : FlowLine) (at : ℕ) : Type 0 where
   pub within : at < length places
-  pub line_below : line.dst < 4294967296
-  pub place_below : (get_or places at no_place).dst < 4294967296
+  pub line_below : line.dst < NODE_NUMBERS
+  pub place_below : (get_or places at no_place).dst < NODE_NUMBERS
   pub same : place_rank (get_or places at no_place) ≡ line_rank line
 
 -- an arc takes all of an amount but the rest, and the flow was xs and is ys
@@ -240,7 +241,7 @@ abbrev pub no_line : FlowLine
 no_line = record { src = 0; dst = 0; flow = 0 }
 
 -- a pair that comes before another has a lesser rank, and differs from it
-before_rank : (u v src dst : ℕ) → v < 4294967296 → IsBefore u v src dst → pair_rank u v < pair_rank src dst
+before_rank : (u v src dst : ℕ) → v < NODE_NUMBERS → IsBefore u v src dst → pair_rank u v < pair_rank src dst
 before_rank u v src dst l b = elim b [
   | inl less ↦ omega arith
   | inr same ↦ omega (arith, same.0, same.1)
@@ -322,7 +323,7 @@ first_over net lines i left xs ys n w o h = record { over = over; least = least 
         )
 
     least : (u v : ℕ) → IsBefore u v s t → pair_flow lines u v ≤ pair_cap net u v
-    least u v b = elim (cases_lt v 4294967296) [
+    least u v b = elim (cases_lt v NODE_NUMBERS) [
       | inl low ↦
           let rank : pair_rank u v < pair_rank s t = before_rank u v s t low b in
           let own : arc_flow net (is_pair u v) ys ≡ arc_flow net (is_pair u v) xs =

@@ -89,12 +89,6 @@ next_is_node net v n at = elim (cases_eq v net.nodes) [
   | inr d ↦ (let l = at.1 in let f = next_inner net.nodes v (omega arith) in (omega (arith, f), omega (arith, f)))
 ]
 
-pub next_differs : (net : Net) (v : ℕ) → IsNet net → IsNode net v → v ≢ next_node net.nodes v
-next_differs net v n at h = elim (cases_eq v net.nodes) [
-  | inl e ↦ (let two = n.nodes_least in absurd (omega (arith, next_last net.nodes v e, h)))
-  | inr d ↦ (let l = at.1 in absurd (omega (arith, next_inner net.nodes v (omega arith), h)))
-]
-
 -- the connectivity of a node and its next is no more than any set that parts them; nor is a lesser number
 pub below_next : (net : Net) (k m v : ℕ) → k ≤ m → IsPairConnectivity net (just v) (just (next_node net.nodes v)) m
     → IsBelowNext net k v
@@ -109,16 +103,7 @@ below_next_less net k m v l b X c = omega (arith, b X c)
 pub around_steps : (s a b v k : ℕ) → 1 ≤ v → a ≤ s + (v - 1) * k → b ≤ a + k → b ≤ s + (v + 1 - 1) * k
 around_steps s a b v k l h r = grind arith
 
--- the steps of the growth, alone and with those of the way round, within the bound
-pub growth_steps : (n b : ℕ) → 2 ≤ n → b ≤ 2 * (n - 1) * b
-growth_steps n b l =
-    let m : ℕ = n - 2 in
-    let e : n ≡ m + 2 = omega arith in
-    subst (λ z. b ≤ 2 * (z - 1) * b) (sym e) (grow m)
-  where
-    grow : (m : ℕ) → b ≤ 2 * (m + 2 - 1) * b
-    grow m = grind arith
-
+-- the steps of the growth with those of the way round, within the bound
 pub both_steps : (n b : ℕ) → 3 ≤ n → b + n * b ≤ 2 * (n - 1) * b
 both_steps n b l =
     let m : ℕ = n - 3 in

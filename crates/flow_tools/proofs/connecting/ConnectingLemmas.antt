@@ -13,7 +13,7 @@ use Rattle.flow_net.specs.NodeSets.{one_of, just}
 use Rattle.flow_net.specs.Cuts.{leaves, IsCut}
 use Rattle.flow_net.specs.LeastCuts.{IsLeastCapacity}
 use Rattle.flow_net.specs.Connectivity.{leaving, IsProper}
-use Rattle.flow_net.specs.LeastCuts.{IsConnectivity, IsPairConnectivity}
+use Rattle.flow_net.specs.LeastCuts.{IsPairConnectivity}
 use Rattle.flow_net.proofs.Connections.{pair_by_solve, cut_proper}
 
 -- ---- capacities of 1
@@ -80,11 +80,3 @@ pair_of_singles net u v k p = record {
 pub pair_is_proper : (net : Net) (u v k : ℕ) → IsNode net u → IsNode net v → IsPairConnectivity net (just u) (just v) k
     → (X : ℕ → Bool) × IsProper net X × (leaving net X ≡ k)
 pair_is_proper net u v k a b p = (p.reached.0, cut_proper net u v p.reached.0 a.0 a.1 b.0 b.1 p.reached.1, p.reached.2)
-
--- no number is below none
-pub connected_none : (net : Net) (k : ℕ) → ((X : ℕ → Bool) × IsProper net X × (leaving net X ≡ k)) → k ≡ 0
-    → IsConnectivity net 0
-connected_none net k r e = record {
-  reached = subst (λ j. (X : ℕ → Bool) × IsProper net X × (leaving net X ≡ j)) e r;
-  least = λ X p. omega arith;
-}

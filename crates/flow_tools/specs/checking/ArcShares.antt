@@ -13,6 +13,7 @@ use Rattle.flow_tools.specs.checking.FirstFaults.{IsFirstOver}
 use Rattle.flow_tools.specs.declared.checking.sharing.ArcPlace.{ArcPlace}
 use Rattle.flow_tools.specs.declared.checking.sharing.Shared.{Shared}
 use Rattle.flow_tools.specs.declared.checking.sharing.Shared.TheVariants.{Flow, Over}
+use Rattle.flow_tools.specs.declared.checking.sharing.TheConstants.{NODE_NUMBERS}
 
 -- the test for one pair of nodes
 abbrev pub is_pair : ℕ → ℕ → ℕ → ℕ → Bool
@@ -22,9 +23,9 @@ is_pair u v src dst = (u == src) && (v == dst)
 abbrev pub IsBefore : ℕ → ℕ → ℕ → ℕ → Type 0
 IsBefore u v src dst = (u < src) ⊎ ((u ≡ src) × (v < dst))
 
--- a number that rises with a pair of nodes below 2^32: by the first, then by the second
+-- a number that rises with a pair of nodes: by the first, then by the second
 abbrev pub pair_rank : ℕ → ℕ → ℕ
-pair_rank src dst = src * 4294967296 + dst
+pair_rank src dst = src * NODE_NUMBERS + dst
 
 abbrev pub place_rank : ArcPlace → ℕ
 place_rank p = pair_rank p.src p.dst

@@ -44,12 +44,15 @@ pub(crate) enum Shared {
     },
 }
 
+/// So many numbers can a node have, in 32 bits.
+const NODE_NUMBERS: u64 = u32::MAX as u64 + 1;
+
 /// A number that rises with a pair of nodes: by the first, then by the second.
 fn rank(src: u32, dst: u32) -> u64
     ensures rank { result ≡ pair_rank src dst }
-    ensures below { dst < 4294967296 }
+    ensures below { dst < NODE_NUMBERS }
 {
-    src as u64 * 0x1_0000_0000 + dst as u64
+    src as u64 * NODE_NUMBERS + dst as u64
 }
 
 /// The arcs of a network, each with its place.

@@ -150,32 +150,15 @@ fn near_sends_that_are_left(rt: HostRuntime) {
     assert_eq!(&rt; before, value);
 }
 
+impl Limited for Near {
+    fn limited(random: &mut Random) -> Near {
+        Near(random.below(200))
+    }
+}
+
 #[test]
 fn near_sends_on_random_networks(rt: HostRuntime) {
-    let mut random = Random { state: 1957 };
-    let mut tried = 0u32;
-    let mut between = 0u32;
-    for _ in 0..6000 {
-        let nodes = 2 + random.below(12) as u32;
-        let mut net = Network::new(rt.alloc(), nodes);
-        assert!(&rt; add_random_arcs(&mut net, &mut random));
-        let terminals = four_nodes(&mut random, nodes);
-        let k = 1 + random.below(2) as usize;
-        let end = k + 1 + random.below(2) as usize;
-        let terminals = &terminals[..end];
-        if !may_be_terminals(&net, terminals, k) {
-            continue;
-        }
-        let near = Near(random.below(200));
-        let answer = stages(rt.alloc(), &net, terminals, k, &near);
-        let (reached, greatest, other) = answer.expect(&rt, "a small network, and memory");
-        assert!(&rt; reached <= greatest);
-        assert_eq!(&rt; greatest, other);
-        tried = tried.wrapping_add(1);
-        if 0 < reached && reached < greatest {
-            between = between.wrapping_add(1);
-        }
-    }
-    assert!(&rt; tried > 2000);
-    assert!(&rt; between > 20);
+    let tally = run_on_random_networks::<Near>(&rt, rt.alloc(), 1957, 12, 90);
+    assert!(&rt; tally.tried > 2000);
+    assert!(&rt; tally.between > 20);
 }

@@ -55,34 +55,17 @@ fn trees_that_are_left(rt: HostRuntime) {
     assert_eq!(&rt; before, value);
 }
 
-#[test]
-fn methods_agree_on_random_networks(rt: HostRuntime) {
-    let mut random = Random { state: 1970 };
-    let mut tried = 0u32;
-    let mut between = 0u32;
-    for _ in 0..6000 {
-        let nodes = 2 + random.below(5) as u32;
-        let mut net = Network::new(rt.alloc(), nodes);
-        assert!(&rt; add_arcs(&mut net, &mut random));
-        let terminals = four_nodes(&mut random, nodes);
-        let k = 1 + random.below(2) as usize;
-        let end = k + 1 + random.below(2) as usize;
-        let trees = Trees(random.below(60));
-        let terminals = &terminals[..end];
-        if !may_be_terminals(&net, terminals, k) {
-            continue;
-        }
-        let answer = stages(rt.alloc(), &net, terminals, k, &trees);
-        let (reached, greatest, other) = answer.expect(&rt, "a small network, and memory");
-        assert!(&rt; reached <= greatest);
-        assert_eq!(&rt; greatest, other);
-        tried = tried.wrapping_add(1);
-        if 0 < reached && reached < greatest {
-            between = between.wrapping_add(1);
-        }
+impl Limited for Trees {
+    fn limited(random: &mut Random) -> Trees {
+        Trees(random.below(60))
     }
-    assert!(&rt; tried > 2000);
-    assert!(&rt; between > 20);
+}
+
+#[test]
+fn trees_agree_on_random_networks(rt: HostRuntime) {
+    let tally = run_on_random_networks::<Trees>(&rt, rt.alloc(), 1970, 5, 15);
+    assert!(&rt; tally.tried > 2000);
+    assert!(&rt; tally.between > 20);
 }
 
 /// What the trees alone reach with an allowance, if the terminals are good and there is memory. The first `k` terminals
@@ -213,18 +196,13 @@ fn trees_on_random_networks(rt: HostRuntime) {
     let mut finished = 0u32;
     let mut between = 0u32;
     for _ in 0..4000 {
-        let nodes = 2 + random.below(30) as u32;
-        let mut net = Network::new(rt.alloc(), nodes);
-        assert!(&rt; add_random_arcs(&mut net, &mut random));
-        let terminals = four_nodes(&mut random, nodes);
-        let k = 1 + random.below(2) as usize;
-        let end = k + 1 + random.below(2) as usize;
-        let allowance = random.below(1000);
-        let terminals = &terminals[..end];
-        let Some(reached) = grow(rt.alloc(), &net, terminals, k, allowance) else {
+        let Some(drawn) = draw(rt.alloc(), &mut random, 30, 90) else {
             continue;
         };
-        let most = greatest(rt.alloc(), &net, terminals, k).expect(&rt, "good terminals");
+        let (net, terminals, k) = (&drawn.net, drawn.terminals(), drawn.k);
+        let answer = grow(rt.alloc(), net, terminals, k, random.below(1000));
+        let reached = answer.expect(&rt, "good terminals");
+        let most = greatest(rt.alloc(), net, terminals, k).expect(&rt, "good terminals");
         assert!(&rt; reached.value <= most);
         if reached.is_finished {
             assert_eq!(&rt; reached.value, most);

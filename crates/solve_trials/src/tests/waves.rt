@@ -8,7 +8,11 @@ struct Waves(u64);
 
 impl Stage for Waves {
     fn run(&self, task: Task<'_>, flow: &mut FlowTable, cells: &mut [u32]) -> u128 {
-        send_waves(task, flow, cells, 0, self.0)
+        let begun = Sent {
+            value: 0,
+            left: self.0,
+        };
+        send_waves(task, flow, cells, begun)
     }
 }
 
@@ -22,12 +26,16 @@ struct Both {
 impl Stage for Both {
     fn run(&self, task: Task<'_>, flow: &mut FlowTable, cells: &mut [u32]) -> u128 {
         let grown = grow_trees(task, flow, cells, 0, self.trees);
-        send_waves(task, flow, cells, grown.value, self.waves)
+        let begun = Sent {
+            value: grown.value,
+            left: self.waves,
+        };
+        send_waves(task, flow, cells, begun)
     }
 }
 
 /// The most that flows through an arc.
-const MOST: u128 = 18_446_744_073_709_551_615;
+const MOST: u128 = u64::MAX as u128;
 
 /// A network of 12 nodes: its arcs, its terminals, the first `k` of them sources, what waves reach, and the greatest
 /// value.
@@ -234,57 +242,21 @@ fn waves_that_are_left(rt: HostRuntime) {
     assert_eq!(&rt; last, ways.value);
 }
 
-/// Adds so many arcs between any two nodes, self-loops, parallel and opposite arcs among them, small capacities and the
-/// largest. Answers whether all of them were added.
-#[must_use]
-fn add_many(net: &mut Network, random: &mut Random, count: u64) -> bool {
-    for _ in 0..count {
-        let nodes = net.nodes();
-        let src = random_node(random, nodes);
-        let dst = random_node(random, nodes);
-        let cap = [0, 1, 2, 3, 9, u64::MAX][random.below(6) as usize];
-        if !add(net, src, dst, cap) {
-            return false;
+impl Limited for Both {
+    fn limited(random: &mut Random) -> Both {
+        Both {
+            trees: random.below(60),
+            waves: random.below(3000),
         }
     }
-    true
 }
 
 #[test]
 fn waves_agree_on_random_networks(rt: HostRuntime) {
-    let mut random = Random { state: 1974 };
-    let (mut tried, mut carried, mut short) = (0u32, 0u32, 0u32);
-    for _ in 0..6000 {
-        let nodes = 2 + random.below(15) as u32;
-        let mut net = Network::new(rt.alloc(), nodes);
-        let count = random.below(50);
-        assert!(&rt; add_many(&mut net, &mut random, count));
-        let terminals = four_nodes(&mut random, nodes);
-        let k = 1 + random.below(2) as usize;
-        let end = k + 1 + random.below(2) as usize;
-        let terminals = &terminals[..end];
-        if !may_be_terminals(&net, terminals, k) {
-            continue;
-        }
-        let both = Both {
-            trees: random.below(60),
-            waves: random.below(3000),
-        };
-        let answer = stages(rt.alloc(), &net, terminals, k, &both);
-        let (reached, raised, greatest) = answer.expect(&rt, "memory");
-        assert!(&rt; reached <= greatest);
-        assert_eq!(&rt; raised, greatest);
-        tried = tried.wrapping_add(1);
-        if 0 < reached {
-            carried = carried.wrapping_add(1);
-        }
-        if reached < greatest {
-            short = short.wrapping_add(1);
-        }
-    }
-    assert!(&rt; tried > 3000);
-    assert!(&rt; carried > 1000);
-    assert!(&rt; short > 100);
+    let tally = run_on_random_networks::<Both>(&rt, rt.alloc(), 1974, 15, 50);
+    assert!(&rt; tally.tried > 3000);
+    assert!(&rt; tally.carried > 1000);
+    assert!(&rt; tally.between > 100);
 }
 
 /// How many steps for each arc waves may take in the larger networks, in both directions and to settle: an eighth of

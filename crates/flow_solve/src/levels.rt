@@ -15,12 +15,13 @@
 //!    node of its tree whose parents lead to a root, unless that moves it much farther from its own. Or else it comes
 //!    free, with its children as orphans in turn, and the tree may come back to it by a shorter way. So no search
 //!    begins anew. When no node is active any more, one pass over the arcs shows that the flow is greatest: nothing
-//!    remains on a half-arc that leads into the tree of the sinks. The trees end by themselves where they bring little
-//!    for what they take: they may take little at first, and more for each half-arc of a path that flow is pushed
-//!    along, since repairs cost the more the longer paths are. That serves where the first paths are short and most of
-//!    a tree outlives a push: images, assignments, closures. Without them evacuations take 9 times as long, images 3 to
-//!    4, stereo and clouds 2, volumes, matchings, transports and open pits 1.5 to 1.6, surfaces and densest subgraphs
-//!    1.3. They cost a quarter of what communities take, a tenth of netlists, and a third of chains.
+//!    remains on a half-arc that leads into the tree of the sinks. Where that tree is small, as in evacuations, the
+//!    last search of the phases shows it in less. The trees end by themselves where they bring little for what they
+//!    take: they may take little at first, and more for each half-arc of a path that flow is pushed along, since
+//!    repairs cost the more the longer paths are. That serves where the first paths are short and most of a tree
+//!    outlives a push: images, assignments, closures. Without them evacuations take 9 times as long, images 3 to 4,
+//!    stereo and clouds 2, volumes, matchings, transports and open pits 1.5 to 1.6, surfaces and densest subgraphs 1.3.
+//!    They cost a quarter of what communities take, a tenth of netlists, and a third of chains.
 //! 3. **Waves that lift** (`waves`, `settling`), where the trees had to end before their active nodes ran out. All
 //!    that can leave the sources does, and each node sends what it has received, its *excess*, on to nodes that a
 //!    search has found a level nearer to the sinks, the farthest level first (after Karzanov 1974). A node that is
@@ -154,9 +155,10 @@ impl Raise for Levels {
         if grown.is_finished {
             return grown.value;
         }
+        // Where the trees have ended no path is left for the waves.
         let begun = Sent {
             value: grown.value,
-            left: waves,
+            left: if grown.has_ended { 0 } else { waves },
         };
         let value = send_waves(task, flow, cells, begun);
         run_phases(task, flow, cells, value)

@@ -15,7 +15,9 @@ ghost use Rattle.flow_solve.specs.levels.Trees.{supplied_by, AreGrowing, HasTree
 ghost use Rattle.flow_solve.specs.Steps.{PaysLooks, PaysSteps, TakesSteps};
 
 use crate::levels::spending::spend;
-use crate::levels::trees::forest::{LEAST_CHILD, Trees, abandon_first, label_cell, parent_cell};
+use crate::levels::trees::forest::{
+    LEAST_CHILD, Trees, abandon_first, above_cell, is_within, label_cell, parent_cell,
+};
 use crate::residual::cells::get;
 use crate::residual::half_arcs::Direction::{self, Backwards, Forwards};
 use crate::residual::half_arcs::{cross, head, tail};
@@ -67,12 +69,13 @@ fn measure(
     let mut len = 0;
     while len < limit && cells[label_cell(node)] >= LEAST_CHILD {
         let half = cells[parent_cell(node)];
-        if half as usize >= packed.halves.len() {
+        let above = cells[above_cell(node)];
+        if half as usize >= packed.halves.len() || !is_within(cells, above) {
             break;
         }
         let (_, remains) = flow.look(packed.net, supply_half(direction, half));
         room = room.min(remains);
-        node = head(packed.net, half);
+        node = above;
         len += 1;
     }
     trees.left -= COST * u64::from(len);

@@ -10,21 +10,13 @@ use crate::levels::spending::spend;
 use crate::levels::trees::chains::supply_half;
 use crate::levels::trees::forest::{
     LEAST_CHILD, NO_PARENT, Trees, abandon_last, above_cell, activate, direction_of, is_tired,
-    label_cell, next_active_cell, next_orphan, parent_cell, stamp_cell,
+    is_within, label_cell, next_active_cell, next_orphan, parent_cell, stamp_cell,
 };
 use crate::residual::cells::{END, get};
 use crate::residual::half_arcs::{head, twin};
 use crate::residual::packing::Packed;
 use crate::residual::searching::FAR;
 use flow_net::FlowTable;
-
-/// Whether there are cells for a node.
-#[inline(always)]
-fn is_within(cells: &[u32], node: u32) -> bool
-    ensures { IsTrue result → (1 ≤ node) × (4 * node ≤ length cells.now) }
-{
-    1 <= node && 4 * node as usize <= cells.len()
-}
 
 /// Walks over the parents of a node to a root, or to a node that is known at this time to lead to one. Answers one more
 /// than the node's distance from the root, or `FAR` where the walk ends at an orphan or no more may be done.

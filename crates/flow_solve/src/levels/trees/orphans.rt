@@ -65,9 +65,15 @@ fn mark_walk(cells: &mut [u32], node: u32, distance: u32, time: u32)
     }
 }
 
+/// Whether a half-arc leads from a node to its child, by the label of the node that it leads to and the half-arc from
+/// there to its parent.
+fn is_child(label: u32, onward: u32, half: u32) -> bool {
+    label >= LEAST_CHILD && onward == twin(half)
+}
+
 /// One more than the distance from the root of a node that may adopt an orphan, if by its label that is nearer than any
-/// so far and something remains on the half-arc between them, or else `FAR`. The half-arc is given that leads to the
-/// node.
+/// so far, it is no child of the orphan, and something remains on the half-arc between, or else `FAR`. The half-arc is
+/// given that leads to the node.
 fn offer(
     packed: Packed<'_>,
     flow: &mut FlowTable,
@@ -84,10 +90,11 @@ fn offer(
 {
     let node = head(packed.net, half);
     let label = cells[label_cell(node)];
-    if label <= 1 || label % 2 != own % 2 || cells[parent_cell(node)] == NO_PARENT {
+    if label <= 1 || label % 2 != own % 2 || label / 2 >= nearest {
         return FAR;
     }
-    if label / 2 >= nearest {
+    let onward = cells[parent_cell(node)];
+    if onward == NO_PARENT || is_child(label, onward, half) {
         return FAR;
     }
     let (_, room) = flow.look(packed.net, supply_half(direction_of(own), half));
@@ -166,7 +173,7 @@ fn part(
     if label <= 1 || label % 2 != own % 2 {
         return;
     }
-    if label >= LEAST_CHILD && get(cells, parent_cell(node)) == twin(half) {
+    if is_child(label, get(cells, parent_cell(node)), half) {
         abandon_last(trees, cells, node);
     }
     if get(cells, next_active_cell(trees, node)) == 0 {

@@ -6,7 +6,7 @@
 //! In the first `4·n` of the `5·n` cells of a stage, with `n` nodes, each node's four stand side by side: its *label*,
 //! the half-arc to its parent, its *stamp*, which is counted in augmentations, and its parent, so that a walk reads no
 //! arc. Behind them stands for each node the next active one.
-ghost use Rattle.std.specs.Prelude.{◌≡◌, ◌+◌, ◌-◌, ◌*◌, ◌≤◌, IsTrue, IsFalse, length, slice_index};
+ghost use Rattle.std.specs.Prelude.{◌≡◌, ◌+◌, ◌-◌, ◌*◌, ◌≤◌, IsTrue, IsFalse, slice_index};
 
 use crate::residual::cells::{END, get, put};
 use crate::residual::half_arcs::Direction;
@@ -93,14 +93,6 @@ pub(crate) fn above_cell(node: u32) -> usize
     ensures { result ≡ 4 * node - 1 }
 {
     4 * node as usize - 1
-}
-
-/// Whether there are cells for a node.
-#[inline(always)]
-pub(crate) fn is_within(cells: &[u32], node: u32) -> bool
-    ensures { IsTrue result → (1 ≤ node) × (4 * node ≤ length cells.now) }
-{
-    1 <= node && 4 * node as usize <= cells.len()
 }
 
 /// Where the active node after an active node stands: `END` behind the last. A node that isn't active has 0 there.

@@ -10,13 +10,21 @@ use crate::levels::spending::spend;
 use crate::levels::trees::chains::supply_half;
 use crate::levels::trees::forest::{
     LEAST_CHILD, NO_PARENT, Trees, abandon_last, above_cell, activate, direction_of, is_tired,
-    is_within, label_cell, next_active_cell, next_orphan, parent_cell, stamp_cell,
+    label_cell, next_active_cell, next_orphan, parent_cell, stamp_cell,
 };
 use crate::residual::cells::{END, get};
 use crate::residual::half_arcs::{head, twin};
 use crate::residual::packing::Packed;
 use crate::residual::searching::FAR;
 use flow_net::FlowTable;
+
+/// Whether there are cells for a node.
+#[inline(always)]
+fn is_within(cells: &[u32], node: u32) -> bool
+    ensures { IsTrue result → (1 ≤ node) × (4 * node ≤ length cells.now) }
+{
+    1 <= node && 4 * node as usize <= cells.len()
+}
 
 /// Walks over the parents of a node to a root, or to a node that is known at this time to lead to one. Answers one more
 /// than the node's distance from the root, or `FAR` where the walk ends at an orphan or no more may be done.
@@ -163,17 +171,17 @@ fn part(
     own: u32,
     half: u32,
 )
-    requires fits { Fits packed.net.now flow.old.flows }
+    requires forest { HasTreeCells packed flow.old cells.old }
     requires half { half < 2 * length packed.net.now.arcs }
     ensures looks { OnlyLooks flow.old flow.new 1 }
     ensures left { trees.new.left ≡ trees.old.left }
 {
     let node = head(packed.net, half);
-    let label = get(cells, label_cell(node));
+    let label = cells[label_cell(node)];
     if label <= 1 || label % 2 != own % 2 {
         return;
     }
-    if is_child(label, get(cells, parent_cell(node)), half) {
+    if is_child(label, cells[parent_cell(node)], half) {
         abandon_last(trees, cells, node);
     }
     if get(cells, next_active_cell(trees, node)) == 0 {
@@ -203,6 +211,8 @@ fn free(packed: Packed<'_>, flow: &mut FlowTable, trees: &mut Trees, cells: &mut
 }
 
 /// Adopts all orphans, or sets them free. Answers whether that was done before the trees had to end.
+// Out of line, so that what pushes along a path keeps its numbers in registers.
+#[inline(never)]
 pub(crate) fn adopt(
     packed: Packed<'_>,
     flow: &mut FlowTable,

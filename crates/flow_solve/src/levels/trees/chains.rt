@@ -15,7 +15,9 @@ ghost use Rattle.flow_solve.specs.levels.Trees.{supplied_by, AreGrowing, HasTree
 ghost use Rattle.flow_solve.specs.Steps.{PaysLooks, PaysSteps, TakesSteps};
 
 use crate::levels::spending::spend;
-use crate::levels::trees::forest::{LEAST_CHILD, Trees, abandon_first, label_cell, parent_cell};
+use crate::levels::trees::forest::{
+    LEAST_CHILD, Trees, abandon_first, above_cell, label_cell, parent_cell,
+};
 use crate::residual::cells::get;
 use crate::residual::half_arcs::Direction::{self, Backwards, Forwards};
 use crate::residual::half_arcs::{cross, head, tail};
@@ -61,18 +63,20 @@ fn measure(
     requires node { IsNode packed.net.now node }
     ensures paid { PaysLooks flow.old trees.old.left flow.new (trees.new.left + 2 * result.len) }
 {
-    let limit = u64::from(packed.net.nodes()).min(trees.left / COST) as u32;
+    let nodes = packed.net.nodes();
+    let limit = u64::from(nodes).min(trees.left / COST) as u32;
     let mut node = node;
     let mut room = u64::MAX;
     let mut len = 0;
     while len < limit && cells[label_cell(node)] >= LEAST_CHILD {
         let half = cells[parent_cell(node)];
-        if half as usize >= packed.halves.len() {
+        let above = cells[above_cell(node)];
+        if half as usize >= packed.halves.len() || above < 1 || nodes < above {
             break;
         }
         let (_, remains) = flow.look(packed.net, supply_half(direction, half));
         room = room.min(remains);
-        node = head(packed.net, half);
+        node = above;
         len += 1;
     }
     trees.left -= COST * u64::from(len);

@@ -73,9 +73,15 @@ fn mark_walk(cells: &mut [u32], node: u32, distance: u32, time: u32)
     }
 }
 
+/// Whether a half-arc leads from a node to its child, by the label of the node that it leads to and the half-arc from
+/// there to its parent.
+fn is_child(label: u32, onward: u32, half: u32) -> bool {
+    label >= LEAST_CHILD && onward == twin(half)
+}
+
 /// One more than the distance from the root of a node that may adopt an orphan, if by its label that is nearer than any
-/// so far and something remains on the half-arc between them, or else `FAR`. The half-arc is given that leads to the
-/// node.
+/// so far, it is no child of the orphan, and something remains on the half-arc between, or else `FAR`. The half-arc is
+/// given that leads to the node.
 fn offer(
     packed: Packed<'_>,
     flow: &mut FlowTable,
@@ -92,10 +98,11 @@ fn offer(
 {
     let node = head(packed.net, half);
     let label = cells[label_cell(node)];
-    if label <= 1 || label % 2 != own % 2 || cells[parent_cell(node)] == NO_PARENT {
+    if label <= 1 || label % 2 != own % 2 || label / 2 >= nearest {
         return FAR;
     }
-    if label / 2 >= nearest {
+    let onward = cells[parent_cell(node)];
+    if onward == NO_PARENT || is_child(label, onward, half) {
         return FAR;
     }
     let (_, room) = flow.look(packed.net, supply_half(direction_of(own), half));
@@ -164,17 +171,17 @@ fn part(
     own: u32,
     half: u32,
 )
-    requires fits { Fits packed.net.now flow.old.flows }
+    requires forest { HasTreeCells packed flow.old cells.old }
     requires half { half < 2 * length packed.net.now.arcs }
     ensures looks { OnlyLooks flow.old flow.new 1 }
     ensures left { trees.new.left ≡ trees.old.left }
 {
     let node = head(packed.net, half);
-    let label = get(cells, label_cell(node));
+    let label = cells[label_cell(node)];
     if label <= 1 || label % 2 != own % 2 {
         return;
     }
-    if label >= LEAST_CHILD && get(cells, parent_cell(node)) == twin(half) {
+    if is_child(label, cells[parent_cell(node)], half) {
         abandon_last(trees, cells, node);
     }
     if get(cells, next_active_cell(trees, node)) == 0 {
@@ -204,6 +211,8 @@ fn free(packed: Packed<'_>, flow: &mut FlowTable, trees: &mut Trees, cells: &mut
 }
 
 /// Adopts all orphans, or sets them free. Answers whether that was done before the trees had to end.
+// Out of line, so that what pushes along a path keeps its numbers in registers.
+#[inline(never)]
 pub(crate) fn adopt(
     packed: Packed<'_>,
     flow: &mut FlowTable,

@@ -34,6 +34,12 @@ struct Search {
     at: u32,
     /// How many nodes it has seen: the end of its queue.
     tail: u32,
+    /// The entry of that node's row at which it has found a path.
+    entry: u32,
+    /// Where in the queue those nodes end that it has seen from the first one.
+    near: u32,
+    /// Whether a unit has been sent along a path that it has found.
+    is_worn: bool,
     /// The last half-arc of the path that it has found.
     found: Option<u32>,
     /// How many looks and pushes are left.
@@ -139,7 +145,8 @@ fn search_entry(
     search_over(ground, state, hints, flow, next, half)
 }
 
-/// Looks at the half-arcs of the next node that the search has seen, until it has found a path.
+/// Looks at the half-arcs of the next node that the search has seen, until it has found a path; of the first node from
+/// where it has found one before.
 fn search_from(
     ground: Ground<'_>,
     rows: &[u32],
@@ -164,24 +171,91 @@ fn search_from(
         return next;
     }
     let at = record(node) + FIRST;
-    for entry in get(hints, at)..get(hints, at + RECORD) {
+    let from = if search.at == 0 { search.entry } else { 0 };
+    if search.at == 1 {
+        next.near = search.tail;
+    }
+    for entry in get(hints, at).max(from)..get(hints, at + RECORD) {
         if next.found.is_some() {
             return next;
         }
+        next.entry = entry;
         next = search_entry(ground, rows, state, hints, flow, next, entry);
     }
     next
 }
 
-/// Searches from a node until it comes to one that the forest has come to.
+/// A search from a node, which it has seen alone.
+fn begin_search(
+    ground: Ground<'_>,
+    state: &mut [u32],
+    hints: &mut [u32],
+    node: u32,
+    left: u64,
+) -> Search
+    requires size { length state.old ≡ ground.net.now.nodes }
+    requires node { IsNode ground.net.now node }
+    requires apart { IsFalse (done_in state.old node) }
+    ensures done { KeepsDone state.old state.new }
+    ensures left { result.left ≡ left }
+{
+    state[node as usize - 1] = SEEN;
+    put(hints, queue_at(ground.net.nodes(), 0), node);
+    Search {
+        at: 0,
+        tail: 1,
+        entry: 0,
+        near: 0,
+        is_worn: false,
+        found: None,
+        left,
+    }
+}
+
+/// Whether a search goes on from the next node that it has seen. Once a unit has been sent, only from the first node
+/// and those seen from it: of these each may find one more path, and what lies behind is reached over used half-arcs.
+fn goes_on(search: Search, nodes: u32) -> bool
+    ensures { IsTrue result → search.at < nodes }
+{
+    if search.at >= nodes || search.at >= search.tail || search.found.is_some() {
+        return false;
+    }
+    !search.is_worn || search.at < 2 || search.at < search.near
+}
+
+/// Goes on with a search until it comes to a node that the forest has come to.
 fn search_out(
     ground: Ground<'_>,
     rows: &[u32],
     state: &mut [u32],
     hints: &mut [u32],
     flow: &mut FlowTable,
+    search: Search,
+) -> Search
+    requires fits { Fits ground.net.now flow.old.flows }
+    requires limits { IsNet ground.net.now }
+    requires size { length state.old ≡ ground.net.now.nodes }
+    ensures done { KeepsDone state.old state.new }
+    ensures looks { PaysLooks flow.old search.left flow.new result.left }
+{
+    let nodes = ground.net.nodes();
+    let mut next = search;
+    'queue: while goes_on(next, nodes) {
+        next = search_from(ground, rows, state, hints, flow, next);
+    }
+    next
+}
+
+/// Goes on with a search from a node, and begins anew where it finds no more path after those along which units have
+/// been sent. Where that finds none, the nodes seen are all that can be reached.
+fn search_on(
+    ground: Ground<'_>,
+    rows: &[u32],
+    state: &mut [u32],
+    hints: &mut [u32],
+    flow: &mut FlowTable,
     node: u32,
-    left: u64,
+    search: Search,
 ) -> Search
     requires fits { Fits ground.net.now flow.old.flows }
     requires limits { IsNet ground.net.now }
@@ -189,21 +263,29 @@ fn search_out(
     requires node { IsNode ground.net.now node }
     requires apart { IsFalse (done_in state.old node) }
     ensures done { KeepsDone state.old state.new }
-    ensures looks { PaysLooks flow.old left flow.new result.left }
+    ensures looks { PaysLooks flow.old search.left flow.new result.left }
 {
-    let nodes = ground.net.nodes();
-    state[node as usize - 1] = SEEN;
-    put(hints, queue_at(nodes, 0), node);
-    let mut search = Search {
-        at: 0,
-        tail: 1,
+    let next = search_out(ground, rows, state, hints, flow, search);
+    if next.found.is_some() || !search.is_worn {
+        return next;
+    }
+    forget(ground.net.nodes(), state, hints, next.tail);
+    let anew = begin_search(ground, state, hints, node, next.left);
+    search_out(ground, rows, state, hints, flow, anew)
+}
+
+/// The search once a unit has been sent along the path that it has found: it goes on with the next node, or with the
+/// first one from where it was.
+fn worn(search: Search, left: u64) -> Search
+    ensures { result.left ≡ left }
+{
+    Search {
+        at: if search.at == 1 { 0 } else { search.at },
+        is_worn: true,
         found: None,
         left,
-    };
-    while search.at < search.tail && search.at < nodes && search.found.is_none() {
-        search = search_from(ground, rows, state, hints, flow, search);
+        ..search
     }
-    search
 }
 
 /// Makes the node at a place unseen, if a search has seen it.
@@ -358,23 +440,25 @@ pub(crate) fn raise(
     if node == 0 || node > nodes || state[node as usize - 1] == DONE {
         return None;
     }
-    let mut sent = Budgeted {
-        value: 0,
-        left: wanted.left,
-    };
-    while sent.value < wanted.value {
-        let search = search_out(ground, rows, state, hints, flow, node, sent.left);
+    let mut search = begin_search(ground, state, hints, node, wanted.left);
+    let mut value = 0;
+    while value < wanted.value {
+        search = search_on(ground, rows, state, hints, flow, node, search);
         let Some(last) = search.found else {
             if state[node as usize - 1] != SEEN {
                 return None;
             }
-            sent.left = is_closed(ground, state, flow, search.left)?;
+            let left = is_closed(ground, state, flow, search.left)?;
             forget(nodes, state, hints, search.tail);
-            return Some(sent);
+            return Some(Budgeted { value, left });
         };
-        sent.left = send(ground, state, hints, flow, node, last, search.left)?;
-        sent.value += 1;
-        forget(nodes, state, hints, search.tail);
+        let left = send(ground, state, hints, flow, node, last, search.left)?;
+        search = worn(search, left);
+        value += 1;
     }
-    Some(sent)
+    forget(nodes, state, hints, search.tail);
+    Some(Budgeted {
+        value,
+        left: search.left,
+    })
 }

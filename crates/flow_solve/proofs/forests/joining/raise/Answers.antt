@@ -1,5 +1,5 @@
 -- `raise`: searches and pushes in turn, until the flow is worth what is wanted, or the nodes seen are a closed set.
-use Rattle.std.proofs.Common.{◌≡◌, ◌≤◌, ◌∙◌, ℕ, List, refl, ap, subst, true, arith}
+use Rattle.std.proofs.Common.{◌≡◌, ◌≤◌, ◌∙◌, ℕ, List, ap, subst, true, arith}
 use Rattle.std.proofs.lemmas.Bool.{eqb-true}
 use Rattle.flow_net.specs.NodeSets.{just}
 use Rattle.flow_net.specs.Cuts.{IsCut}
@@ -11,10 +11,10 @@ use Rattle.flow_solve.proofs.ForestLemmas.Joined.{raised_none, raised_parted, pa
 use Rattle.flow_solve.proofs.ForestLemmas.Taken.{mark_is, mark_not, seen_apart}
 use Rattle.flow_solve.proofs.forests.joining.raise.Goals as goal
 
-pub loop-sent-init : goal.loop-sent-init
-loop-sent-init c = record {
+pub loop-value-init : goal.loop-value-init
+loop-value-init c = record {
   fits = c.requires.fits;
-  done = λ v. refl;
+  done = c.begin_search-search.ensures.done;
   raised = raised_none c.args.ground.direction c.args.ground.net.now c.args.node (done_in c.args.state.now)
       c.args.flow.now.flows (omega arith, omega arith)
       (mark_not DONE c.args.state.now c.args.node c.if-state-node-eq-DONE.false) c.requires.balanced;
@@ -27,22 +27,22 @@ pub returns-in_default-clause-reached : goal.returns-in_default-clause-reached
 returns-in_default-clause-reached c =
     let net = c.args.ground.net.now in
     let dir = c.args.ground.direction in
-    let state = c.search_out-search.new.state in
-    let j = c.loop-sent.invariant in
+    let state = c.search_on-search.new.state in
+    let j = c.loop-value.invariant in
     let n : (1 ≤ c.args.node) × (c.args.node ≤ net.nodes) = (omega arith, omega arith) in
     let done = done_in c.args.state.now in
     let X = seen_in state in
-    let closed : IsClosedFor dir net c.loop-sent.flow.flows X =
-    subst (λ (z : List ℕ). IsClosedFor dir net z X) c.search_out-search.ensures.looks.flows
-    c.in_ok-sent.ensures.closed in
+    let closed : IsClosedFor dir net c.loop-value.flow.flows X =
+    subst (λ (z : List ℕ). IsClosedFor dir net z X) c.search_on-search.ensures.looks.flows
+    c.in_ok-left.ensures.closed in
     let here : X c.args.node ≡ true = mark_is SEEN state c.args.node n.0 c.if-state-node-ne-SEEN.false in
     let cut : IsCut (just c.args.node) done X =
     record {
       sources = λ v h. ap X (eqb-true v c.args.node h) ∙ here;
-      sinks = λ v d. seen_apart state v (c.search_out-search.ensures.done v ∙ j.done v ∙ d);
+      sinks = λ v d. seen_apart state v (c.search_on-search.ensures.done v ∙ j.done v ∙ d);
     } in
-    parted_reached dir net c.args.node c.args.ground.root c.loop-sent.sent.value done X n c.requires.root
+    parted_reached dir net c.args.node c.args.ground.root c.loop-value.value done X n c.requires.root
     c.requires.done
     cut
-    (raised_parted dir net c.args.node done c.loop-sent.flow.flows c.loop-sent.sent.value X c.requires.limits
+    (raised_parted dir net c.args.node done c.loop-value.flow.flows c.loop-value.value X c.requires.limits
     c.requires.unit j.raised cut closed)

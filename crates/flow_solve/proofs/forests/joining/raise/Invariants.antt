@@ -6,14 +6,14 @@ use Rattle.flow_solve.specs.Forests.{IsRaised, KeepsDone, done_in}
 use Rattle.flow_solve.specs.Steps.{PaysSteps}
 use Rattle.flow_solve.proofs.forests.joining.raise.Given as goal
 
-abbrev pub invariant-loop-sent : goal.invariant-loop-sent
-invariant-loop-sent l = record {
+abbrev pub invariant-loop-value : goal.invariant-loop-value
+invariant-loop-value l = record {
   fits : Fits l.ground.net.now l.flow.flows;
   done : KeepsDone l.fn.state l.state;
-  raised : IsRaised l.ground.direction l.ground.net.now l.node (done_in l.fn.state) l.flow.flows l.sent.value;
-  below : l.sent.value ≤ l.wanted.value;
-  paid : PaysSteps l.fn.flow l.wanted.left l.flow l.sent.left;
+  raised : IsRaised l.ground.direction l.ground.net.now l.node (done_in l.fn.state) l.flow.flows l.value;
+  below : l.value ≤ l.wanted.value;
+  paid : PaysSteps l.fn.flow l.wanted.left l.flow l.search.left;
 }
 
-abbrev pub decreases-loop-sent : goal.decreases-loop-sent
-decreases-loop-sent l = l.wanted.value - l.sent.value
+abbrev pub decreases-loop-value : goal.decreases-loop-value
+decreases-loop-value l = l.wanted.value - l.value

@@ -5,12 +5,12 @@ use Rattle.flow_solve.specs.Forests.{KeepsDone}
 use Rattle.flow_solve.specs.Steps.{PaysLooks}
 use Rattle.flow_solve.proofs.forests.joining.search_out.Given as goal
 
-abbrev pub invariant-loop-search : goal.invariant-loop-search
-invariant-loop-search l = record {
+abbrev pub invariant-queue : goal.invariant-queue
+invariant-queue l = record {
   fits : Fits l.ground.net.now l.flow.flows;
   done : KeepsDone l.fn.state l.state;
-  looks : PaysLooks l.fn.flow l.fn.left l.flow l.search.left;
+  looks : PaysLooks l.fn.flow l.fn.search.left l.flow l.next.left;
 }
 
-abbrev pub decreases-loop-search : goal.decreases-loop-search
-decreases-loop-search l = l.nodes - l.search.at
+abbrev pub decreases-queue : goal.decreases-queue
+decreases-queue l = l.nodes - l.next.at

@@ -1,6 +1,7 @@
 -- `scan`: what is passed is paid before, and no cell moves.
 use Rattle.std.proofs.Common.{◌≡◌, ◌+◌, ◌-◌, ◌∙◌, refl, arith}
-use Rattle.flow_solve.proofs.levels.waves.levelling.scan.Goals.{then-level-eq-UNSEEN+then-look-gt0, else-level-eq-UNSEEN}
+use Rattle.flow_solve.proofs.levels.waves.levelling.scan.Goals.{then-level-eq-UNSEEN+then-look-gt0}
+use Rattle.flow_solve.proofs.levels.waves.levelling.scan.Goals.{else-level-eq-UNSEEN}
 use Rattle.flow_solve.proofs.levels.waves.levelling.scan.Goals.{
   else-level-eq-UNSEEN-via-then-level-eq-UNSEEN+else-look-gt0,
   else-level-eq-UNSEEN-via-else-level-eq-UNSEEN,

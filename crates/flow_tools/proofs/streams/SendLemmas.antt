@@ -1,11 +1,13 @@
 -- What goes on holding of a text that is sent in parts.
 use Rattle.std.proofs.Common.{Result, Ok, Err, OnOk, OnErr, ◌-◌, arith, ◌≡◌, ℕ, List, [], ◌++◌, length, take, drop}
 use Rattle.std.proofs.Common.{refl, sym, ap, ◌∙◌, append_assoc, take-append-drop, Option, Bool}
+use Rattle.std.specs.Result.{IsErr}
+use Rattle.std.proofs.lemmas.Bool.{false≢true}
 use Rattle.std.specs.Io.KnownBytes.{Appends}
 use Rattle.std.proofs.KnownBytes.{Appends-nil, Appends-trans}
 use Rattle.std.proofs.lemmas.Slice.{between_to_end}
-use Rattle.flow_tools.specs.streams.Streams.{Flags}
-use Rattle.flow_tools.specs.streams.Sending.{IsPut, Sends, Stops}
+use Rattle.flow_tools.specs.streams.Streams.{Stream, Flags}
+use Rattle.flow_tools.specs.streams.Sending.{IsPut, IsGathered, Sends, Stops}
 use Rattle.flow_tools.proofs.streams.StreamParts.{stream}
 
 -- nothing was taken, and all of the text waits
@@ -127,3 +129,22 @@ sends_with a b waiting text line s = record {
 -- a stream fails at some of what waited, and so of what waits with a line more
 pub stops_with : (a b : Option (List ℕ)) (text line : List ℕ) → Stops a b text → Stops a b (text ++ line)
 stops_with a b text line s = stops_early a b text line (text ++ line) s refl
+
+-- a line is gathered behind what waits
+pub gathered_with : {E : Type 0} (waiting text line : List ℕ) (out : Stream) (x y : Unit {0})
+    → IsGathered {E = E} waiting text out (Ok x) → IsGathered {E = E} (waiting ++ line) (text ++ line) out (Ok y)
+gathered_with waiting text line out x y g = record {
+  ok = sends_with out.before.bytes out.after.bytes waiting text line g.ok;
+  err = tt;
+  flag = g.flag;
+}
+
+-- where a put failed, none is
+pub gathered_stops : {E : Type 0} (waiting more text line : List ℕ) (out : Stream) (e : E) (r : Result (Unit {0}) E)
+    → IsErr r → IsGathered {T = Unit {0}} waiting text out (Err e) → IsGathered more (text ++ line) out r
+gathered_stops waiting more text line out e (Ok x) f g = absurd (false≢true f)
+gathered_stops waiting more text line out e (Err x) f g = record {
+  ok = tt;
+  err = stops_with out.before.bytes out.after.bytes text line g.err;
+  flag = g.flag;
+}

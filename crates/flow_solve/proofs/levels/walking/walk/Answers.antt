@@ -1,6 +1,7 @@
 -- `walk`: a turn augments, goes on, or goes back. What is left of the phase's half-arcs, counted with the path, gets
 -- less each turn, and pays for its steps.
-use Rattle.std.proofs.Common.{ℕ, List, ◌+◌, ◌-◌, ◌≤◌, ◌<◌, set, refl, ◌∙◌, sym, ap, subst, arith, rules}
+use Rattle.std.proofs.Common.{ℕ, List, ◌+◌, ◌-◌, ◌≤◌, ◌<◌, set, length-set, refl, ◌∙◌, sym, ap, subst}
+use Rattle.std.proofs.Common.{arith}
 use Rattle.std.specs.Prelude.{slice_index}
 use Rattle.std.proofs.lemmas.List.{get_or-take, length-take-le}
 use Rattle.flow_net.specs.NodeSets.{one_of}
@@ -11,13 +12,24 @@ use Rattle.flow_solve.proofs.LevelLemmas.Places.{cell_at}
 use Rattle.flow_solve.proofs.Raises.{value_most, capacities_fit}
 use Rattle.flow_solve.proofs.LevelLemmas.Walks.{moved_up, on_up, set_next}
 use Rattle.flow_solve.proofs.LevelLemmas.Turning.{turning_as, turning_augment, turning_gentle, turning_advance}
-use Rattle.flow_solve.proofs.LevelLemmas.Turning.{turning_retreat}
+use Rattle.flow_solve.proofs.LevelLemmas.Turning.{turning_start, turning_retreat}
 use Rattle.flow_solve.proofs.LevelLemmas.Turning.{turning_end, turning_apart, some_path, half_on, looked_phase}
 use Rattle.flow_solve.proofs.LevelLemmas.Turning.{dead_here}
 use Rattle.flow_solve.proofs.LevelLemmas.Turning.{at_source, sink_here, no_sink_here, stepped, to_go, to_go_fill}
 use Rattle.flow_solve.proofs.LevelLemmas.Turning.{to_go_longer}
 use Rattle.flow_solve.proofs.LevelLemmas.Turning.{to_go_pass}
 use Rattle.flow_solve.proofs.levels.walking.walk.Goals as goal
+
+pub turns-init : goal.turns-init
+turns-init c = record {
+  turning =
+      turning_start c.args.walks.now.path.now c.args.source c.args.flow.now.steps _ c.requires.walks.phase
+      c.requires.walks.path_size c.requires.node refl;
+  same = record { current = refl; current_size = refl; path = refl; path_size = refl };
+  gentle = λ level o g. g;
+  risen = λ v. omega arith;
+  never_lowered = omega arith;
+}
 
 pub augment-done-requires-clause-some : goal.augment-done-requires-clause-some
 augment-done-requires-clause-some c =
@@ -74,7 +86,12 @@ turns-preserved-then-phase-node-eq0 c =
           subst (λ (ys : List ℕ). IsGentle net ys level) (sym c.augment-done.ensures.flows)
           (turning_gentle old.turning c.augment-done.result.sent level c.requires.run.packed.limits o
           (old.gentle level o g));
-      same = search rules;
+      same = record {
+        current = old.same.current;
+        current_size = old.same.current_size;
+        path = old.same.path;
+        path_size = old.same.path_size;
+      };
       risen = old.risen;
       never_lowered = omega (arith, old.never_lowered, c.augment-done.ensures.steps);
     }
@@ -98,7 +115,12 @@ turns-preserved-in-Some c =
     c.requires.ranked c.admissible.ensures.looked found.some found.steps_some in
     record {
       turning = turning_as on refl found.flows c.head-node.ensures.head refl refl;
-      same = search rules;
+      same = record {
+        current = old.same.current;
+        current_size = found.looked.size ∙ sym c.requires.walks.phase.size;
+        path = old.same.path;
+        path_size = length-set c.turns.walks.path.now c.turns.depth c.in-Some.half ∙ old.same.path_size;
+      };
       gentle = λ level o g. subst (λ (ys : List ℕ). IsGentle net ys level) (sym found.flows) (old.gentle level o g);
       risen = λ v.
           omega (
@@ -198,7 +220,13 @@ turns-preserved c =
           ∙ ap (λ (z : ℕ). set c.admissible.new.current (z - 1)
           (cell_of c.admissible.new.current z + 1)) c.tail-node.ensures.tail) found.flows c.tail-node.ensures.tail refl
           refl;
-      same = search rules;
+      same = record {
+        current = old.same.current;
+        current_size =
+            length-set c.admissible.new.current (y - 1) _ ∙ found.looked.size ∙ sym c.requires.walks.phase.size;
+        path = old.same.path;
+        path_size = old.same.path_size;
+      };
       gentle = λ level o g. subst (λ (ys : List ℕ). IsGentle net ys level) (sym found.flows) (old.gentle level o g);
       risen = λ v. omega (
         arith,

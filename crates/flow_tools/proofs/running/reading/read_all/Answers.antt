@@ -1,8 +1,20 @@
 -- A piece that was pulled and fed is one more piece that was read; where the reader refuses it, the run stops with the
 -- fault that it names.
 use Rattle.std.proofs.Common.{arith}
-use Rattle.flow_tools.proofs.running.PullLemmas.{accepted, goes_on, refused, refused_at_end, piece_fits}
+use Rattle.flow_tools.proofs.running.PullLemmas.{reading_starts, goes_on, pull_fails, accepted}
+use Rattle.flow_tools.proofs.running.PullLemmas.{refused, refused_at_end, piece_fits}
 use Rattle.flow_tools.proofs.running.reading.read_all.Goals as goal
+
+pub loop-reader-init : goal.loop-reader-init
+loop-reader-init g c = λ n h. reading_starts _ _ _ h
+
+pub returns-in-Err : goal.returns-in-Err
+returns-in-Err g c = λ n h.
+    pull_fails (g.R.Reader.early n) (g.R.Reader.reads c.loop-reader.reader n) (g.met.R.Reader.quiet _ n) _ _ _ _ _ _
+    (c.loop-reader.invariant n h) _ _ _ c.in-Err.ensures.bytes c.in-Err.ensures.flag
+
+pub loop-reader-smaller : goal.loop-reader-smaller
+loop-reader-smaller g c = c.in-Ok.ensures.falls (omega (arith, c.in-Ok.count-test.1))
 
 pub loop-reader-preserved : goal.loop-reader-preserved
 loop-reader-preserved g c n h =

@@ -2,7 +2,7 @@
 use Rattle.std.proofs.Common.{◌≡◌, ◌≤◌, ℕ, Bool, true, List, [], ◌++◌, length, take, refl, ◌∙◌, inl, inr, append-nil}
 use Rattle.std.proofs.Common.{arith, lit≤, length-take, Option, None, Ok, Err}
 use Rattle.std.specs.Io.KnownBytes.{Consumes, Keeps, IsAtEnd}
-use Rattle.std.proofs.KnownBytes.{Consumes-trans, Consumes-kept}
+use Rattle.std.proofs.KnownBytes.{Consumes-nil, Consumes-trans, Consumes-kept}
 use Rattle.flow_text.specs.declared.faults.FaultCode.{FaultCode}
 use Rattle.flow_text.specs.declared.faults.ReadFault.{ReadFault}
 use Rattle.flow_text.specs.declared.faults.ReadFault.TheVariants.{Fault, OutOfMemory}
@@ -19,6 +19,10 @@ pub record IsReading (fed : List ℕ → Type 0) (before after : Option (List �
   pub delivered : Consumes before after text
   pub has_text : fed text
   pub kept : failed_after ≡ failed_before
+
+-- before the first pull
+pub reading_starts : (fed : List ℕ → Type 0) (a : Option (List ℕ)) (f : Bool) → fed [] → IsReading fed a a f f
+reading_starts fed a f h = record { text = []; delivered = Consumes-nil a; has_text = h; kept = refl }
 
 -- a piece is at most as long as the buffer
 pub piece_fits : (n : ℕ) (buf : List ℕ) → n ≤ 4096 → length (take n buf) ≤ 4096

@@ -1,5 +1,5 @@
--- `are_balanced`: the counts are the same at each node, so as many arcs leave a set as enter it. And where as many leave
--- each node as enter it, the counts are the same.
+-- `are_balanced`: the counts are the same at each node, so as many arcs leave a set as enter it. And where as many
+-- leave each node as enter it, the counts are the same.
 use Rattle.std.proofs.Common.{◌≡◌, ◌-◌, ◌+◌, ◌∙◌, length, sym, ap, drop, take, arith, get_or}
 use Rattle.std.specs.Cmp.Lexicographic.{same_text, other_text}
 use Rattle.std.proofs.lemmas.Bool.{true_from_ne_false}

@@ -37,7 +37,9 @@ mkdir "$folder/temporary" "$folder/begun"
 chmod 1777 "$folder/temporary"
 
 # Every proof from nothing, the edits that the gate tries one by one, each test, and each program as two compilers make
-# it. What its edits begin with is collected for the others.
+# it. What its edits begin with is collected for the others. Libraries from before, which it would put back, go first:
+# its own work doesn't hold over them.
+rm -rf crates/*/out/rlib
 say "the gate, $RT_JOBS checks at a time"
 python3 scripts/planted.py --gather "$folder/temporary" "$folder/begun" &
 watched=$!

@@ -13,4 +13,5 @@ pub mod WalkPaths
 pub mod Turning
 pub mod Carried
 pub mod Settled
+pub mod Waving
 pub mod Border

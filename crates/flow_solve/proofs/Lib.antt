@@ -3,3 +3,4 @@ mod SideLemmas
 mod LevelLemmas
 pub mod ForestLemmas
 pub mod Raises
+mod Payments

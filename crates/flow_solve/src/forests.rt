@@ -44,7 +44,7 @@ use degrees::{are_balanced, are_even, goes_both_ways, least_degree};
 use flow_net::{FlowTable, Network};
 use growing::{DONE, Front, begin, grow, is_whole, next_node, reach};
 use joining::{Budgeted, raise};
-use rows::fill_rows;
+use rows::{fill_rows, mix_rows};
 
 /// Where forests grow.
 #[derive(Clone, Copy)]
@@ -181,6 +181,7 @@ fn run_pass(
     let n = ground.net.nodes() as usize;
     let (state, hints) = cells.split_at_mut(n);
     fill_rows(ground, rows, state, hints);
+    mix_rows(ground, rows, state, hints);
     let mut least = least;
     let mut count = 0;
     while count < forests_for(least.value, is_even) {

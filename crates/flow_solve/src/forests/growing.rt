@@ -11,7 +11,8 @@ ghost use Rattle.flow_solve.specs.Forests.{HasGrown, IsStand, LeadsOn, done_in};
 
 use crate::forests::Ground;
 use crate::forests::rows::{
-    FIRST, NEAR, NEXT, NONE, PLACE, RECORD, TAKEN, half_in, queue_at, record, spot_of,
+    FIRST, NEAR, NEXT, NONE, PLACE, RECORD, TAKEN, exchange_entries, half_in, queue_at, record,
+    spot_of,
 };
 use crate::residual::cells::{get, put};
 use crate::residual::half_arcs::{Direction, head, tail};
@@ -55,34 +56,6 @@ fn take(ground: Ground<'_>, rows: &mut [u32], state: &mut [u32], at: usize, behi
     let half = rows[at];
     rows[at] = half + TAKEN;
     state[behind as usize - 1] = DONE;
-}
-
-/// Two cells change places, if they exist.
-fn exchange(ground: Ground<'_>, rows: &mut [u32], state: &[u32], a: usize, b: usize)
-    requires stand { IsStand ground rows.old state.now }
-    ensures { HasGrown ground.entry rows.old state.now rows.new state.now }
-{
-    if a >= rows.len() || b >= rows.len() {
-        return;
-    }
-    rows.swap(a, b);
-}
-
-/// Two entries change places.
-fn exchange_entries(ground: Ground<'_>, rows: &mut [u32], state: &[u32], one: u32, other: u32)
-    requires stand { IsStand ground rows.old state.now }
-    ensures { HasGrown ground.entry rows.old state.now rows.new state.now }
-{
-    if one == other {
-        return;
-    }
-    let a = spot_of(ground, one);
-    let b = spot_of(ground, other);
-    exchange(ground, rows, state, a, b);
-    if !ground.paired {
-        return;
-    }
-    exchange(ground, rows, state, a + 1, b + 1);
 }
 
 /// Takes the half-arc of an entry, if it isn't taken, leads on, and leads from a node to the one behind it. Answers

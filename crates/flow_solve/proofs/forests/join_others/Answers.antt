@@ -8,6 +8,7 @@ use Rattle.flow_solve.specs.declared.forests.growing.TheConstants.{DONE}
 use Rattle.flow_solve.specs.Forests.{IsForest, done_in}
 use Rattle.flow_solve.proofs.ForestLemmas.Joined.{raised_below, balanced_more}
 use Rattle.flow_solve.proofs.ForestLemmas.Taken.{forest_joined, mark_kept, mark_new}
+use Rattle.flow_solve.proofs.Payments.{paid_then}
 use Rattle.flow_solve.proofs.forests.join_others.Goals as goal
 
 pub loop-front-init : goal.loop-front-init
@@ -78,9 +79,5 @@ loop-front-preserved c =
           kept r.node room r.done
           (raised_below ground.direction net w (done_in old) c.raise.new.flow.flows c.in_ok-least.least.value
           j.stand.limits c.requires.unit r.raised) r.fewer (j.forest k f)));
-      paid = record {
-        never_lowered = omega (arith, j.paid.never_lowered, r.paid.never_lowered);
-        left = omega (arith, j.paid.left, r.paid.left);
-        steps = omega (arith, j.paid.steps, r.paid.steps);
-      };
+      paid = paid_then _ _ _ _ _ _ j.paid r.paid;
     }

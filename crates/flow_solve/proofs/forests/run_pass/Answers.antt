@@ -2,21 +2,25 @@
 use Rattle.std.proofs.Common.{◌≤◌, ◌-◌, ap, inl, inr, cond, arith}
 use Rattle.std.proofs.lemmas.Bool.{cases_Bool}
 use Rattle.flow_solve.proofs.ForestLemmas.Taken.{grove_none, grove_above, above_even}
+use Rattle.flow_solve.proofs.Payments.{paid_none, paid_then}
 use Rattle.flow_solve.proofs.forests.run_pass.Goals as goal
+
+pub mix_rows-requires : goal.mix_rows-requires
+mix_rows-requires c = record {
+  limits = c.requires.limits;
+  root = c.requires.root;
+  once = c.fill_rows.ensures;
+  size = omega (arith, c.split_at_mut-state.ensures.front_len, c.nodes-n.ensures.nodes);
+}
 
 pub loop-count-init : goal.loop-count-init
 loop-count-init c = record {
   fits = c.requires.fits;
-  stand = record {
-    limits = c.requires.limits;
-    root = c.requires.root;
-    once = c.fill_rows.ensures;
-    size = omega (arith, c.split_at_mut-state.ensures.front_len, c.nodes-n.ensures.nodes);
-  };
+  stand = c.mix_rows.ensures;
   reached = c.requires.reached;
   fewer = omega arith;
-  grove = grove_none c.args.ground c.args.least.value c.fill_rows.new.rows;
-  paid = record { never_lowered = omega arith; left = omega arith; steps = omega arith };
+  grove = grove_none c.args.ground c.args.least.value c.mix_rows.new.rows;
+  paid = paid_none c.args.flow.now c.args.least.left;
 }
 
 pub loop-count-preserved : goal.loop-count-preserved
@@ -29,11 +33,7 @@ loop-count-preserved c =
       reached = r.reached;
       fewer = omega (arith, j.fewer, r.fewer);
       grove = r.grove (omega arith) j.grove;
-      paid = record {
-        never_lowered = omega (arith, j.paid.never_lowered, r.paid.never_lowered);
-        left = omega (arith, j.paid.left, r.paid.left);
-        steps = omega (arith, j.paid.steps, r.paid.steps);
-      };
+      paid = paid_then _ _ _ _ _ _ j.paid r.paid;
     }
 
 -- the last forest wasn't needed

@@ -2,6 +2,7 @@
 use Rattle.std.proofs.Common.{◌∙◌, sym, subst, ℕ, List, arith}
 use Rattle.flow_net.specs.Flows.{Fits}
 use Rattle.flow_solve.proofs.ForestLemmas.Taken.{keeps_on}
+use Rattle.flow_solve.proofs.Payments.{looked_fits, looks_then}
 use Rattle.flow_solve.proofs.forests.joining.search_from.Goals as goal
 
 pub loop-entry-preserved : goal.loop-entry-preserved
@@ -9,13 +10,8 @@ loop-entry-preserved c =
     let j = c.loop-entry.invariant in
     let now = c.search_entry-next.ensures in
     record {
-      fits = subst (λ (z : List ℕ). Fits c.args.ground.net.now z) (sym now.looks.flows) j.fits;
+      fits = looked_fits _ _ _ _ _ now.looks j.fits;
       next = omega (arith, j.next, now.next);
       done = keeps_on _ _ _ j.done now.done;
-      looks = record {
-        flows = now.looks.flows ∙ j.looks.flows;
-        never_lowered = omega (arith, j.looks.never_lowered, now.looks.never_lowered);
-        left = omega (arith, j.looks.left, now.looks.left);
-        steps = omega (arith, j.looks.steps, now.looks.steps);
-      };
+      looks = looks_then _ _ _ _ _ _ j.looks now.looks;
     }

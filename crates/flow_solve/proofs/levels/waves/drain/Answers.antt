@@ -1,15 +1,13 @@
 -- `drain`: a look and a push are paid by what was spent before, and no cell moves.
-use Rattle.std.proofs.Common.{◌∙◌, refl, arith}
+use Rattle.std.proofs.Common.{refl, arith}
+use Rattle.flow_solve.specs.levels.Waves.{StaysIn}
+use Rattle.flow_solve.proofs.LevelLemmas.Waving.{sent_none, stays_then, waving_then}
 use Rattle.flow_solve.proofs.levels.waves.drain.Goals as goal
 
 pub loop-spot-init : goal.loop-spot-init
 loop-spot-init c = record {
   waving = c.requires.waving;
-  sent = record {
-    stays = record { cells = refl; size = refl; nodes = refl };
-    fits = c.requires.waving.fits;
-    paid = record { never_lowered = omega arith; left = omega arith; steps = omega arith };
-  };
+  sent = sent_none c.args.packed c.args.flow.now c.args.wave.now c.requires.waving.fits;
 }
 
 pub loop-spot-preserved : goal.loop-spot-preserved
@@ -17,27 +15,19 @@ loop-spot-preserved c =
     let old = c.loop-spot.invariant in
     let paid = old.sent.paid in
     let spent = c.if-not-spend.ensures.some refl in
-    let marks = c.release.ensures.marks in
-    let same = marks.stays in
-    let takes = c.release.ensures.steps in
+    let released = c.release.ensures in
+    let moved = released.marks.stays in
+    let stays : StaysIn c.loop-spot.wave c.release.new.wave =
+    record { cells = moved.cells; size = moved.size; nodes = moved.nodes } in
     record {
-      waving = record {
-        fits = c.release.ensures.fits;
-        is_packed = old.waving.is_packed;
-        nodes = same.nodes ∙ old.waving.nodes;
-        size = same.size ∙ old.waving.size;
-      };
+      waving = waving_then _ _ _ _ _ old.waving released.fits stays;
       sent = record {
-        stays = record {
-          cells = same.cells ∙ old.sent.stays.cells;
-          size = same.size ∙ old.sent.stays.size;
-          nodes = same.nodes ∙ old.sent.stays.nodes;
-        };
-        fits = c.release.ensures.fits;
+        stays = stays_then _ _ _ old.sent.stays stays;
+        fits = released.fits;
         paid = record {
-          never_lowered = omega (arith, paid.never_lowered, takes.never_lowered);
-          left = omega (arith, paid.left, marks.left, spent);
-          steps = omega (arith, paid.steps, marks.left, spent, takes.steps);
+          never_lowered = omega (arith, paid.never_lowered, released.steps.never_lowered);
+          left = omega (arith, paid.left, released.marks.left, spent);
+          steps = omega (arith, paid.steps, released.marks.left, spent, released.steps.steps);
         };
       };
     }

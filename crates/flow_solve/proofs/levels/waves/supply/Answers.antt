@@ -1,5 +1,6 @@
 -- `supply`: what one source more has sent is paid.
 use Rattle.std.proofs.Common.{◌≡◌, length, ◌∙◌, arith, rules}
+use Rattle.flow_solve.proofs.LevelLemmas.Waving.{sent_then, waving_then}
 use Rattle.flow_solve.proofs.levels.waves.supply.Goals as goal
 
 pub loop-node-init : goal.loop-node-init
@@ -27,29 +28,10 @@ loop-node-init c =
 pub loop-node-preserved : goal.loop-node-preserved
 loop-node-preserved c =
     let old = c.loop-node.invariant in
-    let paid = old.sent.paid in
     let more = c.drain.ensures.sent in
-    let same = more.stays in
     record {
-      waving = record {
-        fits = more.fits;
-        is_packed = old.waving.is_packed;
-        nodes = same.nodes ∙ old.waving.nodes;
-        size = same.size ∙ old.waving.size;
-      };
-      sent = record {
-        stays = record {
-          cells = same.cells ∙ old.sent.stays.cells;
-          size = same.size ∙ old.sent.stays.size;
-          nodes = same.nodes ∙ old.sent.stays.nodes;
-        };
-        fits = more.fits;
-        paid = record {
-          never_lowered = omega (arith, paid.never_lowered, more.paid.never_lowered);
-          left = omega (arith, paid.left, more.paid.left);
-          steps = omega (arith, paid.steps, more.paid.steps);
-        };
-      };
+      waving = waving_then _ _ _ _ _ old.waving more.fits more.stays;
+      sent = sent_then _ _ _ _ _ _ _ old.sent more;
     }
 
 pub returns : goal.returns

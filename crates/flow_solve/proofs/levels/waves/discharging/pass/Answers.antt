@@ -1,5 +1,6 @@
 -- `pass`: each look and each push is paid by what was spent on its half-arc, and no cell moves.
-use Rattle.std.proofs.Common.{◌∙◌, refl, arith}
+use Rattle.std.proofs.Common.{refl, arith}
+use Rattle.flow_solve.proofs.LevelLemmas.Waving.{stays_none, stays_then, waving_then}
 use Rattle.flow_solve.proofs.levels.waves.discharging.pass.Goals.{then-level-nearer+else-amount-eq0, else-level-nearer}
 use Rattle.flow_solve.proofs.levels.waves.discharging.pass.Goals.{then-sent-gt0, else-sent-gt0}
 use Rattle.flow_solve.proofs.levels.waves.discharging.pass.Goals.{then-loop-step-test+else-spend, else-loop-step-test}
@@ -11,7 +12,7 @@ use Rattle.flow_solve.proofs.levels.waves.discharging.pass.Goals as goal
 pub loop-step-init : goal.loop-step-init
 loop-step-init c = record {
   waving = c.requires.waving;
-  stays = record { cells = refl; size = refl; nodes = refl };
+  stays = stays_none c.args.wave.now;
   paid = record { never_lowered = omega arith; left = omega arith; steps = omega arith };
 }
 
@@ -28,17 +29,8 @@ loop-step-preserved c =
             | then-sent-gt0 v ↦
                 let push = v.push.ensures in
                 rw (w.flow-is, w.wave-is, v.flow-is) (record {
-                  waving = record {
-                    fits = push.still_fits;
-                    is_packed = old.waving.is_packed;
-                    nodes = same.nodes ∙ old.waving.nodes;
-                    size = same.size ∙ old.waving.size;
-                  };
-                  stays = record {
-                    cells = same.cells ∙ old.stays.cells;
-                    size = same.size ∙ old.stays.size;
-                    nodes = same.nodes ∙ old.stays.nodes;
-                  };
+                  waving = waving_then _ _ _ _ _ old.waving push.still_fits same;
+                  stays = stays_then _ _ _ old.stays same;
                   paid = record {
                     never_lowered = omega (arith, paid.never_lowered, look.steps, push.steps);
                     left = omega (arith, paid.left, spent);
@@ -47,17 +39,8 @@ loop-step-preserved c =
                 })
             | else-sent-gt0 v ↦
                 rw (w.flow-is, w.wave-is, v.flow-is) (record {
-                  waving = record {
-                    fits = look.still_fits;
-                    is_packed = old.waving.is_packed;
-                    nodes = same.nodes ∙ old.waving.nodes;
-                    size = same.size ∙ old.waving.size;
-                  };
-                  stays = record {
-                    cells = same.cells ∙ old.stays.cells;
-                    size = same.size ∙ old.stays.size;
-                    nodes = same.nodes ∙ old.stays.nodes;
-                  };
+                  waving = waving_then _ _ _ _ _ old.waving look.still_fits same;
+                  stays = stays_then _ _ _ old.stays same;
                   paid = record {
                     never_lowered = omega (arith, paid.never_lowered, look.steps);
                     left = omega (arith, paid.left, spent);
@@ -100,18 +83,14 @@ returns-clause-sent c =
             paid = record { never_lowered = paid.never_lowered; left = paid.left; steps = paid.steps };
           })
       | then-loop-step-test+then-spend+then-level-nearer+then-amount-eq0 w ↦
-          let same = w.accept-sent.ensures.marks.stays in
+          let stays = stays_then _ _ _ old.stays w.accept-sent.ensures.marks.stays in
           let look = w.look-node.ensures in
           let spent = w.if-spend.ensures.some refl in
           elim w.if-sent-gt0.branch [
             | then-sent-gt0 v ↦
                 let push = v.push.ensures in
                 rw (w.flow-is, w.wave-is, w.left-is, v.flow-is) (record {
-                  stays = record {
-                    cells = same.cells ∙ old.stays.cells;
-                    size = same.size ∙ old.stays.size;
-                    nodes = same.nodes ∙ old.stays.nodes;
-                  };
+                  stays = record { cells = stays.cells; size = stays.size; nodes = stays.nodes };
                   fits = push.still_fits;
                   paid = record {
                     never_lowered = omega (arith, paid.never_lowered, look.steps, push.steps);
@@ -121,11 +100,7 @@ returns-clause-sent c =
                 })
             | else-sent-gt0 v ↦
                 rw (w.flow-is, w.wave-is, w.left-is, v.flow-is) (record {
-                  stays = record {
-                    cells = same.cells ∙ old.stays.cells;
-                    size = same.size ∙ old.stays.size;
-                    nodes = same.nodes ∙ old.stays.nodes;
-                  };
+                  stays = record { cells = stays.cells; size = stays.size; nodes = stays.nodes };
                   fits = look.still_fits;
                   paid = record {
                     never_lowered = omega (arith, paid.never_lowered, look.steps);

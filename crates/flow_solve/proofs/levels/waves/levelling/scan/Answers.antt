@@ -6,6 +6,7 @@ use Rattle.flow_solve.proofs.levels.waves.levelling.scan.Goals.{
   else-level-eq-UNSEEN-via-then-level-eq-UNSEEN+else-look-gt0,
   else-level-eq-UNSEEN-via-else-level-eq-UNSEEN,
 }
+use Rattle.flow_solve.proofs.LevelLemmas.Waving.{stays_then, waving_then}
 use Rattle.flow_solve.proofs.levels.waves.levelling.scan.Goals as goal
 
 pub loop-spot-init : goal.loop-spot-init
@@ -31,20 +32,10 @@ loop-spot-preserved c =
     elim c.if-level-eq-UNSEEN.branch [
       | then-level-eq-UNSEEN+then-look-gt0 w ↦
           let marks = w.see.ensures in
-          let same = marks.stays in
           let look = w.look.ensures in
           rw (w.flow-is, w.wave-is) (record {
-            waving = record {
-              fits = look.still_fits;
-              is_packed = old.waving.is_packed;
-              nodes = same.nodes ∙ old.waving.nodes;
-              size = same.size ∙ old.waving.size;
-            };
-            stays = record {
-              cells = same.cells ∙ old.stays.cells;
-              size = same.size ∙ old.stays.size;
-              nodes = same.nodes ∙ old.stays.nodes;
-            };
+            waving = waving_then _ _ _ _ _ old.waving look.still_fits marks.stays;
+            stays = stays_then _ _ _ old.stays marks.stays;
             left = omega (arith, marks.left, old.left);
             looks = record {
               flows = look.flows ∙ looks.flows;

@@ -1,0 +1,44 @@
+-- A wave from one call to the next: its cells stay where they are, and what is sent is paid.
+use Rattle.std.proofs.Common.{ℕ, refl, ◌∙◌}
+use Rattle.flow_net.specs.Flows.{Fits}
+use Rattle.flow_net.specs.Residual.{Table}
+use Rattle.flow_solve.specs.declared.levels.waves.excess.Wave.{Wave}
+use Rattle.flow_solve.specs.declared.residual.packing.Packed.{Packed}
+use Rattle.flow_solve.specs.levels.Waves.{HasLookedOut, HasSent, IsWaving, StaysIn}
+use Rattle.flow_solve.proofs.Payments.{looked_fits, looks_then, paid_none, paid_then}
+
+pub stays_none : (u : Wave) → StaysIn u u
+stays_none u = record { cells = refl; size = refl; nodes = refl }
+
+pub stays_then : (u v w : Wave) → StaysIn u v → StaysIn v w → StaysIn u w
+stays_then u v w one more = record {
+  cells = more.cells ∙ one.cells;
+  size = more.size ∙ one.size;
+  nodes = more.nodes ∙ one.nodes;
+}
+
+pub waving_then : (packed : Packed) (a b : Table) (v w : Wave) → IsWaving packed a v → Fits packed.net.now b.flows
+    → StaysIn v w → IsWaving packed b w
+waving_then packed a b v w waving fits stays = record {
+  fits = fits;
+  is_packed = waving.is_packed;
+  nodes = stays.nodes ∙ waving.nodes;
+  size = stays.size ∙ waving.size;
+}
+
+pub looked_then : (a b c : Table) (u v w : Wave) → HasLookedOut a u b v → HasLookedOut b v c w → HasLookedOut a u c w
+looked_then a b c u v w one more = record {
+  stays = stays_then u v w one.stays more.stays;
+  paid = looks_then a b c u.left v.left w.left one.paid more.paid;
+}
+
+pub sent_none : (packed : Packed) (a : Table) (u : Wave) → Fits packed.net.now a.flows → HasSent packed a u a u
+sent_none packed a u fits = record { stays = stays_none u; fits = fits; paid = paid_none a u.left }
+
+pub sent_then : (packed : Packed) (a b c : Table) (u v w : Wave) → HasSent packed a u b v → HasSent packed b v c w
+    → HasSent packed a u c w
+sent_then packed a b c u v w one more = record {
+  stays = stays_then u v w one.stays more.stays;
+  fits = more.fits;
+  paid = paid_then a b c u.left v.left w.left one.paid more.paid;
+}

@@ -176,11 +176,11 @@ fn search_from(
         next.near = search.tail;
     }
     for entry in get(hints, at).max(from)..get(hints, at + RECORD) {
+        next = search_entry(ground, rows, state, hints, flow, next, entry);
         if next.found.is_some() {
+            next.entry = entry;
             return next;
         }
-        next.entry = entry;
-        next = search_entry(ground, rows, state, hints, flow, next, entry);
     }
     next
 }

@@ -17,6 +17,7 @@ use crate::forests::rows::{
 use crate::residual::cells::{get, put};
 use crate::residual::half_arcs::{Direction, head, tail};
 use flow_net::MOST_NODES;
+use std::ops::Range;
 
 /// In the cell of a node that the forest has come to.
 pub(crate) const DONE: u32 = 1;
@@ -111,10 +112,9 @@ fn is_left(state: &[u32], node: u32) -> bool {
     place < state.len() && state[place] != DONE
 }
 
-/// The next entry from one on, and before another, that leads on to a node which the forest hasn't come to, if there is
-/// one.
-fn next_entry(ground: Ground<'_>, rows: &[u32], state: &[u32], from: u32, to: u32) -> Option<u32> {
-    for entry in from..to {
+/// The first of some entries that leads on to a node which the forest hasn't come to, if there is one.
+fn next_entry(ground: Ground<'_>, rows: &[u32], state: &[u32], entries: Range<u32>) -> Option<u32> {
+    for entry in entries {
         if is_left(state, node_behind(ground, rows, entry)) {
             return Some(entry);
         }
@@ -140,7 +140,7 @@ fn go_on(
     let at = record(node);
     let next = get(hints, at + NEXT);
     let from = next.max(get(hints, at + PLACE));
-    let Some(entry) = next_entry(ground, rows, state, from, get(hints, at + RECORD + FIRST)) else {
+    let Some(entry) = next_entry(ground, rows, state, from..get(hints, at + RECORD + FIRST)) else {
         put(hints, at + PLACE, 0);
         return None;
     };
@@ -239,7 +239,7 @@ fn neighbour(
 ) -> Option<u32> {
     let at = record(node);
     let from = get(hints, at + FIRST).max(get(hints, at + PLACE));
-    let entry = next_entry(ground, rows, state, from, get(hints, at + RECORD + FIRST))?;
+    let entry = next_entry(ground, rows, state, from..get(hints, at + RECORD + FIRST))?;
     put(hints, at + PLACE, entry);
     Some(node_behind(ground, rows, entry))
 }

@@ -5,7 +5,7 @@ ghost use Rattle.std.specs.Prelude.{◌≡◌, slice_index};
 pub(crate) const END: u32 = u32::MAX;
 
 /// So many numbers fit a cell.
-pub(crate) const CELL: u64 = 4_294_967_296;
+pub(crate) const CELL: u64 = u32::MAX as u64 + 1;
 
 /// The number in a cell, or 0.
 pub(crate) fn get(cells: &[u32], at: usize) -> u32

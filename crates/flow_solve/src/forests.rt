@@ -56,7 +56,7 @@ pub(crate) struct Ground<'a> {
     /// Which way a search goes from a node to those that a forest has come to. Backwards, the forests grow along arcs;
     /// forwards, against them.
     pub direction: Direction,
-    /// Whether rows are made of pairs. The second half of the arcs are then those of the first turned round, as a hint.
+    /// Whether rows are made of pairs, as [`rows`] says.
     pub paired: bool,
     /// Whether the pair of an arc and that of its opposite are put down one after the other, and so stand near.
     pub beside: bool,
@@ -194,6 +194,51 @@ fn run_pass(
     Some(least)
 }
 
+/// The same as `run_pass`, tried in rows of pairs first where there are half as many arcs again as the forests take: then
+/// mostly no node has to be joined by a flow, and pairs take half of the time. Where one has to be, the forests begin
+/// anew.
+fn run_in_pairs(
+    ground: Ground<'_>,
+    rows: &mut [u32],
+    cells: &mut [u32],
+    flow: &mut FlowTable,
+    is_even: bool,
+    least: Budgeted,
+) -> Option<Budgeted>
+    requires fits { Fits ground.net.now flow.old.flows }
+    requires unit { All (λ a. a.cap ≡ 1) ground.net.now.arcs }
+    requires limits { IsNet ground.net.now }
+    requires root { IsNode ground.net.now ground.root }
+    requires cells { 2 * ground.net.now.nodes ≤ length cells.old }
+    requires even { IsTrue is_even → IsEulerian ground.net.now }
+    requires reached { IsReached ground.net.now least.value }
+    ensures fits { Fits ground.entry.net.now flow.new.flows }
+    ensures above { IfSome result (λ r. AreAbove ground.entry r.value) }
+    ensures reached { IfSome result (λ r. IsReached ground.entry.net.now r.value) }
+    ensures fewer { IfSome result (λ r. r.value ≤ least.value) }
+    ensures paid { PaysIfAny flow.old least.left flow.new result }
+{
+    let many = least.value.saturating_add(least.value.div_ceil(2));
+    if ground.paired || !has_more_arcs(ground.net, many) {
+        return run_pass(ground, rows, cells, flow, is_even, least);
+    }
+    let in_pairs = Ground {
+        paired: true,
+        ..ground
+    };
+    let first = Budgeted {
+        left: least.left / 2,
+        ..least
+    };
+    let found = run_pass(in_pairs, rows, cells, flow, is_even, first);
+    if found.is_some() {
+        return found;
+    }
+    // The cells get the degrees again.
+    let _ = least_degree(ground.net, cells);
+    run_pass(ground, rows, cells, flow, is_even, first)
+}
+
 /// A node that has the most arcs, by the numbers of those that leave each and of those that enter each.
 fn hub(net: &Network, degrees: &[u32]) -> u32
     requires size { 2 * net.now.nodes ≤ length degrees.now }
@@ -257,13 +302,13 @@ pub fn connectivity_by_forests(
         value: least,
         left: budget,
     };
-    let forth = run_pass(ground, rows, cells, flow, is_even, start)?;
+    let forth = run_in_pairs(ground, rows, cells, flow, is_even, start)?;
     if is_balanced {
         return Some(forth.value);
     }
     // The cells get the degrees again.
     let _ = least_degree(net, cells);
     ground.direction = Direction::Forwards;
-    let back = run_pass(ground, rows, cells, flow, false, forth)?;
+    let back = run_in_pairs(ground, rows, cells, flow, false, forth)?;
     Some(back.value)
 }

@@ -11,11 +11,11 @@ ghost use Rattle.flow_solve.specs.Forests.{HasGrown, IsStand, LeadsOn, done_in};
 
 use crate::forests::Ground;
 use crate::forests::rows::{
-    FIRST, NEAR, NEXT, NONE, PLACE, RECORD, TAKEN, exchange_entries, half_in, queue_at, record,
-    spot_of,
+    FIRST, NEAR, NEXT, NONE, PLACE, RECORD, TAKEN, exchange_entries, half_in, leads_on, queue_at,
+    record, spot_of,
 };
 use crate::residual::cells::{get, put};
-use crate::residual::half_arcs::{Direction, head, tail};
+use crate::residual::half_arcs::{head, tail};
 use flow_net::MOST_NODES;
 use std::ops::Range;
 
@@ -31,16 +31,6 @@ pub(crate) struct Front {
     pub near: u32,
     /// The node from which it grows next.
     pub node: u32,
-}
-
-/// Whether a half-arc leads the way in which the forests grow.
-fn leads_on(direction: Direction, half: u32) -> bool
-    ensures { IsTrue result ↔ LeadsOn direction half }
-{
-    match direction {
-        Direction::Forwards => half % 2 == 1,
-        Direction::Backwards => half % 2 == 0,
-    }
 }
 
 /// Takes the half-arc in a cell, and comes to the node behind it.

@@ -194,8 +194,8 @@ fn run_pass(
     Some(least)
 }
 
-/// The same as `run_pass`, tried in rows of pairs first where there are half as many arcs again as the forests take: then
-/// mostly no node has to be joined by a flow, and pairs take half of the time. Where one has to be, the forests begin
+/// The same as `run_pass`, tried in rows of pairs first where there are half as many arcs again as the forests take.
+/// Mostly no node has to be joined by a flow there, and pairs take less time. Where one has to be, the forests begin
 /// anew.
 fn run_in_pairs(
     ground: Ground<'_>,

@@ -15,3 +15,4 @@ pub mod Carried
 pub mod Settled
 pub mod Waving
 pub mod Border
+pub mod Growing

@@ -157,7 +157,7 @@ impl Trees<'_> {
     pub(crate) fn label(&self, node: u32) -> u32
         requires { HasCells self.now node }
     {
-        self.cells[label_cell(node)]
+        label_in(self.cells, node)
     }
 
     /// The half-arc from a node to its parent.
@@ -165,7 +165,7 @@ impl Trees<'_> {
     pub(crate) fn parent(&self, node: u32) -> u32
         requires { HasCells self.now node }
     {
-        self.cells[parent_cell(node)]
+        parent_in(self.cells, node)
     }
 
     /// A node's stamp.
@@ -181,7 +181,16 @@ impl Trees<'_> {
     pub(crate) fn above(&self, node: u32) -> u32
         requires { HasCells self.now node }
     {
-        self.cells[above_cell(node)]
+        above_in(self.cells, node)
+    }
+
+    /// Whether a node is surer of a root than another.
+    #[inline(always)]
+    pub(crate) fn is_surer(&self, node: u32, other: u32) -> bool
+        requires node { HasCells self.now node }
+        requires other { HasCells self.now other }
+    {
+        self.stamp(node) > self.stamp(other)
     }
 
     /// Sets a node free.

@@ -13,9 +13,9 @@ use Rattle.flow_solve.specs.declared.residual.packing.Packed.{Packed}
 use Rattle.flow_solve.specs.declared.task.Task.{Task}
 use Rattle.flow_solve.specs.residual.HalfArcs.{twin_of}
 use Rattle.flow_solve.specs.residual.Packs.{IsPacked}
-use Rattle.flow_solve.specs.Task.{HasFlow, IsTask}
+use Rattle.flow_solve.specs.Task.{HasFlow, IsTask, KeepsFlow}
 use Rattle.flow_solve.specs.levels.Carrying.{IsCarried}
-use Rattle.flow_solve.specs.Steps.{PaysLooks, PaysSteps}
+use Rattle.flow_solve.specs.Steps.{PaysLooks}
 
 -- a flow that fits a packed network, and cells for the trees, four for each node
 pub record HasTreeCells (p : Packed) (flow : Table) (trees : Trees) : Type 0 where
@@ -54,11 +54,11 @@ pub record HasLooked (before : Table) (trees : Trees) (after : Table) (trees' : 
   pub stays : AreSameTrees trees trees'
   pub paid : PaysLooks before trees.left after trees'.left
 
--- The trees have grown on: the task has a flow still, of their value, and its steps are paid by them.
+-- The trees have grown on: the task has a flow still, of their value, and its steps are paid by them. They have as many
+-- cells as before.
 pub record HasGrown (job : Task) (before : Table) (trees : Trees) (after : Table) (trees' : Trees) : Type 0 where
   pub size : length trees'.cells.now ≡ length trees.cells.now
-  pub flow : HasFlow job after.flows trees'.value
-  pub paid : PaysSteps before trees.left after trees'.left
+  pub kept : KeepsFlow job before trees.left after trees'.value trees'.left
 
 -- the half-arc through which a node is supplied, given the one that leads to its parent
 abbrev pub supplied_by : Direction → ℕ → ℕ

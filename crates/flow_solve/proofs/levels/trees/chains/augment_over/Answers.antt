@@ -14,8 +14,10 @@ returns-then-not-push_through c =
     c.clear.ensures.flows ∙ ap (λ n. replicate n 0) c.push_through.ensures.fits.count in
     record {
       size = stays.size ∙ c.measure-behind.ensures.stays.size ∙ c.measure-before.ensures.stays.size;
-      flow = subst (λ (xs : List ℕ). HasFlow task xs 0) (sym zeros) (zero_flow net task.s.now task.t.now);
-      paid = search rules;
+      kept = record {
+        flow = subst (λ (xs : List ℕ). HasFlow task xs 0) (sym zeros) (zero_flow net task.s.now task.t.now);
+        paid = search rules;
+      };
     }
 
 pub overflow_add-trees : goal.overflow_add-trees
@@ -49,6 +51,8 @@ returns c =
     let same : k + amount ≡ c.push_through.new.trees.value + c.from.result = omega (arith, value, c.from.ensures) in
     record {
       size = stays.size ∙ c.measure-behind.ensures.stays.size ∙ c.measure-before.ensures.stays.size;
-      flow = subst (λ (v : ℕ). HasFlow task c.push_through.new.flow.flows v) same now;
-      paid = search rules;
+      kept = record {
+        flow = subst (λ (v : ℕ). HasFlow task c.push_through.new.flow.flows v) same now;
+        paid = search rules;
+      };
     }

@@ -15,4 +15,3 @@ pub mod Carried
 pub mod Settled
 pub mod Waving
 pub mod Border
-pub mod Growing

@@ -1,11 +1,11 @@
 -- A wave from one call to the next: its cells stay where they are, and what is sent is paid.
-use Rattle.std.proofs.Common.{ℕ, refl, ◌∙◌}
+use Rattle.std.proofs.Common.{refl, ◌∙◌}
 use Rattle.flow_net.specs.Flows.{Fits}
 use Rattle.flow_net.specs.Residual.{Table}
 use Rattle.flow_solve.specs.declared.levels.waves.excess.Wave.{Wave}
 use Rattle.flow_solve.specs.declared.residual.packing.Packed.{Packed}
 use Rattle.flow_solve.specs.levels.Waves.{HasLookedOut, HasSent, IsWaving, StaysIn}
-use Rattle.flow_solve.proofs.Payments.{looked_fits, looks_then, paid_none, paid_then}
+use Rattle.flow_solve.proofs.Payments.{looks_then, paid_none, paid_then}
 
 pub stays_none : (u : Wave) → StaysIn u u
 stays_none u = record { cells = refl; size = refl; nodes = refl }

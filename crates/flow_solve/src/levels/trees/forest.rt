@@ -217,9 +217,9 @@ impl Trees<'_> {
         cells[stamp_cell(node)] = stamp;
     }
 
-    /// Gives a node a parent, and the half-arc that leads to it.
+    /// Gives a node a parent, and the half-arc from the node to it.
     #[inline(always)]
-    pub(crate) fn hang(&mut self, node: u32, half: u32, above: u32)
+    pub(crate) fn set_parent(&mut self, node: u32, half: u32, above: u32)
         requires { HasCells self.old node }
         ensures { OnlyMarks self.old self.new }
     {
@@ -229,7 +229,7 @@ impl Trees<'_> {
     }
 
     /// Makes a node the root of a tree, with a label and its place among the terminals.
-    pub(crate) fn plant(&mut self, node: u32, label: u32, place: u32)
+    pub(crate) fn set_root(&mut self, node: u32, label: u32, place: u32)
         requires { 1 ≤ node }
         ensures { OnlyMarks self.old self.new }
     {

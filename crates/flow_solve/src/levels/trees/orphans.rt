@@ -67,9 +67,9 @@ fn is_child(label: u32, onward: u32, half: u32) -> bool {
     label >= LEAST_CHILD && onward == twin(half)
 }
 
-/// One more than the distance from the root of a node that may adopt an orphan, if it is in its tree and no child of it,
-/// and something remains on the half-arc between, or else `FAR`. The orphan's label is given, and the half-arc that leads
-/// to the node.
+/// One more than the distance from the root of a node that may adopt an orphan, if it is in the orphan's tree and no
+/// child of it, and something remains on the half-arc between, or else `FAR`. The orphan's label is given, and the
+/// half-arc that leads to the node.
 fn offer(
     packed: Packed<'_>,
     flow: &mut FlowTable,
@@ -139,7 +139,7 @@ fn find_parent(packed: Packed<'_>, flow: &mut FlowTable, trees: &mut Trees<'_>, 
         return false;
     }
     let label = nearest.saturating_mul(2).saturating_add(2 + own % 2);
-    trees.hang(node, parent, above);
+    trees.set_parent(node, parent, above);
     trees.mark(node, label, trees.time);
     true
 }

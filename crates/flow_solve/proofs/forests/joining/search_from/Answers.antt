@@ -1,6 +1,5 @@
 -- `search_from`: the half-arcs of a node, one after the other.
-use Rattle.std.proofs.Common.{◌∙◌, sym, subst, ℕ, List, arith}
-use Rattle.flow_net.specs.Flows.{Fits}
+use Rattle.std.proofs.Common.{arith}
 use Rattle.flow_solve.proofs.ForestLemmas.Taken.{keeps_on}
 use Rattle.flow_solve.proofs.Payments.{looked_fits, looks_then}
 use Rattle.flow_solve.proofs.forests.joining.search_from.Goals as goal

@@ -3,7 +3,6 @@ use Rattle.std.proofs.Common.{◌≡◌, ◌≢◌, ℕ, List, ◌*◌, ◌≤�
 use Rattle.flow_net.specs.Residual.{tail_of, head_of, residual, pushed}
 use Rattle.flow_solve.specs.levels.Trees.{supplied_by, IsSupplied}
 use Rattle.flow_solve.proofs.LevelLemmas.Carried.{supplied_more}
-use Rattle.flow_solve.proofs.LevelLemmas.Growing.{marks_then}
 use Rattle.flow_solve.proofs.levels.trees.chains.push_along.Goals.{then-room-amount-2, else-room-amount-2}
 use Rattle.flow_solve.proofs.levels.trees.chains.push_along.Goals as goal
 
@@ -24,22 +23,28 @@ chain-preserved c =
     let after : c.push.new.self.flows ≡ pushed ys (supplied_by dir half) amount =
     c.push.ensures.flows ∙ ap (λ (zs : List ℕ). pushed zs over amount) c.look-room.ensures.flows
     ∙ ap (λ h. pushed ys h amount) same in
-    let more : IsSupplied dir net amount c.args.chain.node (head_of net half) xs (pushed ys (supplied_by dir half) amount) =
-    supplied_more dir c.args.chain.node xs half (subst (λ h. h < 2 * length net.arcs) same within)
+    let begun = c.args.chain.node in
+    let more : IsSupplied dir net amount begun (head_of net half) xs (pushed ys (supplied_by dir half) amount) =
+    supplied_more dir begun xs half (subst (λ h. h < 2 * length net.arcs) same within)
     (subst (λ h. amount ≤ residual net ys h) same room) from apart old.fits old.supplied in
     record {
       node = c.head-parent.ensures.node;
       fits = c.push.ensures.still_fits;
       supplied =
-          subst (λ v. IsSupplied dir net amount c.args.chain.node v xs c.push.new.self.flows) (sym to)
-          (subst (λ zs. IsSupplied dir net amount c.args.chain.node (head_of net half) xs zs) (sym after) more);
+          subst (λ v. IsSupplied dir net amount begun v xs c.push.new.self.flows) (sym to)
+          (subst (λ zs. IsSupplied dir net amount begun (head_of net half) xs zs) (sym after) more);
       steps = record {
         never_lowered =
             omega (arith, old.steps.never_lowered, c.look-room.ensures.steps, c.push.ensures.steps);
         steps = omega (arith, old.steps.steps, c.look-room.ensures.steps, c.push.ensures.steps);
       };
       marks = elim c.if-room-amount-2.branch [
-        | then-room-amount-2 w ↦ rw w.trees-is (marks_then _ _ _ old.marks w.abandon_first.ensures)
+        | then-room-amount-2 w ↦
+            let one = w.abandon_first.ensures in
+            rw w.trees-is (record {
+              stays = record { size = one.stays.size ∙ old.marks.stays.size; value = one.stays.value ∙ old.marks.stays.value };
+              left = one.left ∙ old.marks.left;
+            })
         | else-room-amount-2 w ↦ rw w.trees-is old.marks
       ];
     }

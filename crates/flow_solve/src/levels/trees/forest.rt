@@ -110,11 +110,6 @@ pub(crate) fn direction_of(label: u32) -> Direction {
     }
 }
 
-/// Whether a node is in the tree of another, by their labels.
-pub(crate) fn is_own(own: u32, label: u32) -> bool {
-    label > 1 && label % 2 == own % 2
-}
-
 /// A node's label.
 #[inline(always)]
 pub(crate) fn label_in(cells: &[u32], node: u32) -> u32

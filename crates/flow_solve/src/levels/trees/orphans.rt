@@ -8,7 +8,7 @@ ghost use Rattle.flow_solve.specs.Steps.{OnlyLooks};
 
 use crate::levels::spending::spend;
 use crate::levels::trees::chains::supply_half;
-use crate::levels::trees::forest::{LEAST_CHILD, NO_PARENT, Trees, direction_of, is_own};
+use crate::levels::trees::forest::{LEAST_CHILD, NO_PARENT, Trees, direction_of};
 use crate::residual::cells::END;
 use crate::residual::half_arcs::{head, twin};
 use crate::residual::packing::Packed;
@@ -84,7 +84,7 @@ fn offer(
 {
     let node = head(packed.net, half);
     let label = trees.label(node);
-    if !is_own(own, label) {
+    if label <= 1 || label % 2 != own % 2 {
         return FAR;
     }
     let onward = trees.parent(node);
@@ -154,7 +154,7 @@ fn part(packed: Packed<'_>, flow: &mut FlowTable, trees: &mut Trees<'_>, own: u3
 {
     let node = head(packed.net, half);
     let label = trees.label(node);
-    if !is_own(own, label) {
+    if label <= 1 || label % 2 != own % 2 {
         return;
     }
     if is_child(label, trees.parent(node), half) {

@@ -1,32 +1,64 @@
 -- Two search trees: what is pushed along their chains of parents, and what the border of the tree of the sinks shows.
 -- Nothing is claimed of the trees themselves.
-use Rattle.std.specs.Prelude.{ℕ, ◌-◌, ◌*◌, ◌%◌, ◌≤◌, ◌==◌, Bool, IsTrue, List, length, slice_index}
+use Rattle.std.specs.Prelude.{◌≡◌, ℕ, ◌-◌, ◌*◌, ◌%◌, ◌≤◌, ◌==◌, Bool, IsTrue, List, length, slice_index}
 use Rattle.flow_net.specs.Nets.{Net}
 use Rattle.flow_net.specs.NodeSets.{one_of}
 use Rattle.flow_net.specs.Flows.{Fits, IsGreatest}
 use Rattle.flow_net.specs.LeastCuts.{IsLeastCapacity}
 use Rattle.flow_net.specs.Residual.{Table, tail_of, head_of, residual}
-use Rattle.flow_solve.specs.declared.levels.trees.chains.Grown.{Grown}
+use Rattle.flow_solve.specs.declared.levels.trees.forest.Trees.{Trees}
 use Rattle.flow_solve.specs.declared.residual.half_arcs.Direction.{Direction}
 use Rattle.flow_solve.specs.declared.residual.half_arcs.Direction.TheVariants.{Forwards, Backwards}
 use Rattle.flow_solve.specs.declared.residual.packing.Packed.{Packed}
 use Rattle.flow_solve.specs.declared.task.Task.{Task}
 use Rattle.flow_solve.specs.residual.HalfArcs.{twin_of}
 use Rattle.flow_solve.specs.residual.Packs.{IsPacked}
-use Rattle.flow_solve.specs.Task.{HasFlow, IsTask}
+use Rattle.flow_solve.specs.Task.{HasFlow, IsTask, KeepsFlow}
 use Rattle.flow_solve.specs.levels.Carrying.{IsCarried}
+use Rattle.flow_solve.specs.Steps.{PaysLooks}
 
 -- a flow that fits a packed network, and cells for the trees, four for each node
-pub record HasTreeCells (p : Packed) (flow : Table) (cells : List ℕ) : Type 0 where
+pub record HasTreeCells (p : Packed) (flow : Table) (trees : Trees) : Type 0 where
   pub packed : IsPacked p.net.now p.first.now p.halves.now
-  pub size : 4 * p.net.now.nodes ≤ length cells
+  pub size : 4 * p.net.now.nodes ≤ length trees.cells.now
   pub fits : Fits p.net.now flow.flows
 
--- trees that grow for a task, and the flow that was pushed where they touched
-pub record AreGrowing (job : Task) (table : Table) (grown : Grown) (cells : List ℕ) : Type 0 where
+-- trees that grow for a task, and its flow with what was pushed where they touched
+pub record AreGrowing (job : Task) (table : Table) (trees : Trees) : Type 0 where
   pub task : IsTask job
-  pub size : 4 * job.packed.net.now.nodes ≤ length cells
-  pub flow : HasFlow job table.flows grown.value
+  pub size : 4 * job.packed.net.now.nodes ≤ length trees.cells.now
+  pub flow : HasFlow job table.flows trees.value
+
+-- There are cells for a node.
+pub record HasCells (trees : Trees) (node : ℕ) : Type 0 where
+  pub least : 1 ≤ node
+  pub most : 4 * node ≤ length trees.cells.now
+
+-- as many cells, whatever they hold, and the flow's value is as it was
+pub record AreSameTrees (before after : Trees) : Type 0 where
+  pub size : length after.cells.now ≡ length before.cells.now
+  pub value : after.value ≡ before.value
+
+-- Nothing was spent.
+pub record OnlyMarks (before after : Trees) : Type 0 where
+  pub stays : AreSameTrees before after
+  pub left : after.left ≡ before.left
+
+-- At most something was spent.
+pub record OnlySpends (before after : Trees) : Type 0 where
+  pub stays : AreSameTrees before after
+  pub left : after.left ≤ before.left
+
+-- Half-arcs were looked at, and each look is paid by the trees.
+pub record HasLooked (before : Table) (trees : Trees) (after : Table) (trees' : Trees) : Type 0 where
+  pub stays : AreSameTrees trees trees'
+  pub paid : PaysLooks before trees.left after trees'.left
+
+-- The trees have grown on: the task has a flow still, of their value, and its steps are paid by them. They have as many
+-- cells as before.
+pub record HasGrown (job : Task) (before : Table) (trees : Trees) (after : Table) (trees' : Trees) : Type 0 where
+  pub size : length trees'.cells.now ≡ length trees.cells.now
+  pub kept : KeepsFlow job before trees.left after trees'.value trees'.left
 
 -- the half-arc through which a node is supplied, given the one that leads to its parent
 abbrev pub supplied_by : Direction → ℕ → ℕ

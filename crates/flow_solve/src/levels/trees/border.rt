@@ -12,7 +12,7 @@ ghost use Rattle.flow_solve.specs.Task.{IsTask};
 ghost use Rattle.flow_solve.specs.levels.Trees.{outside, HasNoMore, IsPassed};
 ghost use Rattle.flow_solve.specs.Steps.{OnlyLooks};
 
-use crate::levels::trees::forest::label_cell;
+use crate::levels::trees::forest::label_in;
 use crate::residual::half_arcs::{head, tail};
 use crate::task::Task;
 use flow_net::{FlowTable, Network};
@@ -24,7 +24,7 @@ fn is_outside(cells: &[u32], node: u32) -> bool
     requires within { 4 * node ≤ length cells.now }
     ensures { result ≡ outside cells.now node }
 {
-    cells[label_cell(node)] % 2 == 0
+    label_in(cells, node) % 2 == 0
 }
 
 /// How many nodes tell about how large the tree of the sinks is.

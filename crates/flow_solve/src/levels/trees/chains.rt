@@ -10,15 +10,13 @@ ghost use Rattle.flow_net.specs.Nets.{IsNode};
 ghost use Rattle.flow_net.specs.NodeSets.{one_of};
 ghost use Rattle.flow_net.specs.Flows.{Fits};
 ghost use Rattle.flow_solve.specs.residual.Packs.{IsPacked};
-ghost use Rattle.flow_solve.specs.Task.{HasFlow, IsTask, KeepsFlow};
-ghost use Rattle.flow_solve.specs.levels.Trees.{supplied_by, AreGrowing, HasTreeCells, IsSupplied};
-ghost use Rattle.flow_solve.specs.Steps.{PaysLooks, PaysSteps, TakesSteps};
+ghost use Rattle.flow_solve.specs.Task.{HasFlow, IsTask};
+ghost use Rattle.flow_solve.specs.levels.Trees.{supplied_by, AreGrowing, AreSameTrees, HasCells, HasGrown};
+ghost use Rattle.flow_solve.specs.levels.Trees.{HasTreeCells, IsSupplied, OnlyMarks};
+ghost use Rattle.flow_solve.specs.Steps.{PaysLooks, TakesSteps};
 
 use crate::levels::spending::spend;
-use crate::levels::trees::forest::{
-    LEAST_CHILD, Trees, abandon_first, above_cell, label_cell, parent_cell,
-};
-use crate::residual::cells::get;
+use crate::levels::trees::forest::{LEAST_CHILD, Trees, above_in, label_in, parent_in};
 use crate::residual::half_arcs::Direction::{self, Backwards, Forwards};
 use crate::residual::half_arcs::{cross, head, tail};
 use crate::residual::packing::Packed;
@@ -40,6 +38,17 @@ pub(crate) fn supply_half(direction: Direction, half: u32) -> u32
 /// The chain of parents of a node.
 #[derive(Clone, Copy)]
 struct Chain {
+    /// Which way the node's tree grows.
+    pub direction: Direction,
+    /// The node.
+    pub node: u32,
+    /// How many half-arcs it has.
+    pub len: u32,
+}
+
+/// How far a chain of parents leads.
+#[derive(Clone, Copy)]
+struct Extent {
     /// How many half-arcs it has.
     pub len: u32,
     /// The least that remains on them; 0 where they lead to no root, or to one that is too far.
@@ -55,12 +64,12 @@ fn measure(
     packed: Packed<'_>,
     direction: Direction,
     flow: &mut FlowTable,
-    trees: &mut Trees,
-    cells: &[u32],
+    trees: &mut Trees<'_>,
     node: u32,
-) -> Chain
-    requires forest { HasTreeCells packed flow.old cells.now }
+) -> Extent
+    requires forest { HasTreeCells packed flow.old trees.old }
     requires node { IsNode packed.net.now node }
+    ensures stays { AreSameTrees trees.old trees.new }
     ensures paid { PaysLooks flow.old trees.old.left flow.new (trees.new.left + 2 * result.len) }
 {
     let nodes = packed.net.nodes();
@@ -68,9 +77,11 @@ fn measure(
     let mut node = node;
     let mut room = u64::MAX;
     let mut len = 0;
-    while len < limit && cells[label_cell(node)] >= LEAST_CHILD {
-        let half = cells[parent_cell(node)];
-        let above = cells[above_cell(node)];
+    // Where they are is read once, and not at each half-arc.
+    let cells: &[u32] = trees.cells;
+    while len < limit && label_in(cells, node) >= LEAST_CHILD {
+        let half = parent_in(cells, node);
+        let above = above_in(cells, node);
         if half as usize >= packed.halves.len() || above < 1 || nodes < above {
             break;
         }
@@ -79,52 +90,48 @@ fn measure(
         node = above;
         len += 1;
     }
-    trees.left -= COST * u64::from(len);
-    if cells[label_cell(node)] >= LEAST_CHILD {
+    if label_in(cells, node) >= LEAST_CHILD {
         room = 0;
     }
-    Chain { len, room }
+    trees.left -= COST * u64::from(len);
+    Extent { len, room }
 }
 
-/// Pushes an amount along the chain of parents of a node, which has so many half-arcs, and abandons the nodes whose
-/// half-arc to their parent this fills. Answers the node that the chain leads to, or nothing where that much doesn't
-/// remain on each half-arc when it comes to it.
+/// Pushes an amount along a chain of parents, and abandons the nodes whose half-arc to their parent this fills. Answers
+/// the node that the chain leads to, or nothing where that much doesn't remain on each half-arc when it comes to it.
 #[inline(always)]
 fn push_along(
     packed: Packed<'_>,
-    direction: Direction,
     flow: &mut FlowTable,
-    trees: &mut Trees,
-    cells: &mut [u32],
-    node: u32,
-    len: u32,
+    trees: &mut Trees<'_>,
+    chain: Chain,
     amount: u64,
 ) -> Option<u32>
-    requires forest { HasTreeCells packed flow.old cells.old }
-    requires node { IsNode packed.net.now node }
+    requires forest { HasTreeCells packed flow.old trees.old }
+    requires node { IsNode packed.net.now chain.node }
     ensures fits { Fits packed.entry.net.now flow.new.flows }
     ensures root { IfSome result (λ root. IsNode packed.entry.net.now root) }
-    ensures supplied { IfSome result (λ root. IsSupplied direction packed.entry.net.now amount node root
-        flow.old.flows flow.new.flows) }
-    ensures steps { TakesSteps flow.old flow.new (2 * len) }
-    ensures left { trees.new.left ≡ trees.old.left }
+    ensures supplied { IfSome result (λ root. IsSupplied chain.direction packed.entry.net.now amount chain.node
+        root flow.old.flows flow.new.flows) }
+    ensures steps { TakesSteps flow.old flow.new (2 * chain.len) }
+    ensures marks { OnlyMarks trees.old trees.new }
 {
     let net = packed.net;
-    let mut node = node;
-    'chain: for _ in 0..len {
-        let half = cells[parent_cell(node)];
+    let mut node = chain.node;
+    'chain: for _ in 0..chain.len {
+        let half = trees.parent(node);
         if half as usize >= packed.halves.len() || tail(net, half) != node {
             return None;
         }
         let parent = head(net, half);
-        let over = supply_half(direction, half);
+        let over = supply_half(chain.direction, half);
         let (_, room) = flow.look(net, over);
         if room < amount || parent == node {
             return None;
         }
         flow.push(net, over, amount);
         if room == amount {
-            abandon_first(trees, cells, node);
+            trees.abandon_first(node);
         }
         node = parent;
     }
@@ -132,11 +139,11 @@ fn push_along(
 }
 
 /// Whether a node is one of some terminals, by the place among them that stands in its parent's cell.
-fn is_root(cells: &[u32], terminals: &[u32], node: u32) -> bool
-    requires node { 1 ≤ node }
+fn is_root(trees: &Trees<'_>, terminals: &[u32], node: u32) -> bool
+    requires node { HasCells trees.now node }
     ensures { IsTrue result → IsTrue (one_of terminals.now node) }
 {
-    let place = get(cells, parent_cell(node)) as usize;
+    let place = trees.parent(node) as usize;
     place < terminals.len() && terminals[place] == node
 }
 
@@ -149,30 +156,26 @@ struct Touch {
     pub before: u32,
     /// How many lead on from it to a sink.
     pub behind: u32,
+    /// How much is pushed.
+    pub amount: u64,
 }
 
 /// Pushes an amount over the half-arc where the trees touch and along the chains on its both sides, and abandons the
 /// nodes whose half-arc to their parent this fills. Answers whether that much remained everywhere, and went from a
 /// source to a sink; where it did not, the flow still fits, but needn't be feasible.
-fn push_through(
-    task: Task<'_>,
-    flow: &mut FlowTable,
-    trees: &mut Trees,
-    cells: &mut [u32],
-    touch: Touch,
-    amount: u64,
-) -> bool
+fn push_through(task: Task<'_>, flow: &mut FlowTable, trees: &mut Trees<'_>, touch: Touch) -> bool
     requires task { IsTask task }
-    requires size { 4 * task.packed.net.now.nodes ≤ length cells.old }
+    requires size { 4 * task.packed.net.now.nodes ≤ length trees.old.cells.now }
     requires fits { Fits task.packed.net.now flow.old.flows }
     requires half { touch.half < 2 * length task.packed.net.now.arcs }
     ensures fits { Fits task.entry.packed.net.now flow.new.flows }
     ensures flow { IsTrue result → (k : ℕ) → HasFlow task.entry flow.old.flows k
-        → HasFlow task.entry flow.new.flows (k + amount) }
+        → HasFlow task.entry flow.new.flows (k + touch.amount) }
     ensures steps { TakesSteps flow.old flow.new (2 * (touch.before + touch.behind + 1)) }
-    ensures left { trees.new.left ≡ trees.old.left }
+    ensures marks { OnlyMarks trees.old trees.new }
 {
     let packed = task.packed;
+    let amount = touch.amount;
     let from = tail(packed.net, touch.half);
     let to = head(packed.net, touch.half);
     let (_, room) = flow.look(packed.net, touch.half);
@@ -180,26 +183,23 @@ fn push_through(
         return false;
     }
     flow.push(packed.net, touch.half, amount);
-    let before = touch.before;
-    let source = push_along(packed, Forwards, flow, trees, cells, from, before, amount);
-    let Some(source) = source else {
+    let before = Chain {
+        direction: Forwards,
+        node: from,
+        len: touch.before,
+    };
+    let Some(source) = push_along(packed, flow, trees, before, amount) else {
         return false;
     };
-    let behind = touch.behind;
-    let sink = push_along(packed, Backwards, flow, trees, cells, to, behind, amount);
-    let Some(sink) = sink else {
+    let behind = Chain {
+        direction: Backwards,
+        node: to,
+        len: touch.behind,
+    };
+    let Some(sink) = push_along(packed, flow, trees, behind, amount) else {
         return false;
     };
-    is_root(cells, task.s, source) && is_root(cells, task.t, sink)
-}
-
-/// Two trees as far as they have grown, and the value of the flow that was pushed where they touched.
-#[derive(Clone, Copy)]
-pub(crate) struct Grown {
-    /// The trees.
-    pub trees: Trees,
-    /// The value.
-    pub value: u128,
+    is_root(trees, task.s, source) && is_root(trees, task.t, sink)
 }
 
 /// Pushes as much as remains along the path over a half-arc from the tree of the sources to that of the sinks. Answers
@@ -208,24 +208,21 @@ pub(crate) struct Grown {
 pub(crate) fn augment_over(
     task: Task<'_>,
     flow: &mut FlowTable,
-    grown: &mut Grown,
-    cells: &mut [u32],
+    trees: &mut Trees<'_>,
     half: u32,
 ) -> u64
-    requires growing { AreGrowing task flow.old grown.old cells.old }
+    requires growing { AreGrowing task flow.old trees.old }
     requires half { half < 2 * length task.packed.net.now.arcs }
-    ensures { KeepsFlow task.entry flow.old grown.old.trees.left flow.new grown.new.value
-        grown.new.trees.left }
+    ensures { HasGrown task.entry flow.old trees.old flow.new trees.new }
 {
     let packed = task.packed;
-    let trees = &mut grown.trees;
     if !spend(&mut trees.left, COST) {
         return 0;
     }
     let from = tail(packed.net, half);
-    let before = measure(packed, Forwards, flow, trees, cells, from);
+    let before = measure(packed, Forwards, flow, trees, from);
     let to = head(packed.net, half);
-    let behind = measure(packed, Backwards, flow, trees, cells, to);
+    let behind = measure(packed, Backwards, flow, trees, to);
     let (_, room) = flow.look(packed.net, half);
     let amount = room.min(before.room).min(behind.room);
     if amount == 0 {
@@ -235,12 +232,13 @@ pub(crate) fn augment_over(
         half,
         before: before.len,
         behind: behind.len,
+        amount,
     };
-    if !push_through(task, flow, trees, cells, touch, amount) {
+    if !push_through(task, flow, trees, touch) {
         flow.clear();
-        grown.value = 0;
+        trees.value = 0;
         return 0;
     }
-    grown.value += u128::from(amount);
+    trees.value += u128::from(amount);
     u64::from(touch.before) + 1 + u64::from(touch.behind)
 }

@@ -6,7 +6,8 @@
 //! In the first `4·n` of the `5·n` cells of a stage, with `n` nodes, each node's four stand side by side: its *label*,
 //! the half-arc to its parent, its *stamp*, which is counted in augmentations, and its parent, so that a walk reads no
 //! arc. Behind them stands for each node the next active one.
-ghost use Rattle.std.specs.Prelude.{◌≡◌, ◌+◌, ◌-◌, ◌*◌, ◌≤◌, IsTrue, IsFalse, slice_index};
+ghost use Rattle.std.specs.Prelude.{◌≡◌, ◌-◌, ◌*◌, ◌≤◌, IsTrue, IsFalse, length, slice_index};
+ghost use Rattle.flow_solve.specs.levels.Trees.{HasCells, OnlyMarks};
 
 use crate::residual::cells::{END, get, put};
 use crate::residual::half_arcs::Direction;
@@ -33,8 +34,10 @@ pub(crate) const NO_NODES: Queue = Queue {
 };
 
 /// Two search trees, one that grows from the sources and one from the sinks.
-#[derive(Clone, Copy)]
-pub(crate) struct Trees {
+#[derive(Drop)]
+pub(crate) struct Trees<'a> {
+    /// What they hold of each node, and the next active ones.
+    pub cells: &'a mut [u32],
     /// The active nodes of both: those that they have yet to grow from.
     pub active: Queue,
     /// The orphans of both.
@@ -43,23 +46,18 @@ pub(crate) struct Trees {
     pub nodes: u32,
     /// One more than the number of augmentations.
     pub time: u32,
+    /// The flow's value, with what was pushed where they touched.
+    pub value: u128,
     /// What may still be done: steps, half-arcs that are passed by, and nodes that are walked over.
     pub left: u64,
     /// The trees are tired where no more than this is left: they have brought too little for what they took.
     pub floor: u64,
 }
 
-/// Whether the trees have taken so much for what they bring that they end.
-pub(crate) fn is_tired(trees: &Trees) -> bool
-    ensures { IsFalse result → 1 ≤ trees.now.left }
-{
-    trees.left <= trees.floor
-}
-
 /// Where a node's label stands: twice one more than its distance from the root when that was last looked at, and 1 more
 /// in the tree of the sinks. A free node has 0.
 #[inline(always)]
-pub(crate) fn label_cell(node: u32) -> usize
+fn label_cell(node: u32) -> usize
     requires { 1 ≤ node }
     ensures { result ≡ 4 * node - 4 }
 {
@@ -69,7 +67,7 @@ pub(crate) fn label_cell(node: u32) -> usize
 /// Where the half-arc from a node to its parent stands; for a root its place among the terminals, and for an orphan
 /// `NO_PARENT`.
 #[inline(always)]
-pub(crate) fn parent_cell(node: u32) -> usize
+fn parent_cell(node: u32) -> usize
     requires { 1 ≤ node }
     ensures { result ≡ 4 * node - 3 }
 {
@@ -79,7 +77,7 @@ pub(crate) fn parent_cell(node: u32) -> usize
 /// Where a node's stamp stands: the time when its parents were last known to lead to a root; for an orphan the next
 /// one.
 #[inline(always)]
-pub(crate) fn stamp_cell(node: u32) -> usize
+fn stamp_cell(node: u32) -> usize
     requires { 1 ≤ node }
     ensures { result ≡ 4 * node - 2 }
 {
@@ -88,7 +86,7 @@ pub(crate) fn stamp_cell(node: u32) -> usize
 
 /// Where a node's parent stands, that the half-arc leads to.
 #[inline(always)]
-pub(crate) fn above_cell(node: u32) -> usize
+fn above_cell(node: u32) -> usize
     requires { 1 ≤ node }
     ensures { result ≡ 4 * node - 1 }
 {
@@ -97,10 +95,10 @@ pub(crate) fn above_cell(node: u32) -> usize
 
 /// Where the active node after an active node stands: `END` behind the last. A node that isn't active has 0 there.
 #[inline(always)]
-pub(crate) fn next_active_cell(trees: &Trees, node: u32) -> usize
+fn next_active_cell(nodes: u32, node: u32) -> usize
     requires { 1 ≤ node }
 {
-    4 * trees.nodes as usize + node as usize - 1
+    4 * nodes as usize + node as usize - 1
 }
 
 /// Which way the tree of a label grows: that of the sources along half-arcs, that of the sinks against them.
@@ -112,78 +110,218 @@ pub(crate) fn direction_of(label: u32) -> Direction {
     }
 }
 
-/// Puts a node behind the active ones, if it isn't one of them.
-pub(crate) fn activate(trees: &mut Trees, cells: &mut [u32], node: u32)
-    requires node { 1 ≤ node }
-    ensures left { trees.new.left ≡ trees.old.left }
+/// A node's label.
+#[inline(always)]
+pub(crate) fn label_in(cells: &[u32], node: u32) -> u32
+    requires { (1 ≤ node) × (4 * node ≤ length cells.now) }
+    ensures { result ≡ slice_index cells.now (4 * node - 4) }
 {
-    if get(cells, next_active_cell(trees, node)) != 0 {
-        return;
-    }
-    put(cells, next_active_cell(trees, node), END);
-    if trees.active.last == 0 {
-        trees.active.first = node;
-    } else {
-        put(cells, next_active_cell(trees, trees.active.last), node);
-    }
-    trees.active.last = node;
+    cells[label_cell(node)]
 }
 
-/// Takes the first of the active nodes and answers it, or answers `END`, or a number that is no node.
-pub(crate) fn next_active(trees: &mut Trees, cells: &mut [u32]) -> u32
-    ensures left { trees.new.left ≡ trees.old.left }
+/// The half-arc from a node to its parent.
+#[inline(always)]
+pub(crate) fn parent_in(cells: &[u32], node: u32) -> u32
+    requires { (1 ≤ node) × (4 * node ≤ length cells.now) }
 {
-    let node = trees.active.first;
-    if node < 1 || node == END {
-        return node;
-    }
-    trees.active.first = get(cells, next_active_cell(trees, node));
-    if trees.active.first == END {
-        trees.active.last = 0;
-    }
-    put(cells, next_active_cell(trees, node), 0);
-    node
+    cells[parent_cell(node)]
 }
 
-/// Makes a node the first of the orphans.
-pub(crate) fn abandon_first(trees: &mut Trees, cells: &mut [u32], node: u32)
-    requires node { 1 ≤ node }
-    ensures left { trees.new.left ≡ trees.old.left }
+/// A node's parent.
+#[inline(always)]
+pub(crate) fn above_in(cells: &[u32], node: u32) -> u32
+    requires { (1 ≤ node) × (4 * node ≤ length cells.now) }
 {
-    put(cells, parent_cell(node), NO_PARENT);
-    put(cells, stamp_cell(node), trees.orphans.first);
-    if trees.orphans.last == 0 {
-        trees.orphans.last = node;
-    }
-    trees.orphans.first = node;
+    cells[above_cell(node)]
 }
 
-/// Makes a node the last of the orphans.
-pub(crate) fn abandon_last(trees: &mut Trees, cells: &mut [u32], node: u32)
-    requires node { 1 ≤ node }
-    ensures left { trees.new.left ≡ trees.old.left }
-{
-    put(cells, parent_cell(node), NO_PARENT);
-    put(cells, stamp_cell(node), END);
-    if trees.orphans.last == 0 {
-        trees.orphans.first = node;
-    } else {
-        put(cells, stamp_cell(trees.orphans.last), node);
+impl Trees<'_> {
+    /// Whether the trees have taken so much for what they bring that they end.
+    pub(crate) fn is_tired(&self) -> bool
+        ensures { IsFalse result → 1 ≤ self.now.left }
+    {
+        self.left <= self.floor
     }
-    trees.orphans.last = node;
-}
 
-/// Takes the first of the orphans and answers it, or answers `END`, or a number that is no node.
-pub(crate) fn next_orphan(trees: &mut Trees, cells: &[u32]) -> u32
-    ensures left { trees.new.left ≡ trees.old.left }
-{
-    let node = trees.orphans.first;
-    if node < 1 || node == END {
-        return node;
+    /// Whether there are cells for a node.
+    #[inline(always)]
+    pub(crate) fn has_cells(&self, node: u32) -> bool
+        ensures { IsTrue result → HasCells self.now node }
+    {
+        1 <= node && 4 * node as usize <= self.cells.len()
     }
-    trees.orphans.first = get(cells, stamp_cell(node));
-    if trees.orphans.first == END {
-        trees.orphans.last = 0;
+
+    /// A node's label.
+    #[inline(always)]
+    pub(crate) fn label(&self, node: u32) -> u32
+        requires { HasCells self.now node }
+    {
+        label_in(self.cells, node)
     }
-    node
+
+    /// The half-arc from a node to its parent.
+    #[inline(always)]
+    pub(crate) fn parent(&self, node: u32) -> u32
+        requires { HasCells self.now node }
+    {
+        parent_in(self.cells, node)
+    }
+
+    /// A node's stamp.
+    #[inline(always)]
+    pub(crate) fn stamp(&self, node: u32) -> u32
+        requires { HasCells self.now node }
+    {
+        self.cells[stamp_cell(node)]
+    }
+
+    /// A node's parent.
+    #[inline(always)]
+    pub(crate) fn above(&self, node: u32) -> u32
+        requires { HasCells self.now node }
+    {
+        above_in(self.cells, node)
+    }
+
+    /// Whether a node is surer of a root than another.
+    #[inline(always)]
+    pub(crate) fn is_surer(&self, node: u32, other: u32) -> bool
+        requires node { HasCells self.now node }
+        requires other { HasCells self.now other }
+    {
+        self.stamp(node) > self.stamp(other)
+    }
+
+    /// Sets a node free.
+    #[inline(always)]
+    pub(crate) fn set_free(&mut self, node: u32)
+        requires { HasCells self.old node }
+        ensures { OnlyMarks self.old self.new }
+    {
+        self.cells[label_cell(node)] = 0;
+    }
+
+    /// Gives a node its label and its stamp.
+    #[inline(always)]
+    pub(crate) fn mark(&mut self, node: u32, label: u32, stamp: u32)
+        requires { HasCells self.old node }
+        ensures { OnlyMarks self.old self.new }
+    {
+        let cells = &mut *self.cells;
+        cells[label_cell(node)] = label;
+        cells[stamp_cell(node)] = stamp;
+    }
+
+    /// Gives a node a parent, and the half-arc from the node to it.
+    #[inline(always)]
+    pub(crate) fn set_parent(&mut self, node: u32, half: u32, above: u32)
+        requires { HasCells self.old node }
+        ensures { OnlyMarks self.old self.new }
+    {
+        let cells = &mut *self.cells;
+        cells[parent_cell(node)] = half;
+        cells[above_cell(node)] = above;
+    }
+
+    /// Makes a node the root of a tree, with a label and its place among the terminals.
+    pub(crate) fn set_root(&mut self, node: u32, label: u32, place: u32)
+        requires { 1 ≤ node }
+        ensures { OnlyMarks self.old self.new }
+    {
+        let cells = &mut *self.cells;
+        put(cells, label_cell(node), label);
+        put(cells, parent_cell(node), place);
+    }
+
+    /// Whether a node is active.
+    #[inline(always)]
+    pub(crate) fn is_active(&self, node: u32) -> bool
+        requires { 1 ≤ node }
+    {
+        get(self.cells, next_active_cell(self.nodes, node)) != 0
+    }
+
+    /// Puts a node behind the active ones, if it isn't one of them.
+    pub(crate) fn activate(&mut self, node: u32)
+        requires { 1 ≤ node }
+        ensures { OnlyMarks self.old self.new }
+    {
+        if self.is_active(node) {
+            return;
+        }
+        let nodes = self.nodes;
+        let cells = &mut *self.cells;
+        put(cells, next_active_cell(nodes, node), END);
+        if self.active.last == 0 {
+            self.active.first = node;
+        } else {
+            put(cells, next_active_cell(nodes, self.active.last), node);
+        }
+        self.active.last = node;
+    }
+
+    /// Takes the first of the active nodes and answers it, or answers `END`, or a number that is no node.
+    pub(crate) fn next_active(&mut self) -> u32
+        ensures { OnlyMarks self.old self.new }
+    {
+        let node = self.active.first;
+        if node < 1 || node == END {
+            return node;
+        }
+        let at = next_active_cell(self.nodes, node);
+        let cells = &mut *self.cells;
+        let next = get(cells, at);
+        put(cells, at, 0);
+        self.active.first = next;
+        if next == END {
+            self.active.last = 0;
+        }
+        node
+    }
+
+    /// Makes a node the first of the orphans.
+    pub(crate) fn abandon_first(&mut self, node: u32)
+        requires { 1 ≤ node }
+        ensures { OnlyMarks self.old self.new }
+    {
+        let cells = &mut *self.cells;
+        put(cells, parent_cell(node), NO_PARENT);
+        put(cells, stamp_cell(node), self.orphans.first);
+        if self.orphans.last == 0 {
+            self.orphans.last = node;
+        }
+        self.orphans.first = node;
+    }
+
+    /// Makes a node the last of the orphans.
+    pub(crate) fn abandon_last(&mut self, node: u32)
+        requires { 1 ≤ node }
+        ensures { OnlyMarks self.old self.new }
+    {
+        let cells = &mut *self.cells;
+        put(cells, parent_cell(node), NO_PARENT);
+        put(cells, stamp_cell(node), END);
+        if self.orphans.last == 0 {
+            self.orphans.first = node;
+        } else {
+            put(cells, stamp_cell(self.orphans.last), node);
+        }
+        self.orphans.last = node;
+    }
+
+    /// Takes the first of the orphans and answers it, or answers `END`, or a number that is no node.
+    pub(crate) fn next_orphan(&mut self) -> u32
+        ensures { OnlyMarks self.old self.new }
+    {
+        let node = self.orphans.first;
+        if node < 1 || node == END {
+            return node;
+        }
+        let next = get(self.cells, stamp_cell(node));
+        self.orphans.first = next;
+        if next == END {
+            self.orphans.last = 0;
+        }
+        node
+    }
 }

@@ -3,48 +3,36 @@
 ghost use Rattle.std.specs.Prelude.{◌≡◌, ◌+◌, ◌<◌, ◌≤◌, ◌*◌, IsTrue, length};
 ghost use Rattle.flow_net.specs.Nets.{IsNode};
 ghost use Rattle.flow_net.specs.Flows.{Fits};
-ghost use Rattle.flow_solve.specs.levels.Trees.{HasTreeCells};
-ghost use Rattle.flow_solve.specs.Steps.{OnlyLooks, PaysLooks};
+ghost use Rattle.flow_solve.specs.levels.Trees.{HasCells, HasLooked, HasTreeCells, OnlyMarks, OnlySpends};
+ghost use Rattle.flow_solve.specs.Steps.{OnlyLooks};
 
 use crate::levels::spending::spend;
 use crate::levels::trees::chains::supply_half;
-use crate::levels::trees::forest::{
-    LEAST_CHILD, NO_PARENT, Trees, abandon_last, above_cell, activate, direction_of, is_tired,
-    label_cell, next_active_cell, next_orphan, parent_cell, stamp_cell,
-};
-use crate::residual::cells::{END, get};
+use crate::levels::trees::forest::{LEAST_CHILD, NO_PARENT, Trees, direction_of};
+use crate::residual::cells::END;
 use crate::residual::half_arcs::{head, twin};
 use crate::residual::packing::Packed;
 use crate::residual::searching::FAR;
 use flow_net::FlowTable;
 
-/// Whether there are cells for a node.
-#[inline(always)]
-fn is_within(cells: &[u32], node: u32) -> bool
-    ensures { IsTrue result → (1 ≤ node) × (4 * node ≤ length cells.now) }
-{
-    1 <= node && 4 * node as usize <= cells.len()
-}
-
 /// Walks over the parents of a node to a root, or to a node that is known at this time to lead to one. Answers one more
 /// than the node's distance from the root, or `FAR` where the walk ends at an orphan or no more may be done.
-fn walk_to_root(trees: &mut Trees, cells: &[u32], node: u32) -> u32
-    requires least { 1 ≤ node }
-    requires most { 4 * node ≤ length cells.now }
-    ensures left { trees.new.left ≤ trees.old.left }
+fn walk_to_root(trees: &mut Trees<'_>, node: u32) -> u32
+    requires node { HasCells trees.old node }
+    ensures spends { OnlySpends trees.old trees.new }
 {
     let mut node = node;
     let mut walked: u32 = 0;
     'chain: loop {
-        if cells[parent_cell(node)] == NO_PARENT {
+        if trees.parent(node) == NO_PARENT {
             return FAR;
         }
-        let label = cells[label_cell(node)];
-        if label < LEAST_CHILD || cells[stamp_cell(node)] == trees.time {
+        let label = trees.label(node);
+        if label < LEAST_CHILD || trees.stamp(node) == trees.time {
             return walked.saturating_add(label / 2);
         }
-        node = cells[above_cell(node)];
-        if !is_within(cells, node) || !spend(&mut trees.left, 1) {
+        node = trees.above(node);
+        if !trees.has_cells(node) || !spend(&mut trees.left, 1) {
             return FAR;
         }
         walked = walked.saturating_add(1);
@@ -52,21 +40,21 @@ fn walk_to_root(trees: &mut Trees, cells: &[u32], node: u32) -> u32
 }
 
 /// Gives the nodes that such a walk went over the labels for their distances, and the time.
-fn mark_walk(cells: &mut [u32], node: u32, distance: u32, time: u32)
-    requires least { 1 ≤ node }
-    requires most { 4 * node ≤ length cells.old }
+fn mark_walk(trees: &mut Trees<'_>, node: u32, distance: u32)
+    requires node { HasCells trees.old node }
+    ensures marks { OnlyMarks trees.old trees.new }
 {
+    let time = trees.time;
     let mut node = node;
-    let side = cells[label_cell(node)] % 2;
+    let side = trees.label(node) % 2;
     let mut label = distance.saturating_mul(2).saturating_add(side);
     'walk: for _ in 0..distance {
-        if cells[stamp_cell(node)] == time {
+        if trees.stamp(node) == time {
             return;
         }
-        cells[label_cell(node)] = label;
-        cells[stamp_cell(node)] = time;
-        node = cells[above_cell(node)];
-        if !is_within(cells, node) {
+        trees.mark(node, label, time);
+        node = trees.above(node);
+        if !trees.has_cells(node) {
             return;
         }
         label = label.saturating_sub(2);
@@ -79,29 +67,27 @@ fn is_child(label: u32, onward: u32, half: u32) -> bool {
     label >= LEAST_CHILD && onward == twin(half)
 }
 
-/// One more than the distance from the root of a node that may adopt an orphan, if by its label that is nearer than any
-/// so far, it is no child of the orphan, and something remains on the half-arc between, or else `FAR`. The half-arc is
-/// given that leads to the node.
+/// One more than the distance from the root of a node that may adopt an orphan, if it is in the orphan's tree and no
+/// child of it, and something remains on the half-arc between, or else `FAR`. The orphan's label is given, and the
+/// half-arc that leads to the node.
 fn offer(
     packed: Packed<'_>,
     flow: &mut FlowTable,
-    trees: &mut Trees,
-    cells: &mut [u32],
+    trees: &mut Trees<'_>,
     own: u32,
     half: u32,
-    nearest: u32,
 ) -> u32
-    requires forest { HasTreeCells packed flow.old cells.old }
+    requires forest { HasTreeCells packed flow.old trees.old }
     requires half { half < 2 * length packed.net.now.arcs }
     ensures looks { OnlyLooks flow.old flow.new 1 }
-    ensures left { trees.new.left ≤ trees.old.left }
+    ensures spends { OnlySpends trees.old trees.new }
 {
     let node = head(packed.net, half);
-    let label = cells[label_cell(node)];
-    if label <= 1 || label % 2 != own % 2 || label / 2 >= nearest {
+    let label = trees.label(node);
+    if label <= 1 || label % 2 != own % 2 {
         return FAR;
     }
-    let onward = cells[parent_cell(node)];
+    let onward = trees.parent(node);
     if onward == NO_PARENT || is_child(label, onward, half) {
         return FAR;
     }
@@ -109,9 +95,9 @@ fn offer(
     if room == 0 {
         return FAR;
     }
-    let distance = walk_to_root(trees, cells, node);
+    let distance = walk_to_root(trees, node);
     if distance != FAR {
-        mark_walk(cells, node, distance, trees.time);
+        mark_walk(trees, node, distance);
     }
     distance
 }
@@ -122,18 +108,12 @@ const MOST_DETOUR: u32 = 4;
 
 /// Gives an orphan the nearest parent in its tree that leads to a root and isn't too far from it. Answers whether that,
 /// or all that may still be done, is done.
-fn find_parent(
-    packed: Packed<'_>,
-    flow: &mut FlowTable,
-    trees: &mut Trees,
-    cells: &mut [u32],
-    node: u32,
-) -> bool
-    requires forest { HasTreeCells packed flow.old cells.old }
+fn find_parent(packed: Packed<'_>, flow: &mut FlowTable, trees: &mut Trees<'_>, node: u32) -> bool
+    requires forest { HasTreeCells packed flow.old trees.old }
     requires node { IsNode packed.net.now node }
-    ensures paid { PaysLooks flow.old trees.old.left flow.new trees.new.left }
+    ensures looked { HasLooked flow.old trees.old flow.new trees.new }
 {
-    let own = cells[label_cell(node)];
+    let own = trees.label(node);
     let begin = packed.first[node as usize - 1];
     let end = packed.first[node as usize];
     if !spend(&mut trees.left, u64::from(end - begin)) {
@@ -144,68 +124,64 @@ fn find_parent(
     let mut above = 0;
     for spot in begin..end {
         let half = packed.halves[spot as usize];
-        let distance = offer(packed, flow, trees, cells, own, half, nearest);
-        if distance < nearest {
-            nearest = distance;
-            parent = half;
-            above = head(packed.net, half);
+        let next = head(packed.net, half);
+        // A node that is no nearer by its label isn't asked.
+        if trees.label(next) / 2 < nearest {
+            let distance = offer(packed, flow, trees, own, half);
+            if distance < nearest {
+                nearest = distance;
+                parent = half;
+                above = next;
+            }
         }
     }
     if parent == NO_PARENT || nearest > (own / 2).saturating_add(MOST_DETOUR - 1) {
         return false;
     }
-    cells[label_cell(node)] = nearest.saturating_mul(2).saturating_add(2 + own % 2);
-    cells[parent_cell(node)] = parent;
-    cells[above_cell(node)] = above;
-    cells[stamp_cell(node)] = trees.time;
+    let label = nearest.saturating_mul(2).saturating_add(2 + own % 2);
+    trees.set_parent(node, parent, above);
+    trees.mark(node, label, trees.time);
     true
 }
 
 /// Leaves the node that a half-arc leads to from a node that comes free: a child becomes an orphan, and a node of the
 /// same tree that could take the free node back becomes active.
-fn part(
-    packed: Packed<'_>,
-    flow: &mut FlowTable,
-    trees: &mut Trees,
-    cells: &mut [u32],
-    own: u32,
-    half: u32,
-)
-    requires forest { HasTreeCells packed flow.old cells.old }
+fn part(packed: Packed<'_>, flow: &mut FlowTable, trees: &mut Trees<'_>, own: u32, half: u32)
+    requires forest { HasTreeCells packed flow.old trees.old }
     requires half { half < 2 * length packed.net.now.arcs }
     ensures looks { OnlyLooks flow.old flow.new 1 }
-    ensures left { trees.new.left ≡ trees.old.left }
+    ensures marks { OnlyMarks trees.old trees.new }
 {
     let node = head(packed.net, half);
-    let label = cells[label_cell(node)];
+    let label = trees.label(node);
     if label <= 1 || label % 2 != own % 2 {
         return;
     }
-    if is_child(label, cells[parent_cell(node)], half) {
-        abandon_last(trees, cells, node);
+    if is_child(label, trees.parent(node), half) {
+        trees.abandon_last(node);
     }
-    if get(cells, next_active_cell(trees, node)) == 0 {
+    if !trees.is_active(node) {
         let (_, room) = flow.look(packed.net, supply_half(direction_of(own), half));
         if room > 0 {
-            activate(trees, cells, node);
+            trees.activate(node);
         }
     }
 }
 
 /// Sets an orphan free that found no parent.
-fn free(packed: Packed<'_>, flow: &mut FlowTable, trees: &mut Trees, cells: &mut [u32], node: u32)
-    requires forest { HasTreeCells packed flow.old cells.old }
+fn free(packed: Packed<'_>, flow: &mut FlowTable, trees: &mut Trees<'_>, node: u32)
+    requires forest { HasTreeCells packed flow.old trees.old }
     requires node { IsNode packed.net.now node }
-    ensures paid { PaysLooks flow.old trees.old.left flow.new trees.new.left }
+    ensures looked { HasLooked flow.old trees.old flow.new trees.new }
 {
-    let own = cells[label_cell(node)];
-    cells[label_cell(node)] = 0;
+    let own = trees.label(node);
+    trees.set_free(node);
     let begin = packed.first[node as usize - 1];
     let end = packed.first[node as usize];
     if spend(&mut trees.left, u64::from(end - begin)) {
         for spot in begin..end {
             let half = packed.halves[spot as usize];
-            part(packed, flow, trees, cells, own, half);
+            part(packed, flow, trees, own, half);
         }
     }
 }
@@ -213,24 +189,19 @@ fn free(packed: Packed<'_>, flow: &mut FlowTable, trees: &mut Trees, cells: &mut
 /// Adopts all orphans, or sets them free. Answers whether that was done before the trees had to end.
 // Out of line, so that what pushes along a path keeps its numbers in registers.
 #[inline(never)]
-pub(crate) fn adopt(
-    packed: Packed<'_>,
-    flow: &mut FlowTable,
-    trees: &mut Trees,
-    cells: &mut [u32],
-) -> bool
-    requires forest { HasTreeCells packed flow.old cells.old }
-    ensures paid { PaysLooks flow.old trees.old.left flow.new trees.new.left }
+pub(crate) fn adopt(packed: Packed<'_>, flow: &mut FlowTable, trees: &mut Trees<'_>) -> bool
+    requires forest { HasTreeCells packed flow.old trees.old }
+    ensures looked { HasLooked flow.old trees.old flow.new trees.new }
 {
     let nodes = packed.net.nodes();
-    'orphans: while !is_tired(trees) {
+    'orphans: while !trees.is_tired() {
         trees.left -= 1;
-        let node = next_orphan(trees, cells);
+        let node = trees.next_orphan();
         if node < 1 || nodes < node {
             return node == END;
         }
-        if !find_parent(packed, flow, trees, cells, node) {
-            free(packed, flow, trees, cells, node);
+        if !find_parent(packed, flow, trees, node) {
+            free(packed, flow, trees, node);
         }
     }
     false

@@ -5,5 +5,5 @@ use Rattle.flow_solve.proofs.levels.trees.chains.is_root.Goals as goal
 
 pub returns-then-place-terminals : goal.returns-then-place-terminals
 returns-then-place-terminals c = λ same.
-    one_of-place c.args.terminals.now c.get-place.result c.args.node (omega (arith, c.if-place-terminals.true))
+    one_of-place c.args.terminals.now c.parent-place.result c.args.node (omega (arith, c.if-place-terminals.true))
     (search (rules, same))

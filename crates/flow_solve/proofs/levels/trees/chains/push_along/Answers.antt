@@ -1,8 +1,6 @@
 -- `push_along`: one more half-arc, which leads on from the node and is no self-loop.
 use Rattle.std.proofs.Common.{◌≡◌, ◌≢◌, ℕ, List, ◌*◌, ◌≤◌, ◌<◌, length, ◌∙◌, sym, ap, subst, arith}
-use Rattle.std.specs.Prelude.{slice_index}
 use Rattle.flow_net.specs.Residual.{tail_of, head_of, residual, pushed}
-use Rattle.flow_solve.specs.declared.levels.trees.forest.Trees.{Trees}
 use Rattle.flow_solve.specs.levels.Trees.{supplied_by, IsSupplied}
 use Rattle.flow_solve.proofs.LevelLemmas.Carried.{supplied_more}
 use Rattle.flow_solve.proofs.levels.trees.chains.push_along.Goals.{then-room-amount-2, else-room-amount-2}
@@ -10,9 +8,9 @@ use Rattle.flow_solve.proofs.levels.trees.chains.push_along.Goals as goal
 
 pub chain-preserved : goal.chain-preserved
 chain-preserved c =
-    let net = c.args.packed.net.now in let dir = c.args.direction in let amount = c.args.amount in
+    let net = c.args.packed.net.now in let dir = c.args.chain.direction in let amount = c.args.amount in
     let old = c.chain.invariant in let xs = c.args.flow.now.flows in let ys = c.chain.flow.flows in
-    let half = slice_index c.chain.cells c.parent_cell.result in
+    let half = c.parent-half.result in
     let over = c.supply_half-over.result in
     let inside : half < 2 * length net.arcs =
     omega (arith, c.requires.forest.packed.halves_size, c.if-half-packed.false) in
@@ -25,23 +23,28 @@ chain-preserved c =
     let after : c.push.new.self.flows ≡ pushed ys (supplied_by dir half) amount =
     c.push.ensures.flows ∙ ap (λ (zs : List ℕ). pushed zs over amount) c.look-room.ensures.flows
     ∙ ap (λ h. pushed ys h amount) same in
-    let more : IsSupplied dir net amount c.args.node (head_of net half) xs (pushed ys (supplied_by dir half) amount) =
-    supplied_more dir c.args.node xs half (subst (λ h. h < 2 * length net.arcs) same within)
+    let begun = c.args.chain.node in
+    let more : IsSupplied dir net amount begun (head_of net half) xs (pushed ys (supplied_by dir half) amount) =
+    supplied_more dir begun xs half (subst (λ h. h < 2 * length net.arcs) same within)
     (subst (λ h. amount ≤ residual net ys h) same room) from apart old.fits old.supplied in
     record {
       node = c.head-parent.ensures.node;
-      size = omega (arith, old.size, c.if-room-amount-2.auto.cells);
       fits = c.push.ensures.still_fits;
       supplied =
-          subst (λ v. IsSupplied dir net amount c.args.node v xs c.push.new.self.flows) (sym to)
-          (subst (λ zs. IsSupplied dir net amount c.args.node (head_of net half) xs zs) (sym after) more);
+          subst (λ v. IsSupplied dir net amount begun v xs c.push.new.self.flows) (sym to)
+          (subst (λ zs. IsSupplied dir net amount begun (head_of net half) xs zs) (sym after) more);
       steps = record {
         never_lowered =
             omega (arith, old.steps.never_lowered, c.look-room.ensures.steps, c.push.ensures.steps);
         steps = omega (arith, old.steps.steps, c.look-room.ensures.steps, c.push.ensures.steps);
       };
-      left = elim c.if-room-amount-2.branch [
-        | then-room-amount-2 w ↦ ap (λ (t : Trees). t.left) w.trees-is ∙ w.abandon_first.ensures.left ∙ old.left
-        | else-room-amount-2 w ↦ ap (λ (t : Trees). t.left) w.trees-is ∙ old.left
+      marks = elim c.if-room-amount-2.branch [
+        | then-room-amount-2 w ↦
+            let one = w.abandon_first.ensures in
+            rw w.trees-is (record {
+              stays = record { size = one.stays.size ∙ old.marks.stays.size; value = one.stays.value ∙ old.marks.stays.value };
+              left = one.left ∙ old.marks.left;
+            })
+        | else-room-amount-2 w ↦ rw w.trees-is old.marks
       ];
     }

@@ -8,7 +8,7 @@ use Rattle.flow_solve.proofs.levels.trees.chains.push_through.Goals as goal
 
 pub returns-then-is_root-clause-flow : goal.returns-then-is_root-clause-flow
 returns-then-is_root-clause-flow c = λ yes k flow.
-    let task = c.args.task in let net = task.packed.net.now in let d = c.args.amount in
+    let task = c.args.task in let net = task.packed.net.now in let d = c.args.touch.amount in
     let half = c.args.touch.half in let xs = c.args.flow.now.flows in
     let from = c.tail-from.ensures.tail in let to = c.head-to.ensures.head in
     let room : d ≤ residual net xs half = omega (arith, c.look-room.ensures.residual, c.if-room-amount.false) in
@@ -21,7 +21,7 @@ returns-then-is_root-clause-flow c = λ yes k flow.
     subst (λ zs. IsCarried net d c.tail-from.result c.head-to.result xs zs) (sym after)
     (subst (λ v. IsCarried net d c.tail-from.result v xs (pushed xs half d)) (sym to)
     (subst (λ v. IsCarried net d v (head_of net half) xs (pushed xs half d)) (sym from) over)) in
-    let whole = carried_on (carried_before here c.in-Some.ensures.supplied) c.in-Some-sink.ensures.supplied in
-    flow_carried net task.s.now task.t.now d k c.in-Some.source c.in-Some-sink.sink xs
-    c.push_along-sink.new.flow.flows c.requires.task.terminals (c.is_root.ensures c.if-is_root.true)
+    let whole = carried_on (carried_before here c.in-Some.ensures.supplied) c.in-Some-push_along.ensures.supplied in
+    flow_carried net task.s.now task.t.now d k c.in-Some.source c.in-Some-push_along.sink xs
+    c.push_along-2.new.flow.flows c.requires.task.terminals (c.is_root.ensures c.if-is_root.true)
     (c.is_root-then-is_root.ensures yes) whole flow

@@ -12,8 +12,8 @@ offer-distance-requires-clause-half c =
     (omega (arith, next, c.loop-spot-test.true)) in
     own.0
 
-pub head-above-requires : goal.head-above-requires
-head-above-requires c =
+pub head-next-requires : goal.head-next-requires
+head-next-requires c =
     let first = c.args.packed.first.now in
     let next : get_or first (c.args.node - 1 + 1) 0 ≡ get_or first c.args.node 0 =
     ap (λ v. get_or first v 0) (omega (arith, c.requires.node)) in

@@ -1,9 +1,9 @@
--- `mark_walk`: each node of the walk has cells.
-use Rattle.std.proofs.Common.{◌*◌, ◌≤◌, length}
+-- `mark_walk`: each node of the walk has cells, and nothing was spent.
+use Rattle.flow_solve.specs.levels.Trees.{HasCells, OnlyMarks}
 use Rattle.flow_solve.proofs.levels.trees.orphans.mark_walk.Given as goal
 
 abbrev pub invariant-walk : goal.invariant-walk
 invariant-walk l = record {
-  least : 1 ≤ l.node;
-  most : 4 * l.node ≤ length l.cells;
+  node : HasCells l.trees l.node;
+  marks : OnlyMarks l.fn.trees l.trees;
 }

@@ -1,12 +1,11 @@
 -- `walk_to_root`: each node of the walk has cells, and takes one off what the trees may still do.
-use Rattle.std.proofs.Common.{◌*◌, ◌≤◌, length}
+use Rattle.flow_solve.specs.levels.Trees.{HasCells, OnlySpends}
 use Rattle.flow_solve.proofs.levels.trees.orphans.walk_to_root.Given as goal
 
 abbrev pub invariant-chain : goal.invariant-chain
 invariant-chain l = record {
-  least : 1 ≤ l.node;
-  most : 4 * l.node ≤ length l.cells;
-  left : l.trees.left ≤ l.fn.trees.left;
+  node : HasCells l.trees l.node;
+  spends : OnlySpends l.fn.trees l.trees;
 }
 
 abbrev pub decreases-chain : goal.decreases-chain

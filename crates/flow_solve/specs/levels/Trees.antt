@@ -30,7 +30,7 @@ pub record AreGrowing (job : Task) (table : Table) (trees : Trees) : Type 0 wher
   pub flow : HasFlow job table.flows trees.value
 
 -- There are cells for a node.
-pub record HasCells (trees : Trees) (node : ℕ) : Type 0 where
+pub record HaveCells (trees : Trees) (node : ℕ) : Type 0 where
   pub least : 1 ≤ node
   pub most : 4 * node ≤ length trees.cells.now
 
@@ -40,23 +40,23 @@ pub record AreSameTrees (before after : Trees) : Type 0 where
   pub value : after.value ≡ before.value
 
 -- Nothing was spent.
-pub record OnlyMarks (before after : Trees) : Type 0 where
+pub record HaveMarked (before after : Trees) : Type 0 where
   pub stays : AreSameTrees before after
   pub left : after.left ≡ before.left
 
 -- At most something was spent.
-pub record OnlySpends (before after : Trees) : Type 0 where
+pub record HaveSpent (before after : Trees) : Type 0 where
   pub stays : AreSameTrees before after
   pub left : after.left ≤ before.left
 
 -- Half-arcs were looked at, and each look is paid by the trees.
-pub record HasLooked (before : Table) (trees : Trees) (after : Table) (trees' : Trees) : Type 0 where
+pub record HaveLooked (before : Table) (trees : Trees) (after : Table) (trees' : Trees) : Type 0 where
   pub stays : AreSameTrees trees trees'
   pub paid : PaysLooks before trees.left after trees'.left
 
 -- The trees have grown on: the task has a flow still, of their value, and its steps are paid by them. They have as many
 -- cells as before.
-pub record HasGrown (job : Task) (before : Table) (trees : Trees) (after : Table) (trees' : Trees) : Type 0 where
+pub record HaveGrown (job : Task) (before : Table) (trees : Trees) (after : Table) (trees' : Trees) : Type 0 where
   pub size : length trees'.cells.now ≡ length trees.cells.now
   pub kept : KeepsFlow job before trees.left after trees'.value trees'.left
 

@@ -11,8 +11,8 @@ ghost use Rattle.flow_net.specs.NodeSets.{one_of};
 ghost use Rattle.flow_net.specs.Flows.{Fits};
 ghost use Rattle.flow_solve.specs.residual.Packs.{IsPacked};
 ghost use Rattle.flow_solve.specs.Task.{HasFlow, IsTask};
-ghost use Rattle.flow_solve.specs.levels.Trees.{supplied_by, AreGrowing, AreSameTrees, HasCells, HasGrown};
-ghost use Rattle.flow_solve.specs.levels.Trees.{HasTreeCells, IsSupplied, OnlyMarks};
+ghost use Rattle.flow_solve.specs.levels.Trees.{supplied_by, AreGrowing, AreSameTrees, HaveCells, HaveGrown};
+ghost use Rattle.flow_solve.specs.levels.Trees.{HasTreeCells, IsSupplied, HaveMarked};
 ghost use Rattle.flow_solve.specs.Steps.{PaysLooks, TakesSteps};
 
 use crate::levels::spending::spend;
@@ -114,7 +114,7 @@ fn push_along(
     ensures supplied { IfSome result (λ root. IsSupplied chain.direction packed.entry.net.now amount chain.node
         root flow.old.flows flow.new.flows) }
     ensures steps { TakesSteps flow.old flow.new (2 * chain.len) }
-    ensures marks { OnlyMarks trees.old trees.new }
+    ensures marks { HaveMarked trees.old trees.new }
 {
     let net = packed.net;
     let mut node = chain.node;
@@ -140,7 +140,7 @@ fn push_along(
 
 /// Whether a node is one of some terminals, by the place among them that stands in its parent's cell.
 fn is_root(trees: &Trees<'_>, terminals: &[u32], node: u32) -> bool
-    requires node { HasCells trees.now node }
+    requires node { HaveCells trees.now node }
     ensures { IsTrue result → IsTrue (one_of terminals.now node) }
 {
     let place = trees.parent(node) as usize;
@@ -172,7 +172,7 @@ fn push_through(task: Task<'_>, flow: &mut FlowTable, trees: &mut Trees<'_>, tou
     ensures flow { IsTrue result → (k : ℕ) → HasFlow task.entry flow.old.flows k
         → HasFlow task.entry flow.new.flows (k + touch.amount) }
     ensures steps { TakesSteps flow.old flow.new (2 * (touch.before + touch.behind + 1)) }
-    ensures marks { OnlyMarks trees.old trees.new }
+    ensures marks { HaveMarked trees.old trees.new }
 {
     let packed = task.packed;
     let amount = touch.amount;
@@ -213,7 +213,7 @@ pub(crate) fn augment_over(
 ) -> u64
     requires growing { AreGrowing task flow.old trees.old }
     requires half { half < 2 * length task.packed.net.now.arcs }
-    ensures { HasGrown task.entry flow.old trees.old flow.new trees.new }
+    ensures { HaveGrown task.entry flow.old trees.old flow.new trees.new }
 {
     let packed = task.packed;
     if !spend(&mut trees.left, COST) {

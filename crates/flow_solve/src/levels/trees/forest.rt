@@ -7,7 +7,7 @@
 //! the half-arc to its parent, its *stamp*, which is counted in augmentations, and its parent, so that a walk reads no
 //! arc. Behind them stands for each node the next active one.
 ghost use Rattle.std.specs.Prelude.{◌≡◌, ◌-◌, ◌*◌, ◌≤◌, IsTrue, IsFalse, length, slice_index};
-ghost use Rattle.flow_solve.specs.levels.Trees.{HasCells, OnlyMarks};
+ghost use Rattle.flow_solve.specs.levels.Trees.{HaveCells, HaveMarked};
 
 use crate::residual::cells::{END, get, put};
 use crate::residual::half_arcs::Direction;
@@ -146,7 +146,7 @@ impl Trees<'_> {
     /// Whether there are cells for a node.
     #[inline(always)]
     pub(crate) fn has_cells(&self, node: u32) -> bool
-        ensures { IsTrue result → HasCells self.now node }
+        ensures { IsTrue result → HaveCells self.now node }
     {
         1 <= node && 4 * node as usize <= self.cells.len()
     }
@@ -154,7 +154,7 @@ impl Trees<'_> {
     /// A node's label.
     #[inline(always)]
     pub(crate) fn label(&self, node: u32) -> u32
-        requires { HasCells self.now node }
+        requires { HaveCells self.now node }
     {
         label_in(self.cells, node)
     }
@@ -162,7 +162,7 @@ impl Trees<'_> {
     /// The half-arc from a node to its parent.
     #[inline(always)]
     pub(crate) fn parent(&self, node: u32) -> u32
-        requires { HasCells self.now node }
+        requires { HaveCells self.now node }
     {
         parent_in(self.cells, node)
     }
@@ -170,7 +170,7 @@ impl Trees<'_> {
     /// A node's stamp.
     #[inline(always)]
     pub(crate) fn stamp(&self, node: u32) -> u32
-        requires { HasCells self.now node }
+        requires { HaveCells self.now node }
     {
         self.cells[stamp_cell(node)]
     }
@@ -178,7 +178,7 @@ impl Trees<'_> {
     /// A node's parent.
     #[inline(always)]
     pub(crate) fn above(&self, node: u32) -> u32
-        requires { HasCells self.now node }
+        requires { HaveCells self.now node }
     {
         above_in(self.cells, node)
     }
@@ -186,8 +186,8 @@ impl Trees<'_> {
     /// Whether a node is surer of a root than another.
     #[inline(always)]
     pub(crate) fn is_surer(&self, node: u32, other: u32) -> bool
-        requires node { HasCells self.now node }
-        requires other { HasCells self.now other }
+        requires node { HaveCells self.now node }
+        requires other { HaveCells self.now other }
     {
         self.stamp(node) > self.stamp(other)
     }
@@ -195,8 +195,8 @@ impl Trees<'_> {
     /// Sets a node free.
     #[inline(always)]
     pub(crate) fn set_free(&mut self, node: u32)
-        requires { HasCells self.old node }
-        ensures { OnlyMarks self.old self.new }
+        requires { HaveCells self.old node }
+        ensures { HaveMarked self.old self.new }
     {
         self.cells[label_cell(node)] = 0;
     }
@@ -204,8 +204,8 @@ impl Trees<'_> {
     /// Gives a node its label and its stamp.
     #[inline(always)]
     pub(crate) fn mark(&mut self, node: u32, label: u32, stamp: u32)
-        requires { HasCells self.old node }
-        ensures { OnlyMarks self.old self.new }
+        requires { HaveCells self.old node }
+        ensures { HaveMarked self.old self.new }
     {
         let cells = &mut *self.cells;
         cells[label_cell(node)] = label;
@@ -215,8 +215,8 @@ impl Trees<'_> {
     /// Gives a node a parent, and the half-arc from the node to it.
     #[inline(always)]
     pub(crate) fn set_parent(&mut self, node: u32, half: u32, above: u32)
-        requires { HasCells self.old node }
-        ensures { OnlyMarks self.old self.new }
+        requires { HaveCells self.old node }
+        ensures { HaveMarked self.old self.new }
     {
         let cells = &mut *self.cells;
         cells[parent_cell(node)] = half;
@@ -226,7 +226,7 @@ impl Trees<'_> {
     /// Makes a node the root of a tree, with a label and its place among the terminals.
     pub(crate) fn set_root(&mut self, node: u32, label: u32, place: u32)
         requires { 1 ≤ node }
-        ensures { OnlyMarks self.old self.new }
+        ensures { HaveMarked self.old self.new }
     {
         let cells = &mut *self.cells;
         put(cells, label_cell(node), label);
@@ -244,7 +244,7 @@ impl Trees<'_> {
     /// Puts a node behind the active ones, if it isn't one of them.
     pub(crate) fn activate(&mut self, node: u32)
         requires { 1 ≤ node }
-        ensures { OnlyMarks self.old self.new }
+        ensures { HaveMarked self.old self.new }
     {
         if self.is_active(node) {
             return;
@@ -262,7 +262,7 @@ impl Trees<'_> {
 
     /// Takes the first of the active nodes and answers it, or answers `END`, or a number that is no node.
     pub(crate) fn next_active(&mut self) -> u32
-        ensures { OnlyMarks self.old self.new }
+        ensures { HaveMarked self.old self.new }
     {
         let node = self.active.first;
         if node < 1 || node == END {
@@ -282,7 +282,7 @@ impl Trees<'_> {
     /// Makes a node the first of the orphans.
     pub(crate) fn abandon_first(&mut self, node: u32)
         requires { 1 ≤ node }
-        ensures { OnlyMarks self.old self.new }
+        ensures { HaveMarked self.old self.new }
     {
         let cells = &mut *self.cells;
         put(cells, parent_cell(node), NO_PARENT);
@@ -296,7 +296,7 @@ impl Trees<'_> {
     /// Makes a node the last of the orphans.
     pub(crate) fn abandon_last(&mut self, node: u32)
         requires { 1 ≤ node }
-        ensures { OnlyMarks self.old self.new }
+        ensures { HaveMarked self.old self.new }
     {
         let cells = &mut *self.cells;
         put(cells, parent_cell(node), NO_PARENT);
@@ -311,7 +311,7 @@ impl Trees<'_> {
 
     /// Takes the first of the orphans and answers it, or answers `END`, or a number that is no node.
     pub(crate) fn next_orphan(&mut self) -> u32
-        ensures { OnlyMarks self.old self.new }
+        ensures { HaveMarked self.old self.new }
     {
         let node = self.orphans.first;
         if node < 1 || node == END {

@@ -3,7 +3,7 @@
 ghost use Rattle.std.specs.Prelude.{◌≡◌, ◌+◌, ◌<◌, ◌≤◌, ◌*◌, IsTrue, length};
 ghost use Rattle.flow_net.specs.Nets.{IsNode};
 ghost use Rattle.flow_net.specs.Flows.{Fits};
-ghost use Rattle.flow_solve.specs.levels.Trees.{HasCells, HasLooked, HasTreeCells, OnlyMarks, OnlySpends};
+ghost use Rattle.flow_solve.specs.levels.Trees.{HaveCells, HaveLooked, HasTreeCells, HaveMarked, HaveSpent};
 ghost use Rattle.flow_solve.specs.Steps.{OnlyLooks};
 
 use crate::levels::spending::spend;
@@ -18,8 +18,8 @@ use flow_net::FlowTable;
 /// Walks over the parents of a node to a root, or to a node that is known at this time to lead to one. Answers one more
 /// than the node's distance from the root, or `FAR` where the walk ends at an orphan or no more may be done.
 fn walk_to_root(trees: &mut Trees<'_>, node: u32) -> u32
-    requires node { HasCells trees.old node }
-    ensures spends { OnlySpends trees.old trees.new }
+    requires node { HaveCells trees.old node }
+    ensures spends { HaveSpent trees.old trees.new }
 {
     let mut node = node;
     let mut walked: u32 = 0;
@@ -41,8 +41,8 @@ fn walk_to_root(trees: &mut Trees<'_>, node: u32) -> u32
 
 /// Gives the nodes that such a walk went over the labels for their distances, and the time.
 fn mark_walk(trees: &mut Trees<'_>, node: u32, distance: u32)
-    requires node { HasCells trees.old node }
-    ensures marks { OnlyMarks trees.old trees.new }
+    requires node { HaveCells trees.old node }
+    ensures marks { HaveMarked trees.old trees.new }
 {
     let time = trees.time;
     let mut node = node;
@@ -80,7 +80,7 @@ fn offer(
     requires forest { HasTreeCells packed flow.old trees.old }
     requires half { half < 2 * length packed.net.now.arcs }
     ensures looks { OnlyLooks flow.old flow.new 1 }
-    ensures spends { OnlySpends trees.old trees.new }
+    ensures spends { HaveSpent trees.old trees.new }
 {
     let node = head(packed.net, half);
     let label = trees.label(node);
@@ -111,7 +111,7 @@ const MOST_DETOUR: u32 = 4;
 fn find_parent(packed: Packed<'_>, flow: &mut FlowTable, trees: &mut Trees<'_>, node: u32) -> bool
     requires forest { HasTreeCells packed flow.old trees.old }
     requires node { IsNode packed.net.now node }
-    ensures looked { HasLooked flow.old trees.old flow.new trees.new }
+    ensures looked { HaveLooked flow.old trees.old flow.new trees.new }
 {
     let own = trees.label(node);
     let begin = packed.first[node as usize - 1];
@@ -150,7 +150,7 @@ fn part(packed: Packed<'_>, flow: &mut FlowTable, trees: &mut Trees<'_>, own: u3
     requires forest { HasTreeCells packed flow.old trees.old }
     requires half { half < 2 * length packed.net.now.arcs }
     ensures looks { OnlyLooks flow.old flow.new 1 }
-    ensures marks { OnlyMarks trees.old trees.new }
+    ensures marks { HaveMarked trees.old trees.new }
 {
     let node = head(packed.net, half);
     let label = trees.label(node);
@@ -172,7 +172,7 @@ fn part(packed: Packed<'_>, flow: &mut FlowTable, trees: &mut Trees<'_>, own: u3
 fn free(packed: Packed<'_>, flow: &mut FlowTable, trees: &mut Trees<'_>, node: u32)
     requires forest { HasTreeCells packed flow.old trees.old }
     requires node { IsNode packed.net.now node }
-    ensures looked { HasLooked flow.old trees.old flow.new trees.new }
+    ensures looked { HaveLooked flow.old trees.old flow.new trees.new }
 {
     let own = trees.label(node);
     trees.set_free(node);
@@ -191,7 +191,7 @@ fn free(packed: Packed<'_>, flow: &mut FlowTable, trees: &mut Trees<'_>, node: u
 #[inline(never)]
 pub(crate) fn adopt(packed: Packed<'_>, flow: &mut FlowTable, trees: &mut Trees<'_>) -> bool
     requires forest { HasTreeCells packed flow.old trees.old }
-    ensures looked { HasLooked flow.old trees.old flow.new trees.new }
+    ensures looked { HaveLooked flow.old trees.old flow.new trees.new }
 {
     let nodes = packed.net.nodes();
     'orphans: while !trees.is_tired() {

@@ -4,7 +4,7 @@ use Rattle.std.proofs.Common.{◌*◌}
 use Rattle.flow_net.specs.Nets.{IsNode}
 use Rattle.flow_net.specs.Flows.{Fits}
 use Rattle.flow_solve.specs.Steps.{TakesSteps}
-use Rattle.flow_solve.specs.levels.Trees.{IsSupplied, OnlyMarks}
+use Rattle.flow_solve.specs.levels.Trees.{IsSupplied, HaveMarked}
 use Rattle.flow_solve.proofs.levels.trees.chains.push_along.Given as goal
 
 abbrev pub invariant-chain : goal.invariant-chain
@@ -14,5 +14,5 @@ invariant-chain l = record {
   supplied :
       IsSupplied l.chain.direction l.packed.net.now l.amount l.chain.node l.node l.fn.flow.flows l.flow.flows;
   steps : TakesSteps l.fn.flow l.flow (2 * l.counter);
-  marks : OnlyMarks l.fn.trees l.trees;
+  marks : HaveMarked l.fn.trees l.trees;
 }

@@ -21,7 +21,7 @@
 //!    repairs cost the more the longer paths are. That serves where the first paths are short and most of a tree
 //!    outlives a push: images, assignments, closures. Without them evacuations take 9 times as long, images 3 to 4,
 //!    stereo and clouds 2, volumes, matchings, transports and open pits 1.5 to 1.6, surfaces and densest subgraphs 1.3.
-//!    They cost a quarter of what communities take, a tenth of netlists, and a third of chains.
+//!    They cost a quarter of what communities take, and a tenth of netlists.
 //! 3. **Waves that lift** (`waves`, `settling`), where the trees had to end before their active nodes ran out. All
 //!    that can leave the sources does, and each node sends what it has received, its *excess*, on to nodes that a
 //!    search has found a level nearer to the sinks, the farthest level first (after Karzanov 1974). A node that is

@@ -12,15 +12,15 @@ use Rattle.flow_net.specs.Residual.{IsClosed}
 use Rattle.flow_net.proofs.Cuts.{strong_duality, closed_greatest, closed_minimum}
 use Rattle.flow_net.proofs.NodeLists.{place_in}
 use Rattle.flow_solve.specs.Solving.{IsFlow}
-use Rattle.flow_solve.specs.levels.Trees.{IsPassed}
+use Rattle.flow_solve.specs.levels.Trees.{IsStopped}
 
 -- the two half-arcs of one arc more
-pub passed_more : (net : Net) (xs cells : List ℕ) (i h : ℕ) → ((g : ℕ) → g < 2 * i → IsPassed net xs cells g)
-    → IsPassed net xs cells (2 * i) → IsPassed net xs cells (2 * i + 1) → h < 2 * (i + 1) → IsPassed net xs cells h
+pub passed_more : (net : Net) (xs cells : List ℕ) (i h : ℕ) → ((g : ℕ) → g < 2 * i → IsStopped net xs cells g)
+    → IsStopped net xs cells (2 * i) → IsStopped net xs cells (2 * i + 1) → h < 2 * (i + 1) → IsStopped net xs cells h
 passed_more net xs cells i h old along against l = elim (cases_eq h (2 * i)) [
-  | inl e ↦ subst (λ (g : ℕ). IsPassed net xs cells g) (sym e) along
+  | inl e ↦ subst (λ (g : ℕ). IsStopped net xs cells g) (sym e) along
   | inr n ↦ elim (cases_eq h (2 * i + 1)) [
-    | inl e ↦ subst (λ (g : ℕ). IsPassed net xs cells g) (sym e) against
+    | inl e ↦ subst (λ (g : ℕ). IsStopped net xs cells g) (sym e) against
     | inr o ↦ old h (omega arith)
   ]
 ]

@@ -75,8 +75,8 @@ abbrev pub outside : List ℕ → ℕ → Bool
 outside cells v = slice_index cells (4 * v - 4) % 2 == 0
 
 -- the half-arc doesn't lead into that tree from outside, or nothing remains on it
-abbrev pub IsPassed : Net → List ℕ → List ℕ → ℕ → Type 0
-IsPassed net xs cells h = IsTrue (outside cells (tail_of net h)) → 1 ≤ residual net xs h
+abbrev pub IsStopped : Net → List ℕ → List ℕ → ℕ → Type 0
+IsStopped net xs cells h = IsTrue (outside cells (tail_of net h)) → 1 ≤ residual net xs h
     → IsTrue (outside cells (head_of net h))
 
 -- a flow of a task has the greatest value

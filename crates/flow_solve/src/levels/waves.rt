@@ -101,20 +101,14 @@ fn sweep(packed: Packed<'_>, flow: &mut FlowTable, wave: &mut Wave<'_>)
             discharge(packed, flow, wave, node);
         } else {
             wave.farthest = wave.farthest.saturating_sub(1);
-            let ceiling = wave.farthest.saturating_add(wave.reach);
-            wave.ceiling = wave.ceiling.min(ceiling);
+            wave.ceiling = wave.ceiling.min(wave.highest());
         }
     }
 }
 
-/// How many levels the ceiling stands above the farthest excess at least. With half as many there are more searches, to
-/// much the same effect; with twice as many, frames, layers and netlists pass a third more half-arcs.
+/// The least reach. With half as many levels there are more searches, to much the same effect; with twice as many,
+/// frames, layers and netlists pass a third more half-arcs, and with 24 in the first wave frames a seventh more.
 const LEAST_REACH: u32 = 16;
-
-/// How many levels it stands above it in the first wave. Then all excess is near where it began and has most of its way
-/// to go: with 24 levels long road maps need one or two searches fewer than with 16, and take a third less time; frames
-/// and netlists pass a tenth to a quarter more half-arcs in their place. With 64 long frames pass twice as many.
-const FIRST_REACH: u32 = 24;
 
 /// The next wave's reach: twice as far where the last one took less than its search, so that chains of dead ends don't
 /// take a search for each few levels; and half as far otherwise.
@@ -157,7 +151,7 @@ fn at_rest<'a>(cells: &'a mut [u32], nodes: u32, allowance: u64) -> Wave<'a>
         turn: 0,
         farthest: 0,
         ceiling: 0,
-        reach: FIRST_REACH,
+        reach: LEAST_REACH,
         queued: 0,
         seen: 0,
         wanted: 0,

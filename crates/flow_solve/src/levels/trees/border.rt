@@ -9,7 +9,7 @@ ghost use Rattle.flow_net.specs.Limits.{IsNet};
 ghost use Rattle.flow_net.specs.Flows.{Fits};
 ghost use Rattle.flow_net.specs.Residual.{IsClosed};
 ghost use Rattle.flow_solve.specs.Task.{IsTask};
-ghost use Rattle.flow_solve.specs.levels.Trees.{outside, HasNoMore, IsPassed};
+ghost use Rattle.flow_solve.specs.levels.Trees.{outside, HasNoMore, IsStopped};
 ghost use Rattle.flow_solve.specs.Steps.{OnlyLooks};
 
 use crate::levels::trees::forest::label_in;
@@ -70,8 +70,8 @@ fn is_filled(net: &Network, flow: &mut FlowTable, cells: &[u32], arc: u32) -> bo
     requires size { 4 * net.now.nodes ≤ length cells.now }
     requires fits { Fits net.now flow.old.flows }
     requires arc { arc < length net.now.arcs }
-    ensures along { IsTrue result → IsPassed net.now flow.old.flows cells.now (2 * arc) }
-    ensures against { IsTrue result → IsPassed net.now flow.old.flows cells.now (2 * arc + 1) }
+    ensures along { IsTrue result → IsStopped net.now flow.old.flows cells.now (2 * arc) }
+    ensures against { IsTrue result → IsStopped net.now flow.old.flows cells.now (2 * arc + 1) }
     ensures looks { OnlyLooks flow.old flow.new 1 }
 {
     let along = 2 * arc;

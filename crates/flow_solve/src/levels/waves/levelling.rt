@@ -81,8 +81,7 @@ fn scan_all(packed: Packed<'_>, flow: &mut FlowTable, wave: &mut Wave<'_>)
         if node < 1 || nodes < node {
             return;
         }
-        let most = wave.farthest.saturating_add(wave.reach);
-        if wave.seen >= wave.wanted && wave.level(node) >= most {
+        if wave.seen >= wave.wanted && wave.level(node) >= wave.highest() {
             return;
         }
         scan(packed, flow, wave, node);
@@ -133,7 +132,7 @@ pub(super) fn search_levels(task: Task<'_>, flow: &mut FlowTable, wave: &mut Wav
     }
     scan_all(packed, flow, wave);
     list_all(wave);
-    wave.ceiling = wave.farthest.saturating_add(wave.reach).min(nodes - 1);
+    wave.ceiling = wave.highest().min(nodes - 1);
     wave.floor = wave.left.saturating_sub(FUEL * u64::from(packed.net.len()));
     wave.turn ^= 1;
     wave.seen > 0

@@ -1,7 +1,7 @@
 -- `are_filled`: one arc more.
 use Rattle.std.proofs.Common.{ℕ, ◌+◌, ◌*◌, List, refl, ◌∙◌, sym, subst, arith}
 use Rattle.flow_net.specs.Flows.{Fits}
-use Rattle.flow_solve.specs.levels.Trees.{IsPassed}
+use Rattle.flow_solve.specs.levels.Trees.{IsStopped}
 use Rattle.flow_solve.proofs.LevelLemmas.Border.{passed_more}
 use Rattle.flow_solve.proofs.levels.trees.border.are_filled.Goals as goal
 
@@ -9,7 +9,7 @@ pub loop-arc-preserved : goal.loop-arc-preserved
 loop-arc-preserved c =
     let old = c.loop-arc.invariant in let found = c.is_filled.ensures in
     let net = c.args.net.now in let cells = c.args.cells.now in let arc = c.loop-arc.arc in
-    let Passed : ℕ → List ℕ → Type 0 = λ h xs. IsPassed net xs cells h in
+    let Passed : ℕ → List ℕ → Type 0 = λ h xs. IsStopped net xs cells h in
     record {
       range = old.range;
       fits = subst (λ (xs : List ℕ). Fits net xs) (sym found.looks.flows) old.fits;

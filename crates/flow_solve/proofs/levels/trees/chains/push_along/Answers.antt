@@ -42,7 +42,10 @@ chain-preserved c =
         | then-room-amount-2 w ↦
             let one = w.abandon_first.ensures in
             rw w.trees-is (record {
-              stays = record { size = one.stays.size ∙ old.marks.stays.size; value = one.stays.value ∙ old.marks.stays.value };
+              stays = record {
+                size = one.stays.size ∙ old.marks.stays.size;
+                value = one.stays.value ∙ old.marks.stays.value;
+              };
               left = one.left ∙ old.marks.left;
             })
         | else-room-amount-2 w ↦ rw w.trees-is old.marks

@@ -15,8 +15,7 @@ cd "$(dirname "$0")/.."
 
 # Proves the crates that the last one is made of, lowest first, and says which. Readers and solvers don't stand on each
 # other, so they are proved side by side where there are processors for both, the readers in the folder ROOM: both
-# rest on flow_net, and where one of the kit's commands works in a folder, others wait. The readers give way, since they
-# are done long before the solvers, which wait for one another.
+# rest on flow_net, and where one of the kit's commands works in a folder, others wait.
 prove() { # LAST ROOM
   local cores
   cores=$(nproc)
@@ -25,8 +24,8 @@ prove() { # LAST ROOM
     echo "== flow_solve, and flow_text beside it"
     mkdir "$2/crates" && grep -E '^flow_(net|text):' crates.txt > "$2/crates.txt" || return 1
     cp -a crates/flow_net crates/flow_text "$2/crates" || return 1
-    (cd "$2/crates/flow_text" && exec nice -n 19 rt lib --jobs 1 > /dev/null) &
-    (cd crates/flow_solve && rt lib --jobs "$cores") || return 1
+    (cd "$2/crates/flow_text" && exec rt lib --jobs 1 > /dev/null) &
+    (cd crates/flow_solve && rt lib --jobs $((cores - 1))) || return 1
     if wait $!; then # else it is proved again below, which tells why it fails
       rm -rf crates/flow_text/out
       mv "$2/crates/flow_text/out" crates/flow_text

@@ -15,9 +15,9 @@ use Rattle.flow_solve.specs.Solving.{IsFlow}
 use Rattle.flow_solve.specs.levels.Trees.{IsStopped}
 
 -- the two half-arcs of one arc more
-pub passed_more : (net : Net) (xs cells : List ℕ) (i h : ℕ) → ((g : ℕ) → g < 2 * i → IsStopped net xs cells g)
+pub stopped_more : (net : Net) (xs cells : List ℕ) (i h : ℕ) → ((g : ℕ) → g < 2 * i → IsStopped net xs cells g)
     → IsStopped net xs cells (2 * i) → IsStopped net xs cells (2 * i + 1) → h < 2 * (i + 1) → IsStopped net xs cells h
-passed_more net xs cells i h old along against l = elim (cases_eq h (2 * i)) [
+stopped_more net xs cells i h old along against l = elim (cases_eq h (2 * i)) [
   | inl e ↦ subst (λ (g : ℕ). IsStopped net xs cells g) (sym e) along
   | inr n ↦ elim (cases_eq h (2 * i + 1)) [
     | inl e ↦ subst (λ (g : ℕ). IsStopped net xs cells g) (sym e) against

@@ -86,14 +86,14 @@ fn excess_cell(nodes: u32, node: u32) -> usize
 
 /// Where the farthest excess has a long way to go, the ceiling stands one level higher for so many levels of that way,
 /// since what waits for the next search has it before it again. With none, long road maps pass a tenth to a quarter
-/// more half-arcs; with twice as many, wide frames and meshes up to a tenth more.
+/// more half-arcs; with one for each 64 levels, wide frames and meshes up to a tenth more.
 const WAY_PER_LEVEL: u32 = 128;
 
 /// By so many levels at most: with no bound, the longest road maps pass three times as many half-arcs.
 const MOST_LEVELS_MORE: u32 = 16;
 
 impl Wave<'_> {
-    /// How high the ceiling may stand above the farthest excess.
+    /// The highest level at which the ceiling may stand.
     pub(super) fn highest(&self) -> u32 {
         let more = (self.farthest / WAY_PER_LEVEL).min(MOST_LEVELS_MORE);
         self.farthest

@@ -9,6 +9,6 @@ abbrev pub invariant-loop-arc : goal.invariant-loop-arc
 invariant-loop-arc l = record {
   range : l.arc-end ≡ length l.net.arcs;
   fits : Fits l.net l.flow.flows;
-  passed : (h : ℕ) → h < 2 * l.arc → IsStopped l.net l.fn.flow.flows l.cells h;
+  stopped : (h : ℕ) → h < 2 * l.arc → IsStopped l.net l.fn.flow.flows l.cells h;
   looks : OnlyLooks l.fn.flow l.flow l.arc;
 }

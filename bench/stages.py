@@ -17,7 +17,7 @@ SOURCES = 'crates/flow_solve/src/levels'
 EDITS = {
     'near sends': (f'{SOURCES}.rt', 'send_near(task, flow, cells, Sent { value, left: given });',
                    'Sent { value, left: given };'),
-    'trees': (f'{SOURCES}/trees.rt', 'const FIRST_SHARE: u64 = 4;', 'const FIRST_SHARE: u64 = 0;'),
+    'trees': (f'{SOURCES}/trees.rt', 'const FIRST_SHARE: u64 = 2;', 'const FIRST_SHARE: u64 = 0;'),
     'waves': (f'{SOURCES}.rt', 'const REST_SHARE: u64 = 2 * 1024 + 1;', 'const REST_SHARE: u64 = 0;'),
 }
 BEGIN = '<!-- stages: begin -->'

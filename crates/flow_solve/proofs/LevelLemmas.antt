@@ -12,6 +12,7 @@ pub mod Levelled
 pub mod WalkPaths
 pub mod Turning
 pub mod Carried
+pub mod Entries
 pub mod Settled
 pub mod Waving
 pub mod Border

@@ -22,6 +22,10 @@ phase_bound net = 3 * (net.nodes - 1) * length net.arcs + length net.arcs
 abbrev pub phases_bound : Net → ℕ
 phases_bound net = 3 * net.nodes * net.nodes * length net.arcs
 
+-- how many steps its stages before them take at most
+abbrev pub openings_bound : Net → ℕ
+openings_bound net = net.nodes * net.nodes * length net.arcs
+
 -- how many steps the method by levels takes at most
 abbrev pub levels_bound : Net → ℕ
 levels_bound net = 4 * net.nodes * net.nodes * length net.arcs

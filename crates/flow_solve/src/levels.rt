@@ -45,6 +45,11 @@
 //! source to a sink isn't kept, and it is tested that they are finished. Of waves no more is claimed than what their
 //! end tests. A stage may leave wherever it is.
 //!
+//! In pictures near sends and trees work in rows of *entries* (`rows`, `entries`): one for an arc and its opposite,
+//! where these stand side by side, and none for what leads to a terminal, so that half as much is gone over. Where the
+//! trees finish nothing else is packed; the later stages want each half-arc in its row, and pack anew. Elsewhere all
+//! stages share the packed half-arcs, each of which is an entry by itself.
+//!
 //! What near sends and trees take is counted off an allowance of 128 steps for each arc, and what the waves take off
 //! the rest of `n²·m`, at most 1024 steps for each arc in each direction; a half-arc that is passed by without a look,
 //! or a node that is walked over, counts as a step too. The phases take at most `3·n²·m` from any feasible flow, so
@@ -53,22 +58,36 @@
 //! In a dense network the phases follow the near sends. The trees grow no farther than until the nearest source and
 //! sink are found to be far apart, since then much flow goes far, and paths one by one bring little. There the waves
 //! begin.
-ghost use Rattle.std.specs.Prelude.{◌+◌, ◌*◌, ◌≤◌, length};
-ghost use Rattle.flow_solve.specs.Bounds.{levels_bound};
+ghost use Rattle.std.specs.Prelude.{◌≡◌, ◌+◌, ◌*◌, ◌≤◌, IsTrue, drop, length};
+ghost use Rattle.flow_net.specs.Limits.{AreTerminals};
+ghost use Rattle.flow_net.specs.NodeSets.{one_of};
+ghost use Rattle.flow_net.specs.Flows.{Fits, IsGreatest};
+ghost use Rattle.flow_net.specs.LeastCuts.{IsLeastCapacity};
+ghost use Rattle.flow_solve.specs.Bounds.{levels_bound, openings_bound, phases_bound, work_cells};
+ghost use Rattle.flow_solve.specs.residual.Packs.{ArePackedBehind};
+ghost use Rattle.flow_solve.specs.Solving.{IsFlow};
+ghost use Rattle.flow_solve.specs.Steps.{PaysSteps, TakesSteps};
+ghost use Rattle.flow_solve.specs.Task.{HasFlow, IsTask};
+ghost use Rattle.flow_solve.specs.levels.Entries.{IsOpening};
+ghost use Rattle.flow_solve.specs.levels.Trees.{HasNoMore};
 
+pub(crate) mod entries;
 pub(crate) mod near_sends;
 pub(crate) mod phases;
+pub(crate) mod rows;
 mod spending;
 pub(crate) mod trees;
 mod walking;
 pub(crate) mod waves;
 
-use crate::method::Method;
-use crate::solving::{Raise, solve};
-use crate::task::{Given, Task};
+use crate::method::{Method, work_len};
+use crate::residual::packing::{Packed, pack_behind};
+use crate::solving::{Raise, raise_packed, solve};
+use crate::task::{Given, Sent, Task};
 use flow_net::{FlowTable, Network};
-use near_sends::{Sent, send_near};
+use near_sends::send_near;
 use phases::run_phases;
+use rows::{is_like_a_picture, pack_rows};
 use trees::grow_trees;
 use waves::send_waves;
 
@@ -89,7 +108,7 @@ const OPENING_SHARE: u64 = 128;
 
 /// How much the first stages may take.
 pub fn allowance(net: &Network) -> u64
-    ensures { result ≤ net.now.nodes * net.now.nodes * length net.now.arcs }
+    ensures { result ≤ openings_bound net.now }
 {
     let n = u64::from(net.nodes());
     (n * n).min(OPENING_SHARE) * u64::from(net.len())
@@ -102,8 +121,8 @@ const REST_SHARE: u64 = 2 * 1024 + 1;
 
 /// How much the waves may take of what is left of `n²·m`, in 64 bits.
 fn share_of_rest(net: &Network, given: u64) -> u64
-    requires { given ≤ net.now.nodes * net.now.nodes * length net.now.arcs }
-    ensures { result + given ≤ net.now.nodes * net.now.nodes * length net.now.arcs }
+    requires { given ≤ openings_bound net.now }
+    ensures { result + given ≤ openings_bound net.now }
 {
     let n = u64::from(net.nodes());
     let m = u64::from(net.len());
@@ -113,29 +132,115 @@ fn share_of_rest(net: &Network, given: u64) -> u64
         .min(REST_SHARE * m)
 }
 
-/// How much the stages that repair may take.
+/// What the first stages have reached.
 #[derive(Clone, Copy)]
-struct Shares {
-    /// The trees.
-    trees: u64,
-    /// The waves.
-    waves: u64,
+struct Opened {
+    /// The flow's value, and what the waves may take.
+    sent: Sent,
+    /// Whether no path is left.
+    is_finished: bool,
 }
 
-/// How much the stages that repair may take, where the near sends have left so much of what was given: nothing in a
-/// dense network.
-fn share_out(net: &Network, given: u64, left: u64) -> Shares
-    requires given { given ≤ net.now.nodes * net.now.nodes * length net.now.arcs }
-    ensures trees { result.trees ≤ left }
-    ensures waves { result.waves + given ≤ net.now.nodes * net.now.nodes * length net.now.arcs }
+/// Raises a flow of some value by near sends, and where the network isn't dense by trees. Where these have ended no path
+/// is left for the waves, so that they may take nothing.
+fn begin(task: Task<'_>, flow: &mut FlowTable, cells: &mut [u32], value: u128) -> Opened
+    requires task { IsOpening task }
+    requires cells { length cells.old ≡ 5 * task.packed.net.now.nodes }
+    requires flow { HasFlow task flow.old.flows value }
+    ensures flow { HasFlow task.entry flow.new.flows result.sent.value }
+    ensures greatest { IsTrue result.is_finished → HasNoMore task.entry flow.new.flows }
+    ensures steps { PaysSteps flow.old (openings_bound task.entry.packed.net.now) flow.new result.sent.left }
 {
+    let net = task.packed.net;
+    let given = allowance(net);
+    let sent = send_near(task, flow, cells, Sent { value, left: given });
     if is_dense(net) {
-        return Shares { trees: 0, waves: 0 };
+        return Opened {
+            sent: Sent {
+                value: sent.value,
+                left: 0,
+            },
+            is_finished: false,
+        };
     }
-    Shares {
-        trees: left,
-        waves: share_of_rest(net, given),
+    let grown = grow_trees(task, flow, cells, sent.value, sent.left);
+    Opened {
+        sent: Sent {
+            value: grown.value,
+            left: if grown.has_ended {
+                0
+            } else {
+                share_of_rest(net, given)
+            },
+        },
+        is_finished: grown.is_finished,
     }
+}
+
+/// Raises a flow of some value to the greatest one by waves and phases.
+fn go_on(task: Task<'_>, flow: &mut FlowTable, cells: &mut [u32], begun: Sent) -> u128
+    requires task { IsTask task }
+    requires cells { length cells.old ≡ 5 * task.packed.net.now.nodes }
+    requires flow { HasFlow task flow.old.flows begun.value }
+    ensures flow { HasFlow task.entry flow.new.flows result }
+    ensures greatest { IsGreatest task.entry.packed.net.now (one_of task.entry.s.now) (one_of task.entry.t.now) result }
+    ensures least { IsLeastCapacity task.entry.packed.net.now (one_of task.entry.s.now) (one_of task.entry.t.now)
+        result }
+    ensures steps { TakesSteps flow.old flow.new (begun.left + phases_bound task.entry.packed.net.now) }
+{
+    let value = send_waves(task, flow, cells, begun);
+    run_phases(task, flow, cells, value)
+}
+
+/// Raises the flow that carries nothing by the first stages, over rows of entries that are packed for them alone.
+fn begin_in_rows(given: Given<'_>, flow: &mut FlowTable, own: &mut [u32]) -> Opened
+    requires terminals { AreTerminals given.net.now given.s.now given.t.now }
+    requires cells { length own.old ≡ work_cells given.net.now }
+    requires flow { IsFlow given.net.now given.s.now given.t.now flow.old.flows 0 }
+    ensures flow { IsFlow given.entry.net.now given.entry.s.now given.entry.t.now flow.new.flows result.sent.value }
+    ensures greatest { IsTrue result.is_finished → IsGreatest given.entry.net.now (one_of given.entry.s.now)
+        (one_of given.entry.t.now) result.sent.value }
+    ensures least { IsTrue result.is_finished → IsLeastCapacity given.entry.net.now (one_of given.entry.s.now)
+        (one_of given.entry.t.now) result.sent.value }
+    ensures steps { PaysSteps flow.old (openings_bound given.entry.net.now) flow.new result.sent.left }
+{
+    let Given { net, s, t } = given;
+    let n = net.nodes() as usize;
+    let (cells, behind) = own.split_at_mut(5 * n);
+    let (first, behind) = behind.split_at_mut(n + 1);
+    let (halves, _spare) = behind.split_at_mut(2 * net.len() as usize);
+    let (marks, _free) = cells.split_at_mut(n);
+    pack_rows(net, s, t, marks, first, halves);
+    let packed = Packed { net, first, halves };
+    begin(Task { packed, s, t }, flow, cells, 0)
+}
+
+/// The same in the first cells of a slice.
+fn begin_before(given: Given<'_>, flow: &mut FlowTable, work: &mut [u32]) -> Opened
+    requires terminals { AreTerminals given.net.now given.s.now given.t.now }
+    requires cells { work_cells given.net.now ≤ length work.old }
+    requires flow { IsFlow given.net.now given.s.now given.t.now flow.old.flows 0 }
+    ensures flow { IsFlow given.entry.net.now given.entry.s.now given.entry.t.now flow.new.flows result.sent.value }
+    ensures greatest { IsTrue result.is_finished → IsGreatest given.entry.net.now (one_of given.entry.s.now)
+        (one_of given.entry.t.now) result.sent.value }
+    ensures least { IsTrue result.is_finished → IsLeastCapacity given.entry.net.now (one_of given.entry.s.now)
+        (one_of given.entry.t.now) result.sent.value }
+    ensures steps { PaysSteps flow.old (openings_bound given.entry.net.now) flow.new result.sent.left }
+    ensures rest { drop (work_cells given.entry.net.now) work.new ≡ drop (work_cells given.entry.net.now) work.old }
+{
+    let (own, _rest) = work.split_at_mut(work_len(given.net.nodes(), given.net.len()));
+    begin_in_rows(given, flow, own)
+}
+
+/// Whether rows of entries serve the first stages better than packed half-arcs.
+fn suits_rows(given: Given<'_>, work: &mut [u32]) -> bool
+    requires terminals { AreTerminals given.net.now given.s.now given.t.now }
+    requires cells { work_cells given.net.now ≤ length work.old }
+    ensures rest { drop (work_cells given.entry.net.now) work.new ≡ drop (work_cells given.entry.net.now) work.old }
+{
+    let (own, _rest) = work.split_at_mut(work_len(given.net.nodes(), given.net.len()));
+    let (marks, _free) = own.split_at_mut(given.net.nodes() as usize);
+    is_like_a_picture(given.net, given.s, given.t, marks)
 }
 
 /// Augments along shortest paths, level by level, in phases: a search backwards from the sinks ranks the nodes, the
@@ -146,22 +251,69 @@ pub struct Levels;
 impl Raise for Levels {
     ghost steps_bound = { levels_bound };
 
-    fn raise(task: Task<'_>, flow: &mut FlowTable, cells: &mut [u32], value: u128) -> u128 {
-        let net = task.packed.net;
-        let given = allowance(net);
-        let sent = send_near(task, flow, cells, Sent { value, left: given });
-        let Shares { trees, waves } = share_out(net, given, sent.left);
-        let grown = grow_trees(task, flow, cells, sent.value, trees);
-        if grown.is_finished {
-            return grown.value;
+    fn raise(task: Task<'_>, flow: &mut FlowTable, cells: &mut [u32], begun: Sent) -> u128 {
+        let opened = begin(task, flow, cells, begun.value);
+        if opened.is_finished {
+            return opened.sent.value;
         }
-        // Where the trees have ended no path is left for the waves.
-        let begun = Sent {
-            value: grown.value,
-            left: if grown.has_ended { 0 } else { waves },
+        go_on(task, flow, cells, opened.sent)
+    }
+}
+
+/// What is left of the method where its first stages have run over rows.
+struct Later;
+
+impl Raise for Later {
+    ghost steps_bound = { phases_bound };
+
+    fn raise(task: Task<'_>, flow: &mut FlowTable, cells: &mut [u32], begun: Sent) -> u128 {
+        go_on(task, flow, cells, begun)
+    }
+}
+
+/// What the stages leave.
+#[derive(Clone, Copy)]
+struct Ran {
+    /// The greatest value.
+    value: u128,
+    /// Whether the half-arcs stand packed in the cells of the solver.
+    is_packed: bool,
+}
+
+/// Runs the stages, the first ones over rows of entries where these serve better.
+fn run_stages(given: Given<'_>, flow: &mut FlowTable, work: &mut [u32]) -> Ran
+    requires fits { Fits given.net.now flow.old.flows }
+    requires terminals { AreTerminals given.net.now given.s.now given.t.now }
+    requires cells { work_cells given.net.now ≤ length work.old }
+    ensures flow { IsFlow given.entry.net.now given.entry.s.now given.entry.t.now flow.new.flows result.value }
+    ensures greatest { IsGreatest given.entry.net.now (one_of given.entry.s.now) (one_of given.entry.t.now)
+        result.value }
+    ensures least { IsLeastCapacity given.entry.net.now (one_of given.entry.s.now) (one_of given.entry.t.now)
+        result.value }
+    ensures steps { TakesSteps flow.old flow.new (levels_bound given.entry.net.now) }
+    ensures packed { IsTrue result.is_packed → ArePackedBehind given.entry.net.now work.new }
+    ensures rest { drop (work_cells given.entry.net.now) work.new ≡ drop (work_cells given.entry.net.now) work.old }
+{
+    flow.clear();
+    if !suits_rows(given, work) {
+        let value = solve::<Levels>(given, flow, work);
+        return Ran {
+            value,
+            is_packed: true,
         };
-        let value = send_waves(task, flow, cells, begun);
-        run_phases(task, flow, cells, value)
+    }
+    let opened = begin_before(given, flow, work);
+    if opened.is_finished {
+        return Ran {
+            value: opened.sent.value,
+            is_packed: false,
+        };
+    }
+    pack_behind(given.net, work);
+    let value = raise_packed::<Later>(given, flow, work, opened.sent);
+    Ran {
+        value,
+        is_packed: true,
     }
 }
 
@@ -173,6 +325,16 @@ impl Method for Levels {
         (n * n).saturating_mul(u64::from(net.len()))
     }
 
+    fn greatest_flow(
+        net: &Network,
+        s: &[u32],
+        t: &[u32],
+        flow: &mut FlowTable,
+        work: &mut [u32],
+    ) -> u128 {
+        run_stages(Given { net, s, t }, flow, work).value
+    }
+
     fn greatest(
         net: &Network,
         s: &[u32],
@@ -180,6 +342,10 @@ impl Method for Levels {
         flow: &mut FlowTable,
         work: &mut [u32],
     ) -> u128 {
-        solve::<Levels>(Given { net, s, t }, flow, work)
+        let ran = run_stages(Given { net, s, t }, flow, work);
+        if !ran.is_packed {
+            pack_behind(net, work);
+        }
+        ran.value
     }
 }

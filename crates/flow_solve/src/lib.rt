@@ -19,8 +19,8 @@
 //! | Cells | What they hold |
 //! |---|---|
 //! | `5·n` | what is worked on; whoever works in them lays them out at the head of its file |
-//! | `n + 1` | where each node's half-arcs begin in the next cells |
-//! | `2·m` | the half-arcs, those of a node side by side |
+//! | `n + 1` | where each node's half-arcs, or entries for them, begin in the next cells |
+//! | `2·m` | the half-arcs or entries, those of a node side by side |
 //! | `1` | spare |
 //!
 //! Labels, levels, parents, lists and excess, as trees, waves and forests keep them in these cells, are *hints*:

@@ -27,8 +27,28 @@ pub trait Method {
         ensures { result ≤ steps_bound net.now };
 
     /// Leaves a feasible flow of the greatest value in the table, with nothing on self-loops, and answers that value.
-    /// Whatever flow the table carries is cleared first. `s` has the sources and `t` the sinks. The half-arcs stand
-    /// packed in `work` afterwards.
+    /// Whatever flow the table carries is cleared first. `s` has the sources and `t` the sinks. What the cells hold
+    /// afterwards isn't told.
+    fn greatest_flow(
+        net: &Network,
+        s: &[u32],
+        t: &[u32],
+        flow: &mut FlowTable,
+        work: &mut [u32],
+    ) -> u128
+        requires fits { Fits net.now flow.old.flows }
+        requires terminals { AreTerminals net.now s.now t.now }
+        requires cells { work_cells net.now ≤ length work.old }
+        ensures feasible { IsFeasible net.now (one_of s.now) (one_of t.now) flow.new.flows }
+        ensures value { HasValue net.now (one_of s.now) flow.new.flows result }
+        ensures greatest { IsGreatest net.now (one_of s.now) (one_of t.now) result }
+        ensures least { IsLeastCapacity net.now (one_of s.now) (one_of t.now) result }
+        ensures loops { HasNoLoops net.now flow.new.flows }
+        ensures never_lowered { flow.old.steps ≤ flow.new.steps }
+        ensures steps { flow.new.steps ≤ flow.old.steps + steps_bound net.now }
+        ensures rest { drop (work_cells net.now) work.new ≡ drop (work_cells net.now) work.old };
+
+    /// As [`greatest_flow`](Method::greatest_flow), and leaves the half-arcs packed in `work`, for whoever searches on.
     fn greatest(net: &Network, s: &[u32], t: &[u32], flow: &mut FlowTable, work: &mut [u32]) -> u128
         requires fits { Fits net.now flow.old.flows }
         requires terminals { AreTerminals net.now s.now t.now }

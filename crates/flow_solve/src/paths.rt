@@ -24,7 +24,7 @@ use crate::method::Method;
 use crate::residual::half_arcs::{Direction, head};
 use crate::residual::searching::{Plan, WANTED, search};
 use crate::solving::{Raise, solve};
-use crate::task::{Given, Task};
+use crate::task::{Given, Sent, Task};
 use flow_net::{FlowTable, Network};
 
 /// The first of some nodes that a search has seen.
@@ -142,7 +142,7 @@ pub struct Paths;
 impl Raise for Paths {
     ghost steps_bound = { paths_bound };
 
-    fn raise(task: Task<'_>, flow: &mut FlowTable, cells: &mut [u32], value: u128) -> u128 {
+    fn raise(task: Task<'_>, flow: &mut FlowTable, cells: &mut [u32], begun: Sent) -> u128 {
         let Task { packed, s, t } = task;
         let n = packed.net.nodes() as usize;
         let (dist, rest) = cells.split_at_mut(n);
@@ -155,7 +155,7 @@ impl Raise for Paths {
             until: s,
             enough: 1,
         };
-        let mut raised = value;
+        let mut raised = begun.value;
         while let Some(source) = find_trail(plan, flow, dist, via, queue) {
             let trail = Trail {
                 net: packed.net,
@@ -174,6 +174,16 @@ impl Method for Paths {
 
     fn spare_steps(net: &Network) -> u64 {
         u64::from(net.nodes()) * u64::from(net.len())
+    }
+
+    fn greatest_flow(
+        net: &Network,
+        s: &[u32],
+        t: &[u32],
+        flow: &mut FlowTable,
+        work: &mut [u32],
+    ) -> u128 {
+        Paths::greatest(net, s, t, flow, work)
     }
 
     fn greatest(

@@ -17,10 +17,19 @@ pub(crate) struct Given<'a> {
 /// What is worked on.
 #[derive(Clone, Copy)]
 pub struct Task<'a> {
-    /// The network with its half-arcs side by side.
+    /// The network with its half-arcs side by side, or with rows of entries.
     pub packed: Packed<'a>,
     /// The sources.
     pub s: &'a [u32],
     /// The sinks.
     pub t: &'a [u32],
+}
+
+/// A flow's value, and what may still be done.
+#[derive(Clone, Copy)]
+pub struct Sent {
+    /// The value.
+    pub value: u128,
+    /// How many steps may still be taken, and half-arcs passed by.
+    pub left: u64,
 }

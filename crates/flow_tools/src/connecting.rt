@@ -37,7 +37,7 @@ fn pair_value<M: Method>(
 {
     // Brings the network's limits, `IsNet`, into the proof.
     let _ = net.nodes();
-    M::greatest(net, s, t, flow, work) as u64
+    M::greatest_flow(net, s, t, flow, work) as u64
 }
 
 /// The node that follows a node in the circle of all nodes.

@@ -7,10 +7,12 @@ ghost use Rattle.std.specs.List.{All};
 ghost use Rattle.flow_solve.specs.Bounds.{work_cells};
 ghost use Rattle.flow_solve.specs.Solving.{IsFlow};
 ghost use Rattle.flow_solve.specs.Task.{HasFlow, IsTask};
+ghost use Rattle.flow_solve.specs.levels.Entries.{IsOpening};
 
 mod forests;
 mod known;
 mod near_sends;
+mod rows;
 mod trees;
 mod waves;
 
@@ -274,16 +276,18 @@ fn random_node(random: &mut Random, nodes: u32) -> u32
 }
 
 /// Adds arcs between any two nodes, fewer than a number of them and some in both directions: self-loops, parallel and
-/// opposite arcs among them, small capacities and the largest. Answers whether all of them were added.
+/// opposite arcs among them, in some networks beside each arc; small capacities and the largest. Answers whether all of
+/// them were added.
 #[must_use]
 fn add_arcs(net: &mut Network, random: &mut Random, limit: u64) -> bool
     requires { 0 < limit }
 {
+    let one_of = 1 + random.below(4);
     for _ in 0..random.below(limit) {
         let src = random_node(random, net.nodes());
         let dst = random_node(random, net.nodes());
         let cap = [0, 1, 2, 3, 5, 8, 100, u64::MAX][random.below(8) as usize];
-        if !add(net, src, dst, cap) || random.below(4) == 0 && !add(net, dst, src, cap) {
+        if !add(net, src, dst, cap) || random.below(one_of) == 0 && !add(net, dst, src, cap) {
             return false;
         }
     }
@@ -347,17 +351,24 @@ fn all_sets_agree(rt: HostRuntime) {
     assert!(&rt; tried > 100);
 }
 
-/// A stage of [`Levels`] before the phases, or several of them, and how much they may take.
+/// Stages of [`Levels`] before the phases, and how much they may take.
 trait Stage {
-    /// Raises the flow that carries nothing, and answers its value.
-    fn run(&self, task: Task<'_>, flow: &mut FlowTable, cells: &mut [u32]) -> u128
-        requires task { IsTask task }
+    /// The stages that work in rows of entries: raises the flow that carries nothing, and answers its value.
+    fn begin(&self, task: Task<'_>, flow: &mut FlowTable, cells: &mut [u32]) -> u128
+        requires task { IsOpening task }
         requires cells { length cells.old ≡ 5 * task.packed.net.now.nodes }
         requires flow { HasFlow task flow.old.flows 0 }
         ensures flow { HasFlow task.entry flow.new.flows result };
+
+    /// Those that come after them: raises a flow of some value, and answers its value then.
+    fn go_on(&self, task: Task<'_>, flow: &mut FlowTable, cells: &mut [u32], value: u128) -> u128
+        requires task { IsTask task }
+        requires cells { length cells.old ≡ 5 * task.packed.net.now.nodes }
+        requires flow { HasFlow task flow.old.flows value }
+        ensures flow { HasFlow task.entry flow.new.flows result };
 }
 
-/// The values that a first stage reaches, and the phases after it, and that of the other method, if the terminals are
+/// The values that stages reach, and the phases after them, and that of the other method, if the terminals are
 /// good and there is memory.
 fn stages<'a, S: Stage>(
     alloc: Global,
@@ -379,10 +390,14 @@ fn stages<'a, S: Stage>(
     let (cells, rest) = work.split_at_mut(5 * n);
     let (first, rest) = rest.split_at_mut(n + 1);
     let (halves, _rest) = rest.split_at_mut(2 * m);
+    let (marks, _free) = cells.split_at_mut(n);
+    pack_rows(net, s, t, marks, first, halves);
+    let packed = Packed { net, first, halves };
+    let begun = stage.begin(Task { packed, s, t }, &mut flow, cells);
     pack(net, first, halves);
     let packed = Packed { net, first, halves };
     let task = Task { packed, s, t };
-    let reached = stage.run(task, &mut flow, cells);
+    let reached = stage.go_on(task, &mut flow, cells, begun);
     let raised = run_phases(task, &mut flow, cells, reached);
     let mut other = empty_flow(alloc, net)?;
     let greatest = Paths::greatest(net, s, t, &mut other, &mut work);

@@ -12,10 +12,10 @@ use Rattle.flow_solve.specs.residual.Packs.{group_of}
 use Rattle.flow_solve.specs.residual.HalfArcs.{twin_of, near_end, far_end, crossed, IsClosedFor}
 use Rattle.flow_solve.specs.residual.Searches.{IsMarked, IsCome}
 
-twin_even : (h : ℕ) → h % 2 ≡ 0 → twin_of h ≡ h + 1
+pub twin_even : (h : ℕ) → h % 2 ≡ 0 → twin_of h ≡ h + 1
 twin_even h e = ap (λ b. cond b (h + 1) (h - 1)) (eq-eqb (h % 2) 0 e)
 
-twin_odd : (h : ℕ) → h % 2 ≢ 0 → twin_of h ≡ h - 1
+pub twin_odd : (h : ℕ) → h % 2 ≢ 0 → twin_of h ≡ h - 1
 twin_odd h n = ap (λ b. cond b (h + 1) (h - 1)) (ne_eqb (h % 2) 0 n)
 
 twin_arc : (h : ℕ) → twin_of h / 2 ≡ h / 2

@@ -6,7 +6,8 @@ use Rattle.flow_net.specs.Residual.{Table, tail_of, head_of}
 use Rattle.flow_solve.specs.declared.levels.near_sends.Sending.{Sending}
 use Rattle.flow_solve.specs.declared.task.Task.{Task}
 use Rattle.flow_solve.specs.Steps.{PaysSteps}
-use Rattle.flow_solve.specs.Task.{HasFlow, IsTask}
+use Rattle.flow_solve.specs.Task.{HasFlow}
+use Rattle.flow_solve.specs.levels.Entries.{IsOpening}
 
 -- a half-arc that leads from a source to another node
 pub record IsFirst (task : Task) (h : ℕ) : Type 0 where
@@ -28,7 +29,7 @@ pub record AreLast (net : Net) (t last : List ℕ) : Type 0 where
 
 -- a task, a flow of some value, and last half-arcs
 pub record IsSending (table : Table) (sending : Sending) : Type 0 where
-  pub task : IsTask sending.task
+  pub task : IsOpening sending.task
   pub flow : HasFlow sending.task table.flows sending.value
   pub last : AreLast sending.task.packed.net.now sending.task.t.now sending.last.now
 

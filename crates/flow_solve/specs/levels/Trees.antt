@@ -12,20 +12,20 @@ use Rattle.flow_solve.specs.declared.residual.half_arcs.Direction.TheVariants.{F
 use Rattle.flow_solve.specs.declared.residual.packing.Packed.{Packed}
 use Rattle.flow_solve.specs.declared.task.Task.{Task}
 use Rattle.flow_solve.specs.residual.HalfArcs.{twin_of}
-use Rattle.flow_solve.specs.residual.Packs.{IsPacked}
-use Rattle.flow_solve.specs.Task.{HasFlow, IsTask, KeepsFlow}
+use Rattle.flow_solve.specs.Task.{HasFlow, KeepsFlow}
+use Rattle.flow_solve.specs.levels.Entries.{HasRows, IsOpening}
 use Rattle.flow_solve.specs.levels.Carrying.{IsCarried}
 use Rattle.flow_solve.specs.Steps.{PaysLooks}
 
--- a flow that fits a packed network, and cells for the trees, four for each node
+-- rows of a network, a flow that fits it, and cells for the trees, four for each node
 pub record HasTreeCells (p : Packed) (flow : Table) (trees : Trees) : Type 0 where
-  pub packed : IsPacked p.net.now p.first.now p.halves.now
+  pub rows : HasRows p.net.now p.first.now p.halves.now
   pub size : 4 * p.net.now.nodes ≤ length trees.cells.now
   pub fits : Fits p.net.now flow.flows
 
 -- trees that grow for a task, and its flow with what was pushed where they touched
 pub record AreGrowing (job : Task) (table : Table) (trees : Trees) : Type 0 where
-  pub task : IsTask job
+  pub task : IsOpening job
   pub size : 4 * job.packed.net.now.nodes ≤ length trees.cells.now
   pub flow : HasFlow job table.flows trees.value
 

@@ -10,16 +10,18 @@ ghost use Rattle.flow_net.specs.Nets.{IsNode};
 ghost use Rattle.flow_net.specs.NodeSets.{one_of};
 ghost use Rattle.flow_net.specs.Flows.{Fits};
 ghost use Rattle.flow_net.specs.Residual.{tail_of, head_of, residual};
-ghost use Rattle.flow_solve.specs.residual.Packs.{IsPacked};
-ghost use Rattle.flow_solve.specs.Task.{HasFlow, IsTask, KeepsFlow};
+ghost use Rattle.flow_solve.specs.levels.Entries.{HasRows, IsOpening};
+ghost use Rattle.flow_solve.specs.Task.{HasFlow, KeepsFlow};
 ghost use Rattle.flow_solve.specs.Steps.{OnlyLooks, TakesSteps};
 ghost use Rattle.flow_solve.specs.levels.Carrying.{IsCarried};
 ghost use Rattle.flow_solve.specs.levels.NearSends.{AreLast, IsFirst, IsSending, KeepsSending};
 
+use crate::levels::entries::{against_in, along_in};
+use crate::levels::rows::{entry_at, row_of};
 use crate::levels::spending::spend;
-use crate::residual::half_arcs::{head, twin};
+use crate::residual::half_arcs::{head, tail, twin};
 use crate::residual::packing::Packed;
-use crate::task::Task;
+use crate::task::{Sent, Task};
 use flow_net::{FlowTable, Network};
 
 /// Stands for the last half-arc of a node that has none, or none any more.
@@ -27,15 +29,6 @@ const NO_LAST: u32 = u32::MAX;
 
 /// Stands for that of a terminal: nothing is sent on over it.
 const BARRED: u32 = u32::MAX - 1;
-
-/// A flow's value, and what may still be done.
-#[derive(Clone, Copy)]
-pub struct Sent {
-    /// The value.
-    pub value: u128,
-    /// How many steps may still be taken, and half-arcs passed by.
-    pub left: u64,
-}
 
 /// Near sends under way.
 #[derive(Drop)]
@@ -50,20 +43,35 @@ struct Sending<'a, 'c> {
     left: u64,
 }
 
+/// Sets the last half-arc of the node that a half-arc leads to from a sink.
+#[inline(always)]
+fn set_next_over(net: &Network, last: &mut [u32], t: &[u32], sink: u32, half: u32)
+    requires half { half < 2 * length net.now.arcs }
+    requires is_sink { IsTrue (one_of t.now sink) }
+    requires last { AreLast net.now t.now last.old }
+    ensures { AreLast net.now t.now last.new }
+{
+    // Against an arc nothing remains before anything was sent.
+    if half % 2 == 1 && tail(net, half) == sink {
+        let node = head(net, half);
+        if node != sink {
+            last[node as usize - 1] = twin(half);
+        }
+    }
+}
+
 /// Sets the last half-arcs of the nodes next to a sink.
 fn set_next_to(packed: Packed<'_>, last: &mut [u32], t: &[u32], sink: u32)
-    requires packed { IsPacked packed.net.now packed.first.now packed.halves.now }
+    requires rows { HasRows packed.net.now packed.first.now packed.halves.now }
     requires sink { IsNode packed.net.now sink }
     requires is_sink { IsTrue (one_of t.now sink) }
     requires last { AreLast packed.net.now t.now last.old }
     ensures { AreLast packed.entry.net.now t.now last.new }
 {
-    for spot in packed.first[sink as usize - 1]..packed.first[sink as usize] {
-        let half = packed.halves[spot as usize];
-        // Against an arc nothing remains before anything was sent.
-        if half % 2 == 1 {
-            last[head(packed.net, half) as usize - 1] = twin(half);
-        }
+    let (begin, end) = row_of(packed, sink);
+    for spot in begin..end {
+        let half = against_in(entry_at(packed, sink, spot));
+        set_next_over(packed.net, last, t, sink, half);
     }
 }
 
@@ -79,7 +87,7 @@ fn bar(last: &mut [u32], terminals: &[u32])
 
 /// Sets the last half-arcs of all nodes.
 fn set_last(task: Task<'_>, last: &mut [u32])
-    requires task { IsTask task }
+    requires task { IsOpening task }
     requires size { length last.old ≡ task.packed.net.now.nodes }
     ensures { AreLast task.entry.packed.net.now task.entry.t.now last.new }
 {
@@ -110,7 +118,7 @@ fn carry(net: &Network, flow: &mut FlowTable, half: u32, amount: u64)
 
 /// How much of an amount remains on the last half-arc of a node, which is forgotten where that will fill it.
 fn fit_last(task: Task<'_>, flow: &mut FlowTable, last: &mut [u32], node: u32, most: u64) -> u64
-    requires task { IsTask task }
+    requires task { IsOpening task }
     requires fits { Fits task.packed.net.now flow.old.flows }
     requires last { AreLast task.packed.net.now task.t.now last.old }
     requires node { IsNode task.packed.net.now node }
@@ -170,9 +178,6 @@ fn send_over_two(
     requires sending { IsSending flow.old sending.old }
     requires first { IsFirst sending.old.task first }
     requires between { between < 2 * length sending.old.task.packed.net.now.arcs }
-    requires on { tail_of sending.old.task.packed.net.now between ≡ head_of sending.old.task.packed.net.now first }
-    requires apart { tail_of sending.old.task.packed.net.now between
-        ≢ head_of sending.old.task.packed.net.now between }
     requires most { most ≤ residual sending.old.task.packed.net.now flow.old.flows first }
     ensures kept { KeepsSending flow.old sending.old (sending.old.left + 1) flow.new sending.new }
     ensures sent { result ≤ most }
@@ -186,6 +191,10 @@ fn send_over_two(
     let node = head(packed.net, between);
     let end = sending.last[node as usize - 1];
     if end as usize >= packed.halves.len() {
+        return 0;
+    }
+    let here = head(packed.net, first);
+    if tail(packed.net, between) != here || here == node {
         return 0;
     }
     let (_, room) = flow.look(packed.net, between);
@@ -216,13 +225,12 @@ fn send_over(flow: &mut FlowTable, sending: &mut Sending<'_, '_>, first: u32)
     if room == 0 {
         return;
     }
-    let begin = packed.first[node as usize - 1];
-    let end = packed.first[node as usize];
+    let (begin, end) = row_of(packed, node);
     if !spend(&mut sending.left, u64::from(end - begin)) {
         return;
     }
     for spot in begin..end {
-        let between = packed.halves[spot as usize];
+        let between = along_in(entry_at(packed, node, spot));
         room -= send_over_two(flow, sending, first, between, room);
         if room == 0 {
             return;
@@ -238,11 +246,13 @@ fn send_from(flow: &mut FlowTable, sending: &mut Sending<'_, '_>, source: u32)
     ensures { KeepsSending flow.old sending.old sending.old.left flow.new sending.new }
 {
     let packed = sending.task.packed;
-    let begin = packed.first[source as usize - 1];
-    let end = packed.first[source as usize];
+    let (begin, end) = row_of(packed, source);
     if spend(&mut sending.left, u64::from(end - begin)) {
         for spot in begin..end {
-            send_over(flow, sending, packed.halves[spot as usize]);
+            let first = along_in(entry_at(packed, source, spot));
+            if tail(packed.net, first) == source && head(packed.net, first) != source {
+                send_over(flow, sending, first);
+            }
         }
     }
 }
@@ -250,7 +260,7 @@ fn send_from(flow: &mut FlowTable, sending: &mut Sending<'_, '_>, source: u32)
 /// Sends what can leave the sources to sinks over one node and over two, and takes no more steps than are allowed.
 /// Answers what the flow is worth then, and what may still be done.
 pub fn send_near(task: Task<'_>, flow: &mut FlowTable, cells: &mut [u32], begun: Sent) -> Sent
-    requires task { IsTask task }
+    requires task { IsOpening task }
     requires size { task.packed.net.now.nodes ≤ length cells.old }
     requires flow { HasFlow task flow.old.flows begun.value }
     ensures { KeepsFlow task.entry flow.old begun.left flow.new result.value result.left }

@@ -23,11 +23,10 @@ mod excess;
 mod levelling;
 mod settling;
 
-use crate::levels::near_sends::Sent;
 use crate::levels::spending::spend;
 use crate::residual::half_arcs::head;
 use crate::residual::packing::Packed;
-use crate::task::Task;
+use crate::task::{Sent, Task};
 use discharging::discharge;
 use excess::{BARRED, UNSEEN, Wave};
 use flow_net::FlowTable;

@@ -163,7 +163,7 @@ fn find_flow(network: &FlowNetwork, table: &mut FlowTable, work: &mut [u32]) -> 
     ensures { IsSolution network.now result table.new.flows }
 {
     let (net, s, t) = (network.net(), network.sources(), network.sinks());
-    Levels::greatest(net, s, t, table, work)
+    Levels::greatest_flow(net, s, t, table, work)
 }
 
 /// The same, and marks the source side of a minimum cut.

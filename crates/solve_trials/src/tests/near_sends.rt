@@ -7,12 +7,22 @@ use super::*;
 pub(super) struct Near(pub(super) u64);
 
 impl Stage for Near {
-    fn run(&self, task: Task<'_>, flow: &mut FlowTable, cells: &mut [u32]) -> u128 {
+    fn begin(&self, task: Task<'_>, flow: &mut FlowTable, cells: &mut [u32]) -> u128 {
         let begun = Sent {
             value: 0,
             left: self.0,
         };
         send_near(task, flow, cells, begun).value
+    }
+
+    fn go_on(
+        &self,
+        _task: Task<'_>,
+        _flow: &mut FlowTable,
+        _cells: &mut [u32],
+        value: u128,
+    ) -> u128 {
+        value
     }
 }
 

@@ -9,8 +9,18 @@ use super::*;
 struct Trees(u64);
 
 impl Stage for Trees {
-    fn run(&self, task: Task<'_>, flow: &mut FlowTable, cells: &mut [u32]) -> u128 {
+    fn begin(&self, task: Task<'_>, flow: &mut FlowTable, cells: &mut [u32]) -> u128 {
         grow_trees(task, flow, cells, 0, self.0).value
+    }
+
+    fn go_on(
+        &self,
+        _task: Task<'_>,
+        _flow: &mut FlowTable,
+        _cells: &mut [u32],
+        value: u128,
+    ) -> u128 {
+        value
     }
 }
 
@@ -88,7 +98,8 @@ fn grow<'a>(
     let (cells, rest) = work.split_at_mut(5 * n);
     let (first, rest) = rest.split_at_mut(n + 1);
     let (halves, _rest) = rest.split_at_mut(2 * m);
-    pack(net, first, halves);
+    let (marks, _free) = cells.split_at_mut(n);
+    pack_rows(net, s, t, marks, first, halves);
     let packed = Packed { net, first, halves };
     let task = Task { packed, s, t };
     Some(grow_trees(task, &mut flow, cells, 0, allowance))

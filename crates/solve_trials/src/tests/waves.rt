@@ -7,9 +7,13 @@ use super::*;
 struct Waves(u64);
 
 impl Stage for Waves {
-    fn run(&self, task: Task<'_>, flow: &mut FlowTable, cells: &mut [u32]) -> u128 {
+    fn begin(&self, _task: Task<'_>, _flow: &mut FlowTable, _cells: &mut [u32]) -> u128 {
+        0
+    }
+
+    fn go_on(&self, task: Task<'_>, flow: &mut FlowTable, cells: &mut [u32], value: u128) -> u128 {
         let begun = Sent {
-            value: 0,
+            value,
             left: self.0,
         };
         send_waves(task, flow, cells, begun)
@@ -24,10 +28,13 @@ struct Both {
 }
 
 impl Stage for Both {
-    fn run(&self, task: Task<'_>, flow: &mut FlowTable, cells: &mut [u32]) -> u128 {
-        let grown = grow_trees(task, flow, cells, 0, self.trees);
+    fn begin(&self, task: Task<'_>, flow: &mut FlowTable, cells: &mut [u32]) -> u128 {
+        grow_trees(task, flow, cells, 0, self.trees).value
+    }
+
+    fn go_on(&self, task: Task<'_>, flow: &mut FlowTable, cells: &mut [u32], value: u128) -> u128 {
         let begun = Sent {
-            value: grown.value,
+            value,
             left: self.waves,
         };
         send_waves(task, flow, cells, begun)

@@ -19,6 +19,16 @@ impl Method for NoStepToSpare {
         0
     }
 
+    fn greatest_flow(
+        net: &Network,
+        s: &[u32],
+        t: &[u32],
+        flow: &mut FlowTable,
+        work: &mut [u32],
+    ) -> u128 {
+        Levels::greatest_flow(net, s, t, flow, work)
+    }
+
     fn greatest(
         net: &Network,
         s: &[u32],
@@ -38,6 +48,16 @@ impl Method for FewStepsToSpare {
 
     fn spare_steps(net: &Network) -> u64 {
         Levels::spare_steps(net).min(40)
+    }
+
+    fn greatest_flow(
+        net: &Network,
+        s: &[u32],
+        t: &[u32],
+        flow: &mut FlowTable,
+        work: &mut [u32],
+    ) -> u128 {
+        Levels::greatest_flow(net, s, t, flow, work)
     }
 
     fn greatest(

@@ -8,7 +8,7 @@ ghost use Rattle.std.specs.List.{All};
 ghost use Rattle.flow_net.specs.Limits.{IsNet};
 ghost use Rattle.flow_net.specs.Flows.{Fits};
 ghost use Rattle.flow_net.specs.Residual.{IsClosed};
-ghost use Rattle.flow_solve.specs.Task.{IsTask};
+ghost use Rattle.flow_solve.specs.levels.Entries.{IsOpening};
 ghost use Rattle.flow_solve.specs.levels.Trees.{outside, HasNoMore, IsStopped};
 ghost use Rattle.flow_solve.specs.Steps.{OnlyLooks};
 
@@ -101,7 +101,7 @@ fn are_filled(net: &Network, flow: &mut FlowTable, cells: &[u32]) -> bool
 
 /// Whether the border of the tree of the sinks shows that a flow is greatest. At most one look at each arc.
 pub(crate) fn shows_greatest(task: Task<'_>, flow: &mut FlowTable, cells: &[u32]) -> bool
-    requires task { IsTask task }
+    requires task { IsOpening task }
     requires size { 4 * task.packed.net.now.nodes ≤ length cells.now }
     requires fits { Fits task.packed.net.now flow.old.flows }
     ensures greatest { IsTrue result → HasNoMore task.entry flow.old.flows }

@@ -9,8 +9,8 @@ ghost use Rattle.std.specs.Prelude.{◌≡◌, ℕ, ◌+◌, ◌*◌, ◌<◌, �
 ghost use Rattle.flow_net.specs.Nets.{IsNode};
 ghost use Rattle.flow_net.specs.NodeSets.{one_of};
 ghost use Rattle.flow_net.specs.Flows.{Fits};
-ghost use Rattle.flow_solve.specs.residual.Packs.{IsPacked};
-ghost use Rattle.flow_solve.specs.Task.{HasFlow, IsTask};
+ghost use Rattle.flow_solve.specs.Task.{HasFlow};
+ghost use Rattle.flow_solve.specs.levels.Entries.{IsOpening};
 ghost use Rattle.flow_solve.specs.levels.Trees.{supplied_by, AreGrowing, AreSameTrees, HaveCells, HaveGrown};
 ghost use Rattle.flow_solve.specs.levels.Trees.{HasTreeCells, IsSupplied, HaveMarked};
 ghost use Rattle.flow_solve.specs.Steps.{PaysLooks, TakesSteps};
@@ -164,7 +164,7 @@ struct Touch {
 /// nodes whose half-arc to their parent this fills. Answers whether that much remained everywhere, and went from a
 /// source to a sink; where it did not, the flow still fits, but needn't be feasible.
 fn push_through(task: Task<'_>, flow: &mut FlowTable, trees: &mut Trees<'_>, touch: Touch) -> bool
-    requires task { IsTask task }
+    requires task { IsOpening task }
     requires size { 4 * task.packed.net.now.nodes ≤ length trees.old.cells.now }
     requires fits { Fits task.packed.net.now flow.old.flows }
     requires half { touch.half < 2 * length task.packed.net.now.arcs }

@@ -3,14 +3,17 @@
 ghost use Rattle.std.specs.Prelude.{◌≡◌, ◌+◌, ◌<◌, ◌≤◌, ◌*◌, IsTrue, length};
 ghost use Rattle.flow_net.specs.Nets.{IsNode};
 ghost use Rattle.flow_net.specs.Flows.{Fits};
+ghost use Rattle.flow_solve.specs.levels.Entries.{IsEntry};
 ghost use Rattle.flow_solve.specs.levels.Trees.{HaveCells, HaveLooked, HasTreeCells, HaveMarked, HaveSpent};
-ghost use Rattle.flow_solve.specs.Steps.{OnlyLooks};
+ghost use Rattle.flow_solve.specs.Steps.{PaysLooks};
 
+use crate::levels::entries::{entry_supplying, half_in, open_half};
+use crate::levels::rows::{entry_at, row_of};
 use crate::levels::spending::spend;
 use crate::levels::trees::chains::supply_half;
 use crate::levels::trees::forest::{LEAST_CHILD, NO_PARENT, Trees, direction_of};
 use crate::residual::cells::END;
-use crate::residual::half_arcs::{head, twin};
+use crate::residual::half_arcs::head;
 use crate::residual::packing::Packed;
 use crate::residual::searching::FAR;
 use flow_net::FlowTable;
@@ -61,45 +64,75 @@ fn mark_walk(trees: &mut Trees<'_>, node: u32, distance: u32)
     }
 }
 
-/// Whether a half-arc leads from a node to its child, by the label of the node that it leads to and the half-arc from
-/// there to its parent.
-fn is_child(label: u32, onward: u32, half: u32) -> bool {
-    label >= LEAST_CHILD && onward == twin(half)
+/// An orphan, or a node that comes free.
+#[derive(Clone, Copy)]
+struct Orphan {
+    /// The node.
+    pub node: u32,
+    /// Its label, which tells its tree.
+    pub label: u32,
 }
 
-/// One more than the distance from the root of a node that may adopt an orphan, if it is in the orphan's tree and no
-/// child of it, and something remains on the half-arc between, or else `FAR`. The orphan's label is given, and the
-/// half-arc that leads to the node.
-fn offer(
+/// Whether a node of a label has an orphan for its parent.
+#[inline(always)]
+fn is_child(trees: &Trees<'_>, node: u32, label: u32, orphan: Orphan) -> bool
+    requires { HaveCells trees.now node }
+{
+    label >= LEAST_CHILD && trees.above(node) == orphan.node && trees.parent(node) != NO_PARENT
+}
+
+/// A parent that an orphan may have.
+#[derive(Clone, Copy)]
+struct Offer {
+    /// The half-arc between, through which the orphan would be supplied.
+    pub half: u32,
+    /// One more than the distance of the parent from the root.
+    pub distance: u32,
+}
+
+/// A node beside an orphan.
+#[derive(Clone, Copy)]
+struct Neighbour {
+    /// The node.
+    pub node: u32,
+    /// Its label.
+    pub label: u32,
+    /// The entry that leads to it from the orphan.
+    pub entry: u32,
+}
+
+/// What a neighbour offers an orphan: to be its parent, if it is in its tree and no child of it, its parents lead to a
+/// root, and something remains between them. One look is paid beforehand.
+fn ask(
     packed: Packed<'_>,
     flow: &mut FlowTable,
     trees: &mut Trees<'_>,
-    own: u32,
-    half: u32,
-) -> u32
+    orphan: Orphan,
+    neighbour: Neighbour,
+) -> Option<Offer>
     requires forest { HasTreeCells packed flow.old trees.old }
-    requires half { half < 2 * length packed.net.now.arcs }
-    ensures looks { OnlyLooks flow.old flow.new 1 }
+    requires node { HaveCells trees.old neighbour.node }
+    requires entry { IsEntry packed.net.now neighbour.entry }
     ensures spends { HaveSpent trees.old trees.new }
+    ensures looks { PaysLooks flow.old (trees.old.left + 1) flow.new trees.new.left }
 {
-    let node = head(packed.net, half);
-    let label = trees.label(node);
-    if label <= 1 || label % 2 != own % 2 {
-        return FAR;
+    let Neighbour { node, label, entry } = neighbour;
+    if label <= 1 || label % 2 != orphan.label % 2 {
+        return None;
     }
-    let onward = trees.parent(node);
-    if onward == NO_PARENT || is_child(label, onward, half) {
-        return FAR;
+    if trees.parent(node) == NO_PARENT || is_child(trees, node, label, orphan) {
+        return None;
     }
-    let (_, room) = flow.look(packed.net, supply_half(direction_of(own), half));
-    if room == 0 {
-        return FAR;
-    }
+    let between = entry_supplying(direction_of(label), entry);
+    let Some(half) = open_half(packed.net, flow, &mut trees.left, between) else {
+        return None;
+    };
     let distance = walk_to_root(trees, node);
-    if distance != FAR {
-        mark_walk(trees, node, distance);
+    if distance == FAR {
+        return None;
     }
-    distance
+    mark_walk(trees, node, distance);
+    Some(Offer { half, distance })
 }
 
 /// How much farther from its root an adoption may bring an orphan. One that would be moved by more comes free: the tree
@@ -113,58 +146,63 @@ fn find_parent(packed: Packed<'_>, flow: &mut FlowTable, trees: &mut Trees<'_>, 
     requires node { IsNode packed.net.now node }
     ensures looked { HaveLooked flow.old trees.old flow.new trees.new }
 {
-    let own = trees.label(node);
-    let begin = packed.first[node as usize - 1];
-    let end = packed.first[node as usize];
+    let label = trees.label(node);
+    let orphan = Orphan { node, label };
+    let (begin, end) = row_of(packed, node);
     if !spend(&mut trees.left, u64::from(end - begin)) {
         return true;
     }
     let mut nearest = FAR;
-    let mut parent = NO_PARENT;
+    let mut between = 0;
     let mut above = 0;
     for spot in begin..end {
-        let half = packed.halves[spot as usize];
-        let next = head(packed.net, half);
+        let entry = entry_at(packed, node, spot);
+        let node = head(packed.net, half_in(entry));
+        let label = trees.label(node);
         // A node that is no nearer by its label isn't asked.
-        if trees.label(next) / 2 < nearest {
-            let distance = offer(packed, flow, trees, own, half);
+        if label / 2 >= nearest {
+            continue;
+        }
+        let neighbour = Neighbour { node, label, entry };
+        if let Some(Offer { half, distance }) = ask(packed, flow, trees, orphan, neighbour) {
             if distance < nearest {
                 nearest = distance;
-                parent = half;
-                above = next;
+                between = half;
+                above = node;
             }
         }
     }
-    if parent == NO_PARENT || nearest > (own / 2).saturating_add(MOST_DETOUR - 1) {
+    if nearest > (label / 2).saturating_add(MOST_DETOUR - 1) {
         return false;
     }
-    let label = nearest.saturating_mul(2).saturating_add(2 + own % 2);
-    trees.set_parent(node, parent, above);
+    trees.set_parent(node, supply_half(direction_of(label), between), above);
+    let label = nearest.saturating_mul(2).saturating_add(2 + label % 2);
     trees.mark(node, label, trees.time);
     true
 }
 
-/// Leaves the node that a half-arc leads to from a node that comes free: a child becomes an orphan, and a node of the
-/// same tree that could take the free node back becomes active.
-fn part(packed: Packed<'_>, flow: &mut FlowTable, trees: &mut Trees<'_>, own: u32, half: u32)
+/// Leaves the node that an entry leads to from a node that comes free: a child becomes an orphan, and a node of the
+/// same tree that could take the free node back becomes active. One look is paid beforehand.
+fn part(packed: Packed<'_>, flow: &mut FlowTable, trees: &mut Trees<'_>, orphan: Orphan, entry: u32)
     requires forest { HasTreeCells packed flow.old trees.old }
-    requires half { half < 2 * length packed.net.now.arcs }
-    ensures looks { OnlyLooks flow.old flow.new 1 }
-    ensures marks { HaveMarked trees.old trees.new }
+    requires entry { IsEntry packed.net.now entry }
+    ensures spends { HaveSpent trees.old trees.new }
+    ensures looks { PaysLooks flow.old (trees.old.left + 1) flow.new trees.new.left }
 {
-    let node = head(packed.net, half);
+    let node = head(packed.net, half_in(entry));
     let label = trees.label(node);
-    if label <= 1 || label % 2 != own % 2 {
+    if label <= 1 || label % 2 != orphan.label % 2 {
         return;
     }
-    if is_child(label, trees.parent(node), half) {
+    if is_child(trees, node, label, orphan) {
         trees.abandon_last(node);
     }
-    if !trees.is_active(node) {
-        let (_, room) = flow.look(packed.net, supply_half(direction_of(own), half));
-        if room > 0 {
-            trees.activate(node);
-        }
+    if trees.is_active(node) {
+        return;
+    }
+    let between = entry_supplying(direction_of(label), entry);
+    if open_half(packed.net, flow, &mut trees.left, between).is_some() {
+        trees.activate(node);
     }
 }
 
@@ -174,14 +212,13 @@ fn free(packed: Packed<'_>, flow: &mut FlowTable, trees: &mut Trees<'_>, node: u
     requires node { IsNode packed.net.now node }
     ensures looked { HaveLooked flow.old trees.old flow.new trees.new }
 {
-    let own = trees.label(node);
+    let label = trees.label(node);
+    let orphan = Orphan { node, label };
     trees.set_free(node);
-    let begin = packed.first[node as usize - 1];
-    let end = packed.first[node as usize];
+    let (begin, end) = row_of(packed, node);
     if spend(&mut trees.left, u64::from(end - begin)) {
         for spot in begin..end {
-            let half = packed.halves[spot as usize];
-            part(packed, flow, trees, own, half);
+            part(packed, flow, trees, orphan, entry_at(packed, node, spot));
         }
     }
 }

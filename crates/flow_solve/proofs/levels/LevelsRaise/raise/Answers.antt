@@ -1,10 +1,12 @@
--- `raise`: the trees have shown that no path is left.
+-- `raise`: the first stages have shown that no path is left.
 use Rattle.flow_solve.proofs.levels.LevelsRaise.raise.Goals as goal
 
-pub returns-then-grown-clause-greatest : goal.returns-then-grown-clause-greatest
-returns-then-grown-clause-greatest c =
-    let grown = c.grow_trees-grown in (grown.ensures.greatest c.if-grown.true grown.result.value grown.ensures.flow).0
+pub returns-then-opened-clause-greatest : goal.returns-then-opened-clause-greatest
+returns-then-opened-clause-greatest c =
+    let opened = c.begin-opened in
+    (opened.ensures.greatest c.if-opened.true opened.result.sent.value opened.ensures.flow).0
 
-pub returns-then-grown-clause-least : goal.returns-then-grown-clause-least
-returns-then-grown-clause-least c =
-    let grown = c.grow_trees-grown in (grown.ensures.greatest c.if-grown.true grown.result.value grown.ensures.flow).1
+pub returns-then-opened-clause-least : goal.returns-then-opened-clause-least
+returns-then-opened-clause-least c =
+    let opened = c.begin-opened in
+    (opened.ensures.greatest c.if-opened.true opened.result.sent.value opened.ensures.flow).1

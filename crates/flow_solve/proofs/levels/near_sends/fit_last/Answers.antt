@@ -9,7 +9,7 @@ use Rattle.flow_solve.proofs.levels.near_sends.fit_last.Goals as goal
 pub returns-clause-last : goal.returns-clause-last
 returns-clause-last c =
     let net = c.args.task.packed.net.now in let t = c.args.task.t.now in
-    let few = c.requires.task.packed.limits.arcs_most in
+    let few = c.requires.task.rows.limits.arcs_most in
     elim c.if-room-most.branch [
       | then-room-most w ↦ subst (λ (cells : List ℕ). AreLast net t cells) (sym w.last-is)
           (last_unset net t c.args.last.now (c.args.node - 1) NO_LAST (omega (arith, c.requires.node)) (omega arith)

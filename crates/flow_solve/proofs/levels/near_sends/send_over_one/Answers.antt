@@ -25,7 +25,7 @@ overflow_add-sending c =
     c.carry-2.ensures.carried) in
     omega (
       arith,
-      flow_fits net s t c.carry-2.new.flow.flows (k + d) c.requires.sending.task.packed.limits
+      flow_fits net s t c.carry-2.new.flow.flows (k + d) c.requires.sending.task.rows.limits
           c.requires.sending.task.terminals now,
       c.from.ensures,
     )

@@ -28,16 +28,18 @@ overflow_add-sending c =
     let node = c.head-node.ensures.node in
     let leads = c.requires.sending.last.ends place (omega arith) (omega arith) in
     let on : tail_of net end ≡ head_of net between = omega (arith, leads.from, c.head-node.ensures.head) in
+    let come : tail_of net between ≡ head_of net first =
+    omega (arith, c.tail.ensures.tail, c.if-tail-here.false, c.head-here.ensures.head) in
     let before = flow_same net s t c.args.flow.now.flows c.fit_last-amount.new.flow.flows k
     (c.fit_last-amount.ensures.looks.flows ∙ c.look-room.ensures.flows) c.requires.sending.flow in
     let xs = c.carry.new.flow.flows in let ys = c.carry-2.new.flow.flows in let zs = c.carry-3.new.flow.flows in
     let now = sent_over_two d k c.requires.sending.task.terminals before (tail_of net first) (head_of net first)
     (head_of net between) (head_of net end) xs ys zs c.requires.first.source leads.sink c.carry.ensures.carried
-    (subst (λ v. IsCarried net d v (head_of net between) xs ys) c.requires.on c.carry-2.ensures.carried)
+    (subst (λ v. IsCarried net d v (head_of net between) xs ys) come c.carry-2.ensures.carried)
     (subst (λ v. IsCarried net d v (head_of net end) ys zs) on c.carry-3.ensures.carried) in
     omega (
       arith,
-      flow_fits net s t zs (k + d) c.requires.sending.task.packed.limits c.requires.sending.task.terminals now,
+      flow_fits net s t zs (k + d) c.requires.sending.task.rows.limits c.requires.sending.task.terminals now,
       c.from.ensures,
     )
 
@@ -50,12 +52,14 @@ returns-clause-kept c =
     let node = c.head-node.ensures.node in
     let leads = c.requires.sending.last.ends place (omega arith) (omega arith) in
     let on : tail_of net end ≡ head_of net between = omega (arith, leads.from, c.head-node.ensures.head) in
+    let come : tail_of net between ≡ head_of net first =
+    omega (arith, c.tail.ensures.tail, c.if-tail-here.false, c.head-here.ensures.head) in
     let before = flow_same net s t c.args.flow.now.flows c.fit_last-amount.new.flow.flows k
     (c.fit_last-amount.ensures.looks.flows ∙ c.look-room.ensures.flows) c.requires.sending.flow in
     let xs = c.carry.new.flow.flows in let ys = c.carry-2.new.flow.flows in let zs = c.carry-3.new.flow.flows in
     let now = sent_over_two d k c.requires.sending.task.terminals before (tail_of net first) (head_of net first)
     (head_of net between) (head_of net end) xs ys zs c.requires.first.source leads.sink c.carry.ensures.carried
-    (subst (λ v. IsCarried net d v (head_of net between) xs ys) c.requires.on c.carry-2.ensures.carried)
+    (subst (λ v. IsCarried net d v (head_of net between) xs ys) come c.carry-2.ensures.carried)
     (subst (λ v. IsCarried net d v (head_of net end) ys zs) on c.carry-3.ensures.carried) in
     record {
       sending = record {

@@ -95,8 +95,10 @@ returns-clause-steps c =
     record {
       never_lowered = omega (arith, old.never_lowered, found.looks.never_lowered);
       steps =
-          paid_all net c.args.flow.now.steps c.find_trail.new.flow.steps c.loop-source.raised c.nodes-n.ensures.is_net
+          let paid = paid_all net c.args.flow.now.steps c.find_trail.new.flow.steps c.loop-source.raised
+          c.nodes-n.ensures.is_net
           (value_most net (one_of s) (one_of t) c.loop-source.flow.flows c.loop-source.raised c.nodes-n.ensures.is_net
           (terminals_apart net s t c.requires.task.terminals) old.flow.feasible old.flow.value)
-          (omega (arith, old.steps, found.looks.steps));
+          (omega (arith, old.steps, found.looks.steps)) in
+          omega (arith, paid);
     }

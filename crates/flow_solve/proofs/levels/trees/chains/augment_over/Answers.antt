@@ -30,7 +30,7 @@ overflow_add-trees c =
     let now = c.push_through.ensures.flow c.if-not-push_through.false k before in
     omega (
       arith,
-      flow_fits net s t c.push_through.new.flow.flows (k + amount) c.requires.growing.task.packed.limits
+      flow_fits net s t c.push_through.new.flow.flows (k + amount) c.requires.growing.task.rows.limits
           c.requires.growing.task.terminals now,
       c.from.ensures,
       c.push_through.ensures.marks.stays.value,

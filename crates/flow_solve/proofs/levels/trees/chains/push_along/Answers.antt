@@ -13,7 +13,7 @@ chain-preserved c =
     let half = c.parent-half.result in
     let over = c.supply_half-over.result in
     let inside : half < 2 * length net.arcs =
-    omega (arith, c.requires.forest.packed.halves_size, c.if-half-packed.false) in
+    omega (arith, c.requires.forest.rows.entries_size, c.if-half-packed.false) in
     let same : over ≡ supplied_by dir half = c.supply_half-over.ensures.half in
     let within : over < 2 * length net.arcs = c.supply_half-over.ensures.within (length net.arcs) inside in
     let room : amount ≤ residual net ys over = omega (arith, c.look-room.ensures.residual, c.if-room-amount.false) in

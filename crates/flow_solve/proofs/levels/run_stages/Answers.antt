@@ -1,0 +1,22 @@
+-- `run_stages`: it begins with the flow of zeros, and the cells past those of a solver stay.
+use Rattle.std.proofs.Common.{◌≡◌, ◌*◌, ◌≤◌, List, ℕ, replicate, length, subst, sym, ap, ◌∙◌, arith}
+use Rattle.flow_solve.specs.Bounds.{work_cells}
+use Rattle.flow_solve.specs.Solving.{IsFlow}
+use Rattle.flow_solve.proofs.ResidualLemmas.Behind.{drop_farther}
+use Rattle.flow_solve.proofs.Raises.{zero_flow}
+use Rattle.flow_solve.proofs.levels.run_stages.Goals as goal
+
+pub begin_before-opened-requires-clause-flow : goal.begin_before-opened-requires-clause-flow
+begin_before-opened-requires-clause-flow c =
+    let given = c.args.given in
+    let zeros : c.clear.new.self.flows ≡ replicate (length given.net.now.arcs) 0 =
+    c.clear.ensures.flows ∙ ap (λ n. replicate n 0) c.requires.fits.count in
+    subst (λ (xs : List ℕ). IsFlow given.net.now given.s.now given.t.now xs 0) (sym zeros)
+    (zero_flow given.net.now given.s.now given.t.now)
+
+pub returns-clause-rest : goal.returns-clause-rest
+returns-clause-rest c =
+    let net = c.args.given.net.now in let past : 5 * net.nodes ≤ work_cells net = omega arith in
+    drop_farther (5 * net.nodes) (work_cells net) c.raise_packed-value.new.work c.pack_behind.new.work past
+    c.raise_packed-value.ensures.behind ∙ c.pack_behind.ensures.rest ∙ c.begin_before-opened.ensures.rest
+    ∙ c.suits_rows.ensures.rest

@@ -15,8 +15,9 @@ What was refused is remembered, by the sums of all that it rests on, in the user
 After the gate --begin FOLDER names what the gate's own edits began with: --gather TEMPORARY FOLDER, run beside the gate
 until it is ended, collects that out of the gate's temporary folder. Each check begins with that then, and reads the
 libraries that the gate has left in out/rlib; it is called as the gate calls it, since `rt check` builds libraries of
-its own, over which nothing of that holds. Without --begin the first check of a crate proves it from nothing. RT_JOBS
-checks run at a time.
+its own, over which nothing of that holds. A crate whose proof the gate had kept has nothing collected, and is proved
+once more before its edits. Without --begin the first check of a crate proves it from nothing. RT_JOBS checks run at a
+time.
 
 The last line is 'planted: N passed, M failed'.
 """
@@ -242,9 +243,19 @@ def lanes_of(crate):
     return [todo[lane::lanes] for lane in range(lanes)], names, len(edits) - len(todo)
 
 
-def try_lane(crate, begin, todo, names):
-    """Tries edits of a crate, group after group; what is said, how many were refused, how many not, and in how many
-    checks."""
+def prove(crate, begin):
+    """Proves a crate of which nothing was collected, so that its lanes needn't each."""
+    if begin and not (begin / crate).is_dir():
+        with tempfile.TemporaryDirectory(prefix="flow-planted-") as folder:
+            copy = Copy(crate, folder, begin)
+            copy.check({})
+            link_tree(copy.folder / "out" / "incremental", begin / crate)
+
+
+def try_lane(crate, begin, todo, names, proof):
+    """Tries edits of a crate, once it is proved, group after group; what is said, how many were refused, how many not,
+    and in how many checks."""
+    proof.result()
     said, refused, failed, checks = [], 0, 0, 0
     with tempfile.TemporaryDirectory(prefix="flow-planted-") as folder:
         copy = Copy(crate, folder, begin)
@@ -325,13 +336,15 @@ def main(words):
         # (the crate with the most edits takes longest)
         for crate in sorted(crates, key=lambda crate: -len(edits_of(crate))):
             lanes, names, known = lanes_of(crate)
-            started.append((crate, known, [pool.submit(try_lane, crate, begin, lane, names) for lane in lanes]))
+            proof = pool.submit(prove, crate, begin if lanes else None)
+            tried = [pool.submit(try_lane, crate, begin, lane, names, proof) for lane in lanes]
+            started.append((crate, known, tried))
         for crate, known, lanes in started:
             refused, checks = known, 0
             for lane in lanes:
-                said, more, failed, tried = lane.result()
+                said, more, failed, ran = lane.result()
                 print("\n".join([*said, ""]), end="")
-                refused, lacking, checks = refused + more, lacking + failed, checks + tried
+                refused, lacking, checks = refused + more, lacking + failed, checks + ran
             told = [f"{refused} refused", *([f"{known} of them in earlier runs"] if known else []),
                     *([f"{checks} checks"] if checks else [])]
             print(f"{crate}: {', '.join(told)}", flush=True)

@@ -58,7 +58,7 @@
 //! In a dense network the phases follow the near sends. The trees grow no farther than until the nearest source and
 //! sink are found to be far apart, since then much flow goes far, and paths one by one bring little. There the waves
 //! begin.
-ghost use Rattle.std.specs.Prelude.{◌≡◌, ◌+◌, ◌*◌, ◌≤◌, IsTrue, drop, length};
+ghost use Rattle.std.specs.Prelude.{◌≡◌, ◌+◌, ◌*◌, ◌≤◌, IsFalse, IsTrue, drop, length};
 ghost use Rattle.flow_net.specs.Limits.{AreTerminals};
 ghost use Rattle.flow_net.specs.NodeSets.{one_of};
 ghost use Rattle.flow_net.specs.Flows.{Fits, IsGreatest};
@@ -68,7 +68,7 @@ ghost use Rattle.flow_solve.specs.residual.Packs.{ArePackedBehind};
 ghost use Rattle.flow_solve.specs.Solving.{IsFlow};
 ghost use Rattle.flow_solve.specs.Steps.{PaysSteps, TakesSteps};
 ghost use Rattle.flow_solve.specs.Task.{HasFlow, IsTask};
-ghost use Rattle.flow_solve.specs.levels.Entries.{IsOpening};
+ghost use Rattle.flow_solve.specs.levels.Entries.{HasRowsBehind, IsOpening};
 ghost use Rattle.flow_solve.specs.levels.Trees.{HasNoMore};
 
 pub(crate) mod entries;
@@ -81,13 +81,13 @@ mod walking;
 pub(crate) mod waves;
 
 use crate::method::{Method, work_len};
-use crate::residual::packing::{Packed, pack_behind};
-use crate::solving::{Raise, raise_packed, solve};
+use crate::residual::packing::{Packed, halves_in, pack, pack_behind};
+use crate::solving::{Raise, raise_packed};
 use crate::task::{Given, Sent, Task};
 use flow_net::{FlowTable, Network};
 use near_sends::send_near;
 use phases::run_phases;
-use rows::{is_like_a_picture, pack_rows};
+use rows::{is_like_a_picture, mark_terminals, pack_rows};
 use trees::grow_trees;
 use waves::send_waves;
 
@@ -141,8 +141,8 @@ struct Opened {
     is_finished: bool,
 }
 
-/// Raises a flow of some value by near sends, and where the network isn't dense by trees. Where these have ended no path
-/// is left for the waves, so that they may take nothing.
+/// Raises a flow of some value by near sends, and where the network isn't dense by trees. Where these have ended no
+/// path is left for the waves, so that they may take nothing.
 fn begin(task: Task<'_>, flow: &mut FlowTable, cells: &mut [u32], value: u128) -> Opened
     requires task { IsOpening task }
     requires cells { length cells.old ≡ 5 * task.packed.net.now.nodes }
@@ -177,48 +177,37 @@ fn begin(task: Task<'_>, flow: &mut FlowTable, cells: &mut [u32], value: u128) -
     }
 }
 
-/// Raises a flow of some value to the greatest one by waves and phases.
-fn go_on(task: Task<'_>, flow: &mut FlowTable, cells: &mut [u32], begun: Sent) -> u128
-    requires task { IsTask task }
-    requires cells { length cells.old ≡ 5 * task.packed.net.now.nodes }
-    requires flow { HasFlow task flow.old.flows begun.value }
-    ensures flow { HasFlow task.entry flow.new.flows result }
-    ensures greatest { IsGreatest task.entry.packed.net.now (one_of task.entry.s.now) (one_of task.entry.t.now) result }
-    ensures least { IsLeastCapacity task.entry.packed.net.now (one_of task.entry.s.now) (one_of task.entry.t.now)
-        result }
-    ensures steps { TakesSteps flow.old flow.new (begun.left + phases_bound task.entry.packed.net.now) }
-{
-    let value = send_waves(task, flow, cells, begun);
-    run_phases(task, flow, cells, value)
-}
-
-/// Raises the flow that carries nothing by the first stages, over rows of entries that are packed for them alone.
-fn begin_in_rows(given: Given<'_>, flow: &mut FlowTable, own: &mut [u32]) -> Opened
+/// Packs the cells of a solver for the first stages: with rows of entries, where these serve better, or else with
+/// half-arcs. Answers whether it is rows.
+fn pack_first(given: Given<'_>, work: &mut [u32]) -> bool
     requires terminals { AreTerminals given.net.now given.s.now given.t.now }
-    requires cells { length own.old ≡ work_cells given.net.now }
-    requires flow { IsFlow given.net.now given.s.now given.t.now flow.old.flows 0 }
-    ensures flow { IsFlow given.entry.net.now given.entry.s.now given.entry.t.now flow.new.flows result.sent.value }
-    ensures greatest { IsTrue result.is_finished → IsGreatest given.entry.net.now (one_of given.entry.s.now)
-        (one_of given.entry.t.now) result.sent.value }
-    ensures least { IsTrue result.is_finished → IsLeastCapacity given.entry.net.now (one_of given.entry.s.now)
-        (one_of given.entry.t.now) result.sent.value }
-    ensures steps { PaysSteps flow.old (openings_bound given.entry.net.now) flow.new result.sent.left }
+    requires cells { work_cells given.net.now ≤ length work.old }
+    ensures rows { HasRowsBehind given.entry.net.now work.new }
+    ensures packed { IsFalse result → ArePackedBehind given.entry.net.now work.new }
+    ensures rest { drop (work_cells given.entry.net.now) work.new ≡ drop (work_cells given.entry.net.now) work.old }
 {
     let Given { net, s, t } = given;
     let n = net.nodes() as usize;
+    let (own, _rest) = work.split_at_mut(work_len(net.nodes(), net.len()));
     let (cells, behind) = own.split_at_mut(5 * n);
     let (first, behind) = behind.split_at_mut(n + 1);
     let (halves, _spare) = behind.split_at_mut(2 * net.len() as usize);
     let (marks, _free) = cells.split_at_mut(n);
-    pack_rows(net, s, t, marks, first, halves);
-    let packed = Packed { net, first, halves };
-    begin(Task { packed, s, t }, flow, cells, 0)
+    mark_terminals(net, s, t, marks);
+    let has_rows = is_like_a_picture(net, marks);
+    if has_rows {
+        pack_rows(net, marks, first, halves);
+    } else {
+        pack(net, first, halves);
+    }
+    has_rows
 }
 
-/// The same in the first cells of a slice.
-fn begin_before(given: Given<'_>, flow: &mut FlowTable, work: &mut [u32]) -> Opened
+/// Raises the flow that carries nothing by the first stages, over the rows that stand in the cells.
+fn begin_packed(given: Given<'_>, flow: &mut FlowTable, work: &mut [u32]) -> Opened
     requires terminals { AreTerminals given.net.now given.s.now given.t.now }
     requires cells { work_cells given.net.now ≤ length work.old }
+    requires rows { HasRowsBehind given.net.now work.old }
     requires flow { IsFlow given.net.now given.s.now given.t.now flow.old.flows 0 }
     ensures flow { IsFlow given.entry.net.now given.entry.s.now given.entry.t.now flow.new.flows result.sent.value }
     ensures greatest { IsTrue result.is_finished → IsGreatest given.entry.net.now (one_of given.entry.s.now)
@@ -226,21 +215,13 @@ fn begin_before(given: Given<'_>, flow: &mut FlowTable, work: &mut [u32]) -> Ope
     ensures least { IsTrue result.is_finished → IsLeastCapacity given.entry.net.now (one_of given.entry.s.now)
         (one_of given.entry.t.now) result.sent.value }
     ensures steps { PaysSteps flow.old (openings_bound given.entry.net.now) flow.new result.sent.left }
-    ensures rest { drop (work_cells given.entry.net.now) work.new ≡ drop (work_cells given.entry.net.now) work.old }
+    ensures behind { drop (5 * given.entry.net.now.nodes) work.new ≡ drop (5 * given.entry.net.now.nodes) work.old }
 {
-    let (own, _rest) = work.split_at_mut(work_len(given.net.nodes(), given.net.len()));
-    begin_in_rows(given, flow, own)
-}
-
-/// Whether rows of entries serve the first stages better than packed half-arcs.
-fn suits_rows(given: Given<'_>, work: &mut [u32]) -> bool
-    requires terminals { AreTerminals given.net.now given.s.now given.t.now }
-    requires cells { work_cells given.net.now ≤ length work.old }
-    ensures rest { drop (work_cells given.entry.net.now) work.new ≡ drop (work_cells given.entry.net.now) work.old }
-{
-    let (own, _rest) = work.split_at_mut(work_len(given.net.nodes(), given.net.len()));
-    let (marks, _free) = own.split_at_mut(given.net.nodes() as usize);
-    is_like_a_picture(given.net, given.s, given.t, marks)
+    let Given { net, s, t } = given;
+    let (cells, behind) = work.split_at_mut(5 * net.nodes() as usize);
+    let (first, halves) = halves_in(net, behind);
+    let packed = Packed { net, first, halves };
+    begin(Task { packed, s, t }, flow, cells, 0)
 }
 
 /// Augments along shortest paths, level by level, in phases: a search backwards from the sinks ranks the nodes, the
@@ -249,25 +230,12 @@ fn suits_rows(given: Given<'_>, work: &mut [u32]) -> bool
 pub struct Levels;
 
 impl Raise for Levels {
-    ghost steps_bound = { levels_bound };
-
-    fn raise(task: Task<'_>, flow: &mut FlowTable, cells: &mut [u32], begun: Sent) -> u128 {
-        let opened = begin(task, flow, cells, begun.value);
-        if opened.is_finished {
-            return opened.sent.value;
-        }
-        go_on(task, flow, cells, opened.sent)
-    }
-}
-
-/// What is left of the method where its first stages have run over rows.
-struct Later;
-
-impl Raise for Later {
     ghost steps_bound = { phases_bound };
 
+    /// Raises a flow, that the first stages have left, by waves and phases.
     fn raise(task: Task<'_>, flow: &mut FlowTable, cells: &mut [u32], begun: Sent) -> u128 {
-        go_on(task, flow, cells, begun)
+        let value = send_waves(task, flow, cells, begun);
+        run_phases(task, flow, cells, value)
     }
 }
 
@@ -295,22 +263,18 @@ fn run_stages(given: Given<'_>, flow: &mut FlowTable, work: &mut [u32]) -> Ran
     ensures rest { drop (work_cells given.entry.net.now) work.new ≡ drop (work_cells given.entry.net.now) work.old }
 {
     flow.clear();
-    if !suits_rows(given, work) {
-        let value = solve::<Levels>(given, flow, work);
-        return Ran {
-            value,
-            is_packed: true,
-        };
-    }
-    let opened = begin_before(given, flow, work);
+    let has_rows = pack_first(given, work);
+    let opened = begin_packed(given, flow, work);
     if opened.is_finished {
         return Ran {
             value: opened.sent.value,
-            is_packed: false,
+            is_packed: !has_rows,
         };
     }
-    pack_behind(given.net, work);
-    let value = raise_packed::<Later>(given, flow, work, opened.sent);
+    if has_rows {
+        pack_behind(given.net, work);
+    }
+    let value = raise_packed::<Levels>(given, flow, work, opened.sent);
     Ran {
         value,
         is_packed: true,

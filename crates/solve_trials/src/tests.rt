@@ -391,7 +391,8 @@ fn stages<'a, S: Stage>(
     let (first, rest) = rest.split_at_mut(n + 1);
     let (halves, _rest) = rest.split_at_mut(2 * m);
     let (marks, _free) = cells.split_at_mut(n);
-    pack_rows(net, s, t, marks, first, halves);
+    mark_terminals(net, s, t, marks);
+    pack_rows(net, marks, first, halves);
     let packed = Packed { net, first, halves };
     let begun = stage.begin(Task { packed, s, t }, &mut flow, cells);
     pack(net, first, halves);

@@ -17,7 +17,8 @@ const ARCS: &[(u32, u32, u64)] = &[
 /// Where each node's row begins.
 const FIRST: &[u32] = &[0, 1, 2, 4, 5, 6];
 
-/// The rows one after the other: nodes 2 and 4 have no entry that leads to a terminal, and node 2 none for its self-loop.
+/// The rows one after the other: nodes 2 and 4 have no entry that leads to a terminal, and node 2 none for its
+/// self-loop.
 const ENTRIES: &[u32] = &[0, JOINED + 2, JOINED + 3, 8, 9, 11];
 
 #[test]
@@ -28,7 +29,9 @@ fn rows_by_hand(rt: HostRuntime) {
     let mut first = [7u32; 6];
     let mut halves = [7u32; 12];
     assert_eq!(&rt; (net.nodes(), net.len()), (5, 6));
-    pack_rows(&net, &[1], &[5], &mut marks, &mut first, &mut halves);
+    mark_terminals(&net, &[1], &[5], &mut marks);
+    assert_eq!(&rt; marks, [1, 0, 0, 0, 1]);
+    pack_rows(&net, &marks, &mut first, &mut halves);
     assert_eq!(&rt; &first[..], FIRST);
     assert_eq!(&rt; &halves[..6], ENTRIES);
 }

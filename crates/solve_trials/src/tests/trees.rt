@@ -99,7 +99,8 @@ fn grow<'a>(
     let (first, rest) = rest.split_at_mut(n + 1);
     let (halves, _rest) = rest.split_at_mut(2 * m);
     let (marks, _free) = cells.split_at_mut(n);
-    pack_rows(net, s, t, marks, first, halves);
+    mark_terminals(net, s, t, marks);
+    pack_rows(net, marks, first, halves);
     let packed = Packed { net, first, halves };
     let task = Task { packed, s, t };
     Some(grow_trees(task, &mut flow, cells, 0, allowance))

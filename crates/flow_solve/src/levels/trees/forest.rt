@@ -110,6 +110,11 @@ pub(crate) fn direction_of(label: u32) -> Direction {
     }
 }
 
+/// Whether a neighbour is in a node's tree, by their labels.
+pub(crate) fn is_own(here: u32, there: u32) -> bool {
+    there > 1 && there % 2 == here % 2
+}
+
 /// A node's label.
 #[inline(always)]
 pub(crate) fn label_in(cells: &[u32], node: u32) -> u32

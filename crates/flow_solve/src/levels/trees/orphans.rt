@@ -11,7 +11,7 @@ use crate::levels::entries::{entry_supplying, half_in, open_half};
 use crate::levels::rows::{entry_at, row_of};
 use crate::levels::spending::spend;
 use crate::levels::trees::chains::supply_half;
-use crate::levels::trees::forest::{LEAST_CHILD, NO_PARENT, Trees, direction_of};
+use crate::levels::trees::forest::{LEAST_CHILD, NO_PARENT, Trees, direction_of, is_own};
 use crate::residual::cells::END;
 use crate::residual::half_arcs::head;
 use crate::residual::packing::Packed;
@@ -101,7 +101,7 @@ struct Neighbour {
     pub entry: u32,
 }
 
-/// What a neighbour offers an orphan: to be its parent, if it is in its tree and no child of it, its parents lead to a
+/// What a neighbour in its tree offers an orphan: to be its parent, if it is no child of it, its parents lead to a
 /// root, and something remains between them. One look is paid beforehand.
 fn ask(
     packed: Packed<'_>,
@@ -117,9 +117,6 @@ fn ask(
     ensures looks { PaysLooks flow.old (trees.old.left + 1) flow.new trees.new.left }
 {
     let Neighbour { node, label, entry } = neighbour;
-    if label <= 1 || label % 2 != orphan.label % 2 {
-        return None;
-    }
     if trees.parent(node) == NO_PARENT || is_child(trees, node, label, orphan) {
         return None;
     }
@@ -146,8 +143,8 @@ fn find_parent(packed: Packed<'_>, flow: &mut FlowTable, trees: &mut Trees<'_>, 
     requires node { IsNode packed.net.now node }
     ensures looked { HaveLooked flow.old trees.old flow.new trees.new }
 {
-    let label = trees.label(node);
-    let orphan = Orphan { node, label };
+    let own = trees.label(node);
+    let orphan = Orphan { node, label: own };
     let (begin, end) = row_of(packed, node);
     if !spend(&mut trees.left, u64::from(end - begin)) {
         return true;
@@ -160,7 +157,7 @@ fn find_parent(packed: Packed<'_>, flow: &mut FlowTable, trees: &mut Trees<'_>, 
         let node = head(packed.net, half_in(entry));
         let label = trees.label(node);
         // A node that is no nearer by its label isn't asked.
-        if label / 2 >= nearest {
+        if !is_own(own, label) || label / 2 >= nearest {
             continue;
         }
         let neighbour = Neighbour { node, label, entry };
@@ -172,11 +169,11 @@ fn find_parent(packed: Packed<'_>, flow: &mut FlowTable, trees: &mut Trees<'_>, 
             }
         }
     }
-    if nearest > (label / 2).saturating_add(MOST_DETOUR - 1) {
+    if nearest > (own / 2).saturating_add(MOST_DETOUR - 1) {
         return false;
     }
-    trees.set_parent(node, supply_half(direction_of(label), between), above);
-    let label = nearest.saturating_mul(2).saturating_add(2 + label % 2);
+    trees.set_parent(node, supply_half(direction_of(own), between), above);
+    let label = nearest.saturating_mul(2).saturating_add(2 + own % 2);
     trees.mark(node, label, trees.time);
     true
 }
@@ -191,7 +188,7 @@ fn part(packed: Packed<'_>, flow: &mut FlowTable, trees: &mut Trees<'_>, orphan:
 {
     let node = head(packed.net, half_in(entry));
     let label = trees.label(node);
-    if label <= 1 || label % 2 != orphan.label % 2 {
+    if !is_own(orphan.label, label) {
         return;
     }
     if is_child(trees, node, label, orphan) {

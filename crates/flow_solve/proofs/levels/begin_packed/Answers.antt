@@ -1,5 +1,5 @@
--- `begin_in_rows`: the first stages have shown that no path is left.
-use Rattle.flow_solve.proofs.levels.begin_in_rows.Goals as goal
+-- `begin_packed`: the first stages have shown that no path is left.
+use Rattle.flow_solve.proofs.levels.begin_packed.Goals as goal
 
 pub returns-clause-greatest : goal.returns-clause-greatest
 returns-clause-greatest c = λ yes. (c.begin.ensures.greatest yes c.begin.result.sent.value c.begin.ensures.flow).0

@@ -1,4 +1,6 @@
-//! Rows of entries: what they have, by hand.
+//! Rows of entries: what they have, by hand, and which networks they suit.
+ghost use Rattle.std.specs.Prelude.{◌≤◌};
+
 use super::*;
 
 /// Is added to the half-arc of an entry that is joined.

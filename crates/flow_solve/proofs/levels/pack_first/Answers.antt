@@ -11,8 +11,14 @@ returns-then-has_rows-clause-rows c =
     let net = c.args.given.net.now in let packed = c.pack_rows.ensures in
     stand_behind (HasRows net) net (c.mark_terminals.new.marks ++ c.split_at_mut-marks.result.1.now)
     c.pack_rows.new.first c.pack_rows.new.halves c.split_at_mut-halves.result.1.now c.split_at_mut-own.result.1.now
-    (omega (arith, c.split_at_mut-cells.ensures.front_len, c.split_at_mut-marks.ensures.front_len,
-    c.split_at_mut-marks.ensures.back_len, c.mark_terminals.auto.marks, c.nodes-n.ensures.nodes))
+    (omega (
+      arith,
+      c.split_at_mut-cells.ensures.front_len,
+      c.split_at_mut-marks.ensures.front_len,
+      c.split_at_mut-marks.ensures.back_len,
+      c.mark_terminals.auto.marks,
+      c.nodes-n.ensures.nodes,
+    ))
     packed.firsts_size packed.entries_size packed
 
 pub returns-else-has_rows-clause-rows : goal.returns-else-has_rows-clause-rows
@@ -20,8 +26,14 @@ returns-else-has_rows-clause-rows c =
     let net = c.args.given.net.now in let packed = c.pack.ensures in
     stand_behind (HasRows net) net (c.mark_terminals.new.marks ++ c.split_at_mut-marks.result.1.now)
     c.pack.new.first c.pack.new.halves c.split_at_mut-halves.result.1.now c.split_at_mut-own.result.1.now
-    (omega (arith, c.split_at_mut-cells.ensures.front_len, c.split_at_mut-marks.ensures.front_len,
-    c.split_at_mut-marks.ensures.back_len, c.mark_terminals.auto.marks, c.nodes-n.ensures.nodes))
+    (omega (
+      arith,
+      c.split_at_mut-cells.ensures.front_len,
+      c.split_at_mut-marks.ensures.front_len,
+      c.split_at_mut-marks.ensures.back_len,
+      c.mark_terminals.auto.marks,
+      c.nodes-n.ensures.nodes,
+    ))
     packed.firsts_size packed.halves_size (rows_packed net c.pack.new.first c.pack.new.halves packed)
 
 pub returns-else-has_rows-clause-packed : goal.returns-else-has_rows-clause-packed
@@ -29,6 +41,12 @@ returns-else-has_rows-clause-packed c = λ no.
     let net = c.args.given.net.now in let packed = c.pack.ensures in
     stand_behind (IsPacked net) net (c.mark_terminals.new.marks ++ c.split_at_mut-marks.result.1.now)
     c.pack.new.first c.pack.new.halves c.split_at_mut-halves.result.1.now c.split_at_mut-own.result.1.now
-    (omega (arith, c.split_at_mut-cells.ensures.front_len, c.split_at_mut-marks.ensures.front_len,
-    c.split_at_mut-marks.ensures.back_len, c.mark_terminals.auto.marks, c.nodes-n.ensures.nodes))
+    (omega (
+      arith,
+      c.split_at_mut-cells.ensures.front_len,
+      c.split_at_mut-marks.ensures.front_len,
+      c.split_at_mut-marks.ensures.back_len,
+      c.mark_terminals.auto.marks,
+      c.nodes-n.ensures.nodes,
+    ))
     packed.firsts_size packed.halves_size packed

@@ -14,6 +14,7 @@ use Rattle.flow_net.specs.Limits.{IsNet}
 use Rattle.flow_net.specs.Residual.{Table, residual}
 use Rattle.flow_solve.specs.declared.forests.Ground.{Ground}
 use Rattle.flow_solve.specs.declared.forests.growing.TheConstants.{DONE}
+use Rattle.flow_solve.specs.declared.forests.rows.Chosen.{Chosen}
 use Rattle.flow_solve.specs.declared.forests.joining.Budgeted.{Budgeted}
 use Rattle.flow_solve.specs.declared.forests.joining.TheConstants.{SEEN}
 use Rattle.flow_solve.specs.declared.residual.half_arcs.Direction.{Direction}
@@ -76,6 +77,18 @@ IsEmptied net rows = (p : ℕ) → p < length rows → 2 * length net.arcs ≤ s
 abbrev pub IsMissing : ℕ → List ℕ → Type 0
 IsMissing h rows = (p : ℕ) → p < length rows → slice_index rows p ≢ h
 
+-- half-arcs that are chosen for rows are half-arcs of the network, and none leads back that runs along a chosen arc
+pub record AreChosen (net : Net) (chosen : Chosen) : Type 0 where
+  pub arcs : chosen.arcs ≤ length net.arcs
+  pub within : (i : ℕ) → i < chosen.arcs → 2 * i + chosen.back < 2 * length net.arcs
+  pub apart : (i j : ℕ) → i < chosen.arcs → j < chosen.arcs → 2 * i ≢ 2 * j + chosen.back
+
+-- of the first arcs no cell holds a half-arc for the row of a node from some number on
+abbrev pub AreMissing : Net → Chosen → ℕ → ℕ → List ℕ → Type 0
+AreMissing net chosen arcs from rows = (i : ℕ) → i < arcs
+    → (from ≤ (slice_index_or net.arcs i no_arc).src → IsMissing (2 * i) rows)
+    × (from ≤ (slice_index_or net.arcs i no_arc).dst → IsMissing (2 * i + chosen.back) rows)
+
 -- no half-arc stands in two cells
 abbrev pub StandOnce : Net → List ℕ → Type 0
 StandOnce net rows = (p q : ℕ) → p < length rows → q < length rows → slice_index rows p < 2 * length net.arcs
@@ -86,9 +99,10 @@ pub record HasWritten (before : List ℕ) (at number : ℕ) (after : List ℕ) :
   pub size : length after ≡ length before
   pub cells : (p : ℕ) → (slice_index after p ≡ slice_index before p) ⊎ ((p ≡ at) × (slice_index after p ≡ number))
 
--- a half-arc was put into a cell, or nothing was
-pub record HasPut (net : Net) (before : List ℕ) (h : ℕ) (after : List ℕ) : Type 0 where
-  pub once : IsMissing h before → StandOnce net before → StandOnce net after
+-- a half-arc was put into a cell, or nothing was, as for a node that isn't one of a slice
+pub record HasPut (net : Net) (from to v : ℕ) (before : List ℕ) (h : ℕ) (after : List ℕ) : Type 0 where
+  pub once : (from ≤ v → IsMissing h before) → StandOnce net before → StandOnce net after
+  pub stays : to ≤ v → IsMissing h before → IsMissing h after
   pub others : (g : ℕ) → g < 2 * length net.arcs → g ≢ h → IsMissing g before → IsMissing g after
 
 -- no half-arc was

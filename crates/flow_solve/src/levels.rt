@@ -5,8 +5,8 @@
 //!
 //! 1. **Near sends** (`near_sends`): what can leave a source goes to sinks over one node or two. No tree is there yet
 //!    that a push could break, so they cost no repair. Assignments get most of their flow so, and so does a network
-//!    with an arc from each node to every later one. Without them such a network and a densest subgraph take 2.1 times
-//!    as long, matchings 1.3, transports 1.2, open pits 1.1, and all others as long as with them.
+//!    with an arc from each node to every later one. Without them a densest subgraph takes 1.9 times as long, such a
+//!    network 1.6, evacuations 1.5, matchings 1.4, transports 1.2, and the others about as long as with them.
 //! 2. **Two trees** (`trees`, `chains`, `orphans`, `forest`, `border`). Search trees grow from the sources and the
 //!    sinks (Boykov and Kolmogorov 2004), from one *active* node after another. Each node in a tree has a *parent*, the
 //!    half-arc that leads towards its root, a *label*, which tells how far that was when it was last looked at, and a
@@ -19,9 +19,9 @@
 //!    last search of the phases shows it in less. The trees end by themselves where they bring little for what they
 //!    take: they may take little at first, and more for each half-arc of a path that flow is pushed along, since
 //!    repairs cost the more the longer paths are. That serves where the first paths are short and most of a tree
-//!    outlives a push: images, assignments, closures. Without them evacuations take 9 times as long, images 3 to 4,
-//!    stereo and clouds 2, volumes, matchings, transports and open pits 1.5 to 1.6, surfaces and densest subgraphs 1.3.
-//!    They cost a quarter of what communities take, and a tenth of netlists.
+//!    outlives a push: images, assignments, closures. Without them evacuations take 10 times as long, images 2 to 6,
+//!    stereo, clouds and volumes 2.1 to 2.5, matchings, densest subgraphs and open pits 1.6 to 1.7, surfaces 1.4,
+//!    transports and wide layers 1.3. They cost a fifth of what communities and wide frames take.
 //! 3. **Waves that lift** (`waves`, `settling`), where the trees had to end before their active nodes ran out. All
 //!    that can leave the sources does, and each node sends what it has received, its *excess*, on to nodes that a
 //!    search has found a level nearer to the sinks, the farthest level first (after Karzanov 1974). A node that is
@@ -30,9 +30,9 @@
 //!    next search, and searches are made anew from time to time (Cherkassky and Goldberg 1997). In the end what no sink
 //!    takes goes home by waves to the sources, and the table is settled: it stays if a feasible flow stands there, and
 //!    is cleared otherwise. So thousands of paths that share most of their half-arcs cost one search and one sweep.
-//!    That serves where ways are long: roads, frames, layers, netlists, chains. Without them netlists take 6 times as
-//!    long, chains 27, long frames 36, and roads, layers, meshes and wide frames so long that they were stopped, at 8
-//!    to 100 times; the others are finished by the trees.
+//!    That serves where ways are long: roads, frames, layers, netlists, chains. Without them netlists take 5.5 times as
+//!    long, roads of one capacity 7, chains 34, and other roads, layers, meshes and frames so long that they were
+//!    stopped, at 3 to 16 times; most others are finished by the trees. Transports take 0.7 of the time without them.
 //! 4. **Phases** (`phases`, `walking`). A search backwards from the sinks ranks the nodes, walks from the sources along
 //!    falling ranks block all shortest paths, and the distance from the sources to the sinks grows by each phase
 //!    (Dinitz 1970). They go on from whatever feasible flow they find, and their last search, which sees no source,
@@ -64,11 +64,11 @@ ghost use Rattle.flow_net.specs.NodeSets.{one_of};
 ghost use Rattle.flow_net.specs.Flows.{Fits, IsGreatest};
 ghost use Rattle.flow_net.specs.LeastCuts.{IsLeastCapacity};
 ghost use Rattle.flow_solve.specs.Bounds.{levels_bound, openings_bound, phases_bound, work_cells};
-ghost use Rattle.flow_solve.specs.residual.Packs.{ArePackedBehind};
+ghost use Rattle.flow_solve.specs.residual.Packs.{ArePackedBehind, IsPacked};
 ghost use Rattle.flow_solve.specs.Solving.{IsFlow};
 ghost use Rattle.flow_solve.specs.Steps.{PaysSteps, TakesSteps};
 ghost use Rattle.flow_solve.specs.Task.{HasFlow, IsTask};
-ghost use Rattle.flow_solve.specs.levels.Entries.{HasRowsBehind, IsOpening};
+ghost use Rattle.flow_solve.specs.levels.Entries.{HasRows, HasRowsBehind, IsOpening};
 ghost use Rattle.flow_solve.specs.levels.Trees.{HasNoMore};
 
 pub(crate) mod entries;
@@ -177,8 +177,23 @@ fn begin(task: Task<'_>, flow: &mut FlowTable, cells: &mut [u32], value: u128) -
     }
 }
 
-/// Packs the cells of a solver for the first stages: with rows of entries, where these serve better, or else with
-/// half-arcs. Answers whether it is rows.
+/// Packs rows of entries for the first stages, where these serve better, or else half-arcs. Answers whether it is rows.
+fn pack_either(net: &Network, marks: &[u32], first: &mut [u32], halves: &mut [u32]) -> bool
+    requires marks { length marks.now ≡ net.now.nodes }
+    requires firsts { length first.old ≡ net.now.nodes + 1 }
+    requires halves { length halves.old ≡ 2 * length net.now.arcs }
+    ensures rows { HasRows net.now first.new halves.new }
+    ensures packed { IsFalse result → IsPacked net.now first.new halves.new }
+{
+    if is_like_a_picture(net, marks) {
+        pack_rows(net, marks, first, halves);
+        return true;
+    }
+    pack(net, first, halves);
+    false
+}
+
+/// Packs the cells of a solver for the first stages. Answers whether it is rows that stand there, or half-arcs.
 fn pack_first(given: Given<'_>, work: &mut [u32]) -> bool
     requires terminals { AreTerminals given.net.now given.s.now given.t.now }
     requires cells { work_cells given.net.now ≤ length work.old }
@@ -194,13 +209,7 @@ fn pack_first(given: Given<'_>, work: &mut [u32]) -> bool
     let (halves, _spare) = behind.split_at_mut(2 * net.len() as usize);
     let (marks, _free) = cells.split_at_mut(n);
     mark_terminals(net, s, t, marks);
-    let has_rows = is_like_a_picture(net, marks);
-    if has_rows {
-        pack_rows(net, marks, first, halves);
-    } else {
-        pack(net, first, halves);
-    }
-    has_rows
+    pack_either(net, marks, first, halves)
 }
 
 /// Raises the flow that carries nothing by the first stages, over the rows that stand in the cells.

@@ -131,6 +131,16 @@ def chain(step):
     return head + arcs, b"s 7\n" + b"".join(b"f %d %d 7\n" % (tail, tail + 1) for tail in tails)
 
 
+def circle(nodes, steps, turn):
+    """Nodes in a circle, each with a link of capacity 7 to the node some steps on, for each number of steps; the links
+    stand in turns. All nodes are alike, so where it is connected the connectivity is the number of links at a node
+    (Mader 1971)."""
+    links = [(i, (i + step) % nodes) for i in range(nodes) for step in steps]
+    arcs = b"".join(b"a %d %d 7\n" % (tail + 1, head + 1)
+                    for tail, head in (links[i * turn % len(links)] for i in range(len(links))))
+    return b"p max %d %d\nn 1 s\nn 2 t\n" % (nodes, len(links)) + arcs
+
+
 def refused_growths(folder):
     """Refuses each request of a job for memory in turn, until a run makes no further one, and then all."""
     net = os.path.join(folder, "net")
@@ -138,6 +148,8 @@ def refused_growths(folder):
         file.write(NET)
     in_order, in_order_solved = chain(1)
     scattered, scattered_solved = chain(257)
+    near, near_scattered = circle(600, (1, 2), 1), circle(600, (1, 2), 257)
+    far, far_scattered = circle(2000, (1, 37, 411, 703), 1), circle(2000, (1, 37, 411, 703), 2971)
     made = {}
     jobs = [
         (["solve"], in_order, (0, in_order_solved, b"")),
@@ -149,6 +161,10 @@ def refused_growths(folder):
         (["connect", "--undirected"], in_order, (0, b"k 1\n", b"")),
         (["connect", "--pair"], in_order, (0, b"k 1\n", b"")),
         (["connect", "--pair"], scattered, (0, b"k 1\n", b"")),
+        (["connect", "--undirected"], near, (0, b"k 4\n", b"")),
+        (["connect", "--undirected"], near_scattered, (0, b"k 4\n", b"")),
+        (["connect", "--undirected"], far, (0, b"k 8\n", b"")),
+        (["connect", "--undirected"], far_scattered, (0, b"k 8\n", b"")),
         (["check", net], SOLUTION, (0, b"optimal 5\n", b"")),
         (["solve"], TOO_FEW_ARCS, (3, b"", b"flow: line 5: too few arcs\n")),
     ]
@@ -172,6 +188,11 @@ def refused_growths(folder):
     # For its connectivity it is arranged in cells of their own, which are free again before a solver asks for its own.
     more = made["connect", scattered] - made["connect", in_order]
     check("a file in no order asks for four lists and cells more", more == 5, more)
+    # Before that its nodes' arcs are counted, and it is told whether its links lead anywhere; then it stays as it is.
+    more = made["connect", near_scattered] - made["connect", near]
+    check("a scattered file with short links asks for four lists, cells and two counts more", more == 7, more)
+    more = made["connect", far_scattered] - made["connect", far]
+    check("a scattered file with links that lead anywhere asks for two counts more", more == 2, more)
 
 
 def refused_calls(folder):

@@ -13,6 +13,7 @@ ghost use Rattle.flow_solve.specs.Bounds.{work_cells};
 ghost use Rattle.flow_tools.specs.connecting.Counts.{next_node};
 
 pub(crate) mod answers;
+mod order;
 
 use flow_net::{FlowTable, Network};
 use flow_solve::{Method, connectivity_by_forests, least_degree, work_len};

@@ -1,5 +1,5 @@
-//! Whether a problem is arranged before the connectivity of its network is looked for: a guess that costs or saves time,
-//! and no more.
+//! Whether a problem is arranged before the connectivity of its network is looked for: a guess that costs or saves
+//! time, and no more.
 ghost use Rattle.std.specs.Prelude.{◌≡◌, length, IfOk};
 ghost use Rattle.flow_tools.specs.solving.ArrangedProblems.{IsSameOrArranged};
 

@@ -57,6 +57,10 @@ const ROUNDS: u8 = 5;
 /// ladders less; where each node has four links that lead anywhere it is some 485.
 const MOST_MET: u32 = 300;
 
+/// One of so many nodes is met in a dense network, or in a small one, and these are arranged: in dense networks forests
+/// grow in less time then.
+const LARGE_PART: u32 = 4;
+
 /// Whether links lead anywhere: so many nodes are met from one on that no order brings all neighbours near.
 fn leads_anywhere(alloc: Global, net: &Network) -> Result<bool, OutOfMemory> {
     let mut met = filled(alloc, 0u8, net.nodes() as usize)?;
@@ -69,7 +73,7 @@ fn leads_anywhere(alloc: Global, net: &Network) -> Result<bool, OutOfMemory> {
     for round in 1..ROUNDS + 1 {
         count = count.saturating_add(meet_neighbours(net, met, round));
         if count > MOST_MET {
-            return Ok(true);
+            return Ok(count < net.nodes() / LARGE_PART);
         }
     }
     Ok(false)

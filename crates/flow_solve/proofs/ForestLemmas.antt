@@ -1,3 +1,4 @@
 pub mod Joined
+pub mod Marks
 pub mod Taken
 pub mod Degrees

@@ -1,9 +1,10 @@
 -- Forests that grow from one root: what their cells hold, and the flows by which they come to nodes without an arc.
-use Rattle.std.specs.Prelude.{◌≡◌, ℕ, zero, suc, ◌+◌, ◌*◌, ◌/◌, ◌%◌, ◌≤◌, ◌<◌, ◌==◌, Bool, false, List, length}
-use Rattle.std.specs.Prelude.{slice_index, slice_index_or, ◌⊎◌, ◌≢◌, Option, MatchOption, IsTrue, IsFalse}
+use Rattle.std.specs.Prelude.{◌≡◌, ℕ, zero, suc, ◌+◌, ◌*◌, ◌/◌, ◌%◌, ◌≤◌, ◌<◌, ◌==◌, Bool, false, not, ◌&&◌}
+use Rattle.std.specs.Prelude.{List, length, slice_index, slice_index_or, ◌⊎◌, ◌≢◌, Option, MatchOption, IsTrue, IsFalse}
+use Rattle.std.specs.Int.{bit_at}
 use Rattle.std.specs.List.{count_by}
 use Rattle.flow_net.specs.declared.networks.Arc.{Arc}
-use Rattle.flow_net.specs.Nets.{Net, IsNode}
+use Rattle.flow_net.specs.Nets.{Net, IsNode, arc_at}
 use Rattle.flow_net.specs.Arcs.{no_arc, enters}
 use Rattle.flow_net.specs.NodeSets.{just}
 use Rattle.flow_net.specs.Flows.{out_of, into, IsFeasible}
@@ -13,10 +14,9 @@ use Rattle.flow_net.specs.Forests.{entering, AreEntered, HasSpread, IsEven, IsEi
 use Rattle.flow_net.specs.Limits.{IsNet}
 use Rattle.flow_net.specs.Residual.{Table, residual}
 use Rattle.flow_solve.specs.declared.forests.Ground.{Ground}
-use Rattle.flow_solve.specs.declared.forests.growing.TheConstants.{DONE}
+use Rattle.flow_solve.specs.declared.forests.marks.TheConstants.{DONE, SEEN}
 use Rattle.flow_solve.specs.declared.forests.rows.Chosen.{Chosen}
 use Rattle.flow_solve.specs.declared.forests.joining.Budgeted.{Budgeted}
-use Rattle.flow_solve.specs.declared.forests.joining.TheConstants.{SEEN}
 use Rattle.flow_solve.specs.declared.residual.half_arcs.Direction.{Direction}
 use Rattle.flow_solve.specs.declared.residual.half_arcs.Direction.TheVariants.{Forwards, Backwards}
 use Rattle.flow_solve.specs.residual.HalfArcs.{near_end, far_end}
@@ -53,17 +53,26 @@ abbrev pub LeadsOn : Direction → ℕ → Type 0
 LeadsOn Forwards h = h % 2 ≡ 1
 LeadsOn Backwards h = h % 2 ≡ 0
 
--- the nodes whose cells hold a number, cell v - 1 for node v; those that a forest has come to, and those that a search
--- has seen
+-- cells hold bits, 32 each, two for each node: the forest has come to it, and a search has seen it
+abbrev pub bit_in : List ℕ → ℕ → Bool
+bit_in cells b = bit_at (slice_index cells (b / 32)) (b % 32) == 1
+
 abbrev pub marked_with : ℕ → List ℕ → ℕ → Bool
 marked_with mark cells zero = false
-marked_with mark cells (suc p) = slice_index cells p == mark
+marked_with mark cells (suc p) = bit_in cells (2 * p + mark)
 
 abbrev pub done_in : List ℕ → ℕ → Bool
 done_in cells = marked_with DONE cells
 
+-- one that the forest has come to counts as unseen
 abbrev pub seen_in : List ℕ → ℕ → Bool
-seen_in cells = marked_with SEEN cells
+seen_in cells v = marked_with SEEN cells v && not (marked_with DONE cells v)
+
+-- a node got a mark; the others have theirs, and all have their other mark
+pub record HasMarked (mark w : ℕ) (before after : List ℕ) : Type 0 where
+  pub here : IsTrue (marked_with mark after w)
+  pub others : (v : ℕ) → v ≢ w → marked_with mark after v ≡ marked_with mark before v
+  pub apart : (k : ℕ) → k < 2 → k ≢ mark → (v : ℕ) → marked_with k after v ≡ marked_with k before v
 
 -- the forest has come to the same nodes
 abbrev pub KeepsDone : List ℕ → List ℕ → Type 0
@@ -86,8 +95,8 @@ pub record AreChosen (net : Net) (chosen : Chosen) : Type 0 where
 -- of the first arcs no cell holds a half-arc for the row of a node from some number on
 abbrev pub AreMissing : Net → Chosen → ℕ → ℕ → List ℕ → Type 0
 AreMissing net chosen arcs from rows = (i : ℕ) → i < arcs
-    → (from ≤ (slice_index_or net.arcs i no_arc).src → IsMissing (2 * i) rows)
-    × (from ≤ (slice_index_or net.arcs i no_arc).dst → IsMissing (2 * i + chosen.back) rows)
+    → (from ≤ (arc_at net i).src → IsMissing (2 * i) rows)
+    × (from ≤ (arc_at net i).dst → IsMissing (2 * i + chosen.back) rows)
 
 -- no half-arc stands in two cells
 abbrev pub StandOnce : Net → List ℕ → Type 0

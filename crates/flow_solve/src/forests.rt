@@ -20,7 +20,7 @@
 //! | Cells | What they hold |
 //! |---|---|
 //! | `2·m` | for each node its half-arcs, as [`rows`] says |
-//! | `n` | whether the forest has come to a node, and whether a search has seen it |
+//! | `n` | the marks: whether the forest has come to a node, and whether a search has seen it, as [`marks`] says |
 //! | `4·n + 1` | four hints for each node |
 //! | `n` | the nodes that the forest goes back to; the queue of a search |
 //! | `1` | spare |
@@ -37,12 +37,13 @@ ghost use Rattle.flow_solve.specs.Forests.{done_in};
 pub(crate) mod degrees;
 mod growing;
 mod joining;
+mod marks;
 mod rows;
 
 use crate::residual::half_arcs::Direction;
 use degrees::{are_balanced, are_even, goes_both_ways, least_degree};
 use flow_net::{FlowTable, Network};
-use growing::{DONE, Front, begin, grow, is_whole, next_node, reach};
+use growing::{Front, begin, grow, is_whole, next_node, reach};
 use joining::{Budgeted, raise};
 use rows::{fill_rows, mix_rows};
 
@@ -136,7 +137,7 @@ fn grow_forest(
     if least.value <= count {
         return Some(least);
     }
-    if !is_whole(state) {
+    if !is_whole(ground.net.nodes(), state) {
         return None;
     }
     Some(least)

@@ -4,23 +4,21 @@
 //! begins at the node, which way it leads and where to. In a row those that forests have taken stand first: one more
 //! changes places with the first that isn't taken. So no forest goes over them again.
 ghost use Rattle.std.specs.Prelude.{◌≡◌, ◌↔◌, ℕ, ◌+◌, ◌-◌, ◌*◌, ◌<◌, ◌≤◌, IsTrue, length};
-ghost use Rattle.std.specs.Prelude.{slice_index, slice_set};
+ghost use Rattle.std.specs.Prelude.{slice_index};
 ghost use Rattle.flow_net.specs.Nets.{IsNode};
 ghost use Rattle.flow_net.specs.Residual.{head_of, tail_of};
-ghost use Rattle.flow_solve.specs.Forests.{HasGrown, IsStand, LeadsOn, done_in};
+ghost use Rattle.flow_solve.specs.Forests.{HasGrown, HasMarked, IsStand, LeadsOn, done_in};
+ghost use Rattle.flow_solve.specs.declared.forests.marks.TheConstants.{DONE};
 
 use crate::forests::Ground;
+use crate::forests::marks::{is_done, set_done, unmark_all};
 use crate::forests::rows::{
     FIRST, NEAR, NEXT, NONE, PLACE, RECORD, TAKEN, exchange_entries, half_in, leads_on, queue_at,
     record, spot_of,
 };
 use crate::residual::cells::{get, put};
 use crate::residual::half_arcs::{head, tail};
-use flow_net::MOST_NODES;
 use std::ops::Range;
-
-/// In the cell of a node that the forest has come to.
-pub(crate) const DONE: u32 = 1;
 
 /// How far a forest has come.
 #[derive(Clone, Copy)]
@@ -46,7 +44,7 @@ fn take(ground: Ground<'_>, rows: &mut [u32], state: &mut [u32], at: usize, behi
 {
     let half = rows[at];
     rows[at] = half + TAKEN;
-    state[behind as usize - 1] = DONE;
+    set_done(state, behind);
 }
 
 /// Takes the half-arc of an entry, if it isn't taken, leads on, and leads from a node to the one behind it. Answers
@@ -98,8 +96,7 @@ fn node_behind(ground: Ground<'_>, rows: &[u32], entry: u32) -> u32 {
 
 /// Whether it is a node and the forest hasn't come to it.
 fn is_left(state: &[u32], node: u32) -> bool {
-    let place = node.wrapping_sub(1) as usize;
-    place < state.len() && state[place] != DONE
+    node != 0 && node as usize <= state.len() && !is_done(state, node)
 }
 
 /// The first of some entries that leads on to a node which the forest hasn't come to, if there is one.
@@ -124,7 +121,7 @@ fn go_on(
     requires stand { IsStand ground rows.old state.old }
     ensures { HasGrown ground.entry rows.old state.old rows.new state.new }
 {
-    if node == 0 || node > ground.net.nodes() || state[node as usize - 1] != DONE {
+    if node == 0 || node > ground.net.nodes() || !is_done(state, node) {
         return None;
     }
     let at = record(node);
@@ -197,8 +194,8 @@ pub(crate) fn begin(ground: Ground<'_>, state: &mut [u32], hints: &mut [u32]) ->
     ensures root { IsTrue (done_in state.new ground.entry.root) }
     ensures only { (v : ℕ) → IsTrue (done_in state.new v) → v ≡ ground.entry.root }
 {
-    state.fill(0);
-    state[ground.root as usize - 1] = DONE;
+    unmark_all(state);
+    set_done(state, ground.root);
     let none = Front {
         count: 0,
         near: 0,
@@ -212,10 +209,10 @@ pub(crate) fn reach(ground: Ground<'_>, state: &mut [u32], hints: &mut [u32], fr
     requires size { length state.old ≡ ground.net.now.nodes }
     requires node { IsNode ground.net.now front.node }
     requires count { front.count < ground.net.now.nodes }
-    ensures reached { state.new ≡ slice_set state.old (front.node - 1) DONE }
+    ensures reached { HasMarked DONE front.node state.old state.new }
     ensures count { result.count ≡ front.count + 1 }
 {
-    state[front.node as usize - 1] = DONE;
+    set_done(state, front.node);
     come_to(ground.net.nodes(), hints, front, front.node)
 }
 
@@ -235,12 +232,13 @@ fn neighbour(
 }
 
 /// The first node that the forest hasn't come to.
-fn first_left(state: &[u32]) -> u32
-    requires { length state.now ≤ MOST_NODES }
+fn first_left(nodes: u32, state: &[u32]) -> u32
+    requires { length state.now ≡ nodes }
 {
-    for place in 0..state.len() {
-        if state[place] != DONE {
-            return place as u32 + 1;
+    for place in 0..nodes {
+        let node = place + 1;
+        if !is_done(state, node) {
+            return node;
         }
     }
     0
@@ -258,8 +256,6 @@ pub(crate) fn next_node(
     requires size { length state.now ≡ ground.net.now.nodes }
     ensures { result.count ≡ front.count }
 {
-    // Brings the network's limits, `IsNet`, into the proof.
-    let _ = ground.net.nodes();
     let mut next = front;
     while next.near > 0 {
         let last = get(hints, RECORD * (next.near as usize - 1) + NEAR);
@@ -269,16 +265,17 @@ pub(crate) fn next_node(
         }
         next.near -= 1;
     }
-    next.node = first_left(state);
+    next.node = first_left(ground.net.nodes(), state);
     next
 }
 
 /// Whether the forest has come to all nodes.
-pub(crate) fn is_whole(state: &[u32]) -> bool
-    ensures { IsTrue result → (p : ℕ) → p < length state.now → slice_index state.now p ≡ DONE }
+pub(crate) fn is_whole(nodes: u32, state: &[u32]) -> bool
+    requires { length state.now ≡ nodes }
+    ensures { IsTrue result → (v : ℕ) → 1 ≤ v → v ≤ nodes → IsTrue (done_in state.now v) }
 {
-    for cell in state {
-        if *cell != DONE {
+    for place in 0..nodes {
+        if !is_done(state, place + 1) {
             return false;
         }
     }

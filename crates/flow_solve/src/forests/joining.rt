@@ -11,14 +11,11 @@ ghost use Rattle.flow_solve.specs.Forests.{done_in, seen_in};
 ghost use Rattle.flow_solve.specs.Steps.{OnlyLooks, PaysLooks};
 
 use crate::forests::Ground;
-use crate::forests::growing::DONE;
+use crate::forests::marks::{is_done, is_seen, set_seen, unsee};
 use crate::forests::rows::{FIRST, NONE, PLACE, RECORD, half_in, queue_at, record, spot_of};
 use crate::residual::cells::{get, put};
 use crate::residual::half_arcs::{cross, far, head, near};
 use flow_net::{FlowTable, Network};
-
-/// In the cell of a node that a search has seen, and that the forest hasn't come to.
-pub(crate) const SEEN: u32 = 2;
 
 /// A number, and how many looks and pushes are left.
 #[derive(Clone, Copy)]
@@ -46,8 +43,9 @@ struct Search {
     left: u64,
 }
 
-/// Looks at a half-arc of a node that the search has seen, if it leads to one that isn't seen. The search sees that
-/// node, or has found a path if the forest has come to it.
+/// Looks at a half-arc that leads from a node that the search has seen to one that isn't seen. If something remains on
+/// it the search sees that node, or has found a path if the forest has come to it.
+#[inline(always)]
 fn search_over(
     ground: Ground<'_>,
     state: &mut [u32],
@@ -66,9 +64,7 @@ fn search_over(
 {
     let net = ground.net;
     let mut next = search;
-    let place = head(net, half) as usize - 1;
-    let cell = state[place];
-    if cell == SEEN || search.left == 0 {
+    if search.left == 0 {
         return next;
     }
     next.left -= 1;
@@ -77,14 +73,14 @@ fn search_over(
     if room == 0 {
         return next;
     }
-    if cell == DONE {
+    let behind = head(net, half);
+    if is_done(state, behind) {
         next.found = Some(over);
         return next;
     }
-    state[place] = SEEN;
-    let node = place as u32 + 1;
-    put(hints, record(node) + PLACE, over);
-    put(hints, queue_at(net.nodes(), search.tail), node);
+    set_seen(state, behind);
+    put(hints, record(behind) + PLACE, over);
+    put(hints, queue_at(net.nodes(), search.tail), behind);
     next.tail = search.tail.saturating_add(1);
     next
 }
@@ -130,16 +126,20 @@ fn search_entry(
     if half >= 2 * ground.net.len() {
         return search;
     }
+    let behind = if ground.paired {
+        NONE - get(rows, at + 1)
+    } else {
+        head(ground.net, half)
+    };
+    if behind == 0 || behind > ground.net.nodes() || is_seen(state, behind) {
+        return search;
+    }
     if !ground.paired {
         return search_over(ground, state, hints, flow, search, half);
     }
-    let behind = NONE - get(rows, at + 1);
-    if get(state, (behind as usize).wrapping_sub(1)) == SEEN {
-        return search;
-    }
     let opposite = opposite(ground.net, half);
     let next = search_over(ground, state, hints, flow, search, opposite);
-    if next.found.is_some() {
+    if next.found.is_some() || next.tail > search.tail {
         return next;
     }
     search_over(ground, state, hints, flow, next, half)
@@ -199,7 +199,7 @@ fn begin_search(
     ensures done { KeepsDone state.old state.new }
     ensures left { result.left ≡ left }
 {
-    state[node as usize - 1] = SEEN;
+    set_seen(state, node);
     put(hints, queue_at(ground.net.nodes(), 0), node);
     Search {
         at: 0,
@@ -288,26 +288,13 @@ fn worn(search: Search, left: u64) -> Search
     }
 }
 
-/// Makes the node at a place unseen, if a search has seen it.
-fn unsee(state: &mut [u32], place: usize)
-    ensures { KeepsDone state.old state.new }
-{
-    if place >= state.len() {
-        return;
-    }
-    if state[place] != SEEN {
-        return;
-    }
-    state[place] = 0;
-}
-
 /// Makes the nodes that a search has seen unseen.
 fn forget(nodes: u32, state: &mut [u32], hints: &[u32], tail: u32)
     ensures { KeepsDone state.old state.new }
 {
     for at in 0..tail {
         let node = get(hints, queue_at(nodes, at));
-        unsee(state, node.wrapping_sub(1) as usize);
+        unsee(state, node);
     }
 }
 
@@ -339,7 +326,7 @@ fn send(
     let mut at = far(net, ground.direction, last);
     let mut half = last;
     let mut left = left;
-    if state[at as usize - 1] != DONE {
+    if !is_done(state, at) {
         return None;
     }
     while at != node {
@@ -377,7 +364,7 @@ fn is_closed_over(
     let Ground { net, direction, .. } = ground;
     let from = near(net, direction, half);
     let to = far(net, direction, half);
-    if state[from as usize - 1] != SEEN || state[to as usize - 1] == SEEN {
+    if !is_seen(state, from) || is_seen(state, to) {
         return Some(left);
     }
     if left == 0 {
@@ -437,7 +424,7 @@ pub(crate) fn raise(
     ensures paid { PaysIfAny flow.old wanted.left flow.new result }
 {
     let nodes = ground.net.nodes();
-    if node == 0 || node > nodes || state[node as usize - 1] == DONE {
+    if node == 0 || node > nodes || is_done(state, node) {
         return None;
     }
     let mut search = begin_search(ground, state, hints, node, wanted.left);
@@ -445,7 +432,7 @@ pub(crate) fn raise(
     while value < wanted.value {
         search = search_on(ground, rows, state, hints, flow, node, search);
         let Some(last) = search.found else {
-            if state[node as usize - 1] != SEEN {
+            if !is_seen(state, node) {
                 return None;
             }
             let left = is_closed(ground, state, flow, search.left)?;

@@ -34,7 +34,8 @@ returns-clause-kept c = λ g.
 pub returns-clause-grove : goal.returns-clause-grove
 returns-clause-grove c = λ more g.
     grove_more c.args.ground c.in_ok-least.least.value c.args.count c.join_others.new.rows
-    c.join_others.new.state c.in_ok-least.ensures.stand.size (c.is_whole.ensures c.if-not-is_whole.false)
+    c.join_others.new.state
+    (λ v l m. c.is_whole.ensures c.if-not-is_whole.false v l (omega (arith, m)))
     (c.in_ok-least.ensures.forest c.args.count (c.grow-front.ensures.grown.forest c.args.least.value c.args.count
     (grove_begun c.args.ground c.args.least.value c.args.count c.args.rows.now c.begin-front.new.state
     g c.begin-front.ensures.only)))

@@ -1,13 +1,14 @@
 -- `join_others`: a node that as many arcs part from the forest is joined to it, and the forest grows on.
-use Rattle.std.proofs.Common.{◌≡◌, ◌≤◌, ◌-◌, ◌∙◌, ℕ, List, length, replicate, set, sym, ap, subst, true, arith}
+use Rattle.std.proofs.Common.{◌≡◌, ◌∙◌, ℕ, List, length, replicate, sym, ap, subst, true, arith}
 use Rattle.std.proofs.lemmas.Bool.{eqb-true}
 use Rattle.flow_net.specs.NodeSets.{just}
 use Rattle.flow_net.specs.Flows.{IsFeasible}
 use Rattle.flow_net.proofs.ZeroFlows.{zeros_feasible}
-use Rattle.flow_solve.specs.declared.forests.growing.TheConstants.{DONE}
-use Rattle.flow_solve.specs.Forests.{IsForest, done_in}
+use Rattle.flow_solve.specs.declared.forests.marks.TheConstants.{DONE}
+use Rattle.flow_solve.specs.Forests.{done_in}
 use Rattle.flow_solve.proofs.ForestLemmas.Joined.{raised_below, balanced_more}
-use Rattle.flow_solve.proofs.ForestLemmas.Taken.{forest_joined, mark_kept, mark_new}
+use Rattle.flow_solve.proofs.ForestLemmas.Marks.{mark_kept}
+use Rattle.flow_solve.proofs.ForestLemmas.Taken.{forest_joined}
 use Rattle.flow_solve.proofs.Payments.{paid_then}
 use Rattle.flow_solve.proofs.forests.join_others.Goals as goal
 
@@ -55,14 +56,10 @@ loop-front-preserved c =
     let old = c.loop-front.state in
     let kept = c.raise.new.state in
     let g = c.grow-front.ensures.grown in
-    let joined : c.reach-front.new.state ≡ set kept (w - 1) DONE = c.reach-front.ensures.reached in
-    let low = r.node.0 in let high = r.node.1 in
-    let room : w ≤ length kept = omega (arith, c.raise.auto.state, j.stand.size) in
+    let joined = c.reach-front.ensures.reached in
     let here : (v : ℕ) → done_in old v ≡ true → done_in c.grow-front.new.state v ≡ true =
-    λ v h. g.more v (subst (λ (z : List ℕ). done_in z v ≡ true) (sym joined)
-    (mark_kept DONE kept w v low room (r.done v ∙ h))) in
-    let node : done_in c.grow-front.new.state w ≡ true =
-    g.more w (subst (λ (z : List ℕ). done_in z w ≡ true) (sym joined) (mark_new DONE kept w low room)) in
+    λ v h. g.more v (mark_kept DONE w kept c.reach-front.new.state v joined (r.done v ∙ h)) in
+    let node : done_in c.grow-front.new.state w ≡ true = g.more w joined.here in
     record {
       fits = r.fits;
       stand = g.stand;
@@ -73,11 +70,9 @@ loop-front-preserved c =
       fewer = omega (arith, j.fewer, r.fewer);
       forest = λ k f.
           g.forest c.in_ok-least.least.value k
-          (subst (λ (z : List ℕ). IsForest ground c.in_ok-least.least.value k c.loop-front.rows z)
-          (sym joined)
           (forest_joined ground c.in_ok-least.least.value c.loop-front.least.value k w c.loop-front.rows old
-          kept r.node room r.done
+          kept c.reach-front.new.state joined r.done
           (raised_below ground.direction net w (done_in old) c.raise.new.flow.flows c.in_ok-least.least.value
-          j.stand.limits c.requires.unit r.raised) r.fewer (j.forest k f)));
+          j.stand.limits c.requires.unit r.raised) r.fewer (j.forest k f));
       paid = paid_then _ _ _ _ _ _ j.paid r.paid;
     }

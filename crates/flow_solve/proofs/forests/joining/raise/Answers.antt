@@ -1,14 +1,12 @@
 -- `raise`: searches and pushes in turn, until the flow is worth what is wanted, or the nodes seen are a closed set.
-use Rattle.std.proofs.Common.{◌≡◌, ◌≤◌, ◌∙◌, ℕ, List, ap, subst, true, arith}
+use Rattle.std.proofs.Common.{◌≡◌, ◌≤◌, ◌∙◌, ℕ, List, ap, subst, sym, true, arith}
 use Rattle.std.proofs.lemmas.Bool.{eqb-true}
 use Rattle.flow_net.specs.NodeSets.{just}
 use Rattle.flow_net.specs.Cuts.{IsCut}
-use Rattle.flow_solve.specs.declared.forests.growing.TheConstants.{DONE}
-use Rattle.flow_solve.specs.declared.forests.joining.TheConstants.{SEEN}
 use Rattle.flow_solve.specs.residual.HalfArcs.{IsClosedFor}
 use Rattle.flow_solve.specs.Forests.{done_in, seen_in}
 use Rattle.flow_solve.proofs.ForestLemmas.Joined.{raised_none, raised_parted, parted_reached}
-use Rattle.flow_solve.proofs.ForestLemmas.Taken.{mark_is, mark_not, seen_apart}
+use Rattle.flow_solve.proofs.ForestLemmas.Marks.{seen_apart}
 use Rattle.flow_solve.proofs.forests.joining.raise.Goals as goal
 
 pub loop-value-init : goal.loop-value-init
@@ -17,7 +15,7 @@ loop-value-init c = record {
   done = c.begin_search-search.ensures.done;
   raised = raised_none c.args.ground.direction c.args.ground.net.now c.args.node (done_in c.args.state.now)
       c.args.flow.now.flows (omega arith, omega arith)
-      (mark_not DONE c.args.state.now c.args.node c.if-state-node-eq-DONE.false) c.requires.balanced;
+      (sym c.is_done.ensures ∙ c.if-is_done.false) c.requires.balanced;
   below = omega arith;
   paid = record { never_lowered = omega arith; left = omega arith; steps = omega arith };
 }
@@ -35,7 +33,7 @@ returns-in_default-clause-reached c =
     let closed : IsClosedFor dir net c.loop-value.flow.flows X =
     subst (λ (z : List ℕ). IsClosedFor dir net z X) c.search_on-search.ensures.looks.flows
     c.in_ok-left.ensures.closed in
-    let here : X c.args.node ≡ true = mark_is SEEN state c.args.node n.0 c.if-state-node-ne-SEEN.false in
+    let here : X c.args.node ≡ true = sym c.is_seen.ensures ∙ c.if-not-is_seen.false in
     let cut : IsCut (just c.args.node) done X =
     record {
       sources = λ v h. ap X (eqb-true v c.args.node h) ∙ here;

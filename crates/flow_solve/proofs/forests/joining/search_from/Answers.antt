@@ -1,6 +1,6 @@
 -- `search_from`: the half-arcs of a node, one after the other.
 use Rattle.std.proofs.Common.{arith}
-use Rattle.flow_solve.proofs.ForestLemmas.Taken.{keeps_on}
+use Rattle.flow_solve.proofs.ForestLemmas.Marks.{keeps_on}
 use Rattle.flow_solve.proofs.Payments.{looked_fits, looks_then}
 use Rattle.flow_solve.proofs.forests.joining.search_from.Goals as goal
 

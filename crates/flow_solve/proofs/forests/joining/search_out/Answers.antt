@@ -1,6 +1,6 @@
 -- `search_out`: a search goes on from node to node.
 use Rattle.std.proofs.Common.{refl}
-use Rattle.flow_solve.proofs.ForestLemmas.Taken.{keeps_on}
+use Rattle.flow_solve.proofs.ForestLemmas.Marks.{keeps_on}
 use Rattle.flow_solve.proofs.Payments.{looked_fits, looks_none, looks_then}
 use Rattle.flow_solve.proofs.forests.joining.search_out.Goals as goal
 

@@ -2,11 +2,9 @@
 use Rattle.std.proofs.Common.{◌≡◌, ◌≤◌, ◌<◌, ◌*◌, ◌∙◌, length, sym, ap, subst, ℕ, List, arith}
 use Rattle.flow_net.specs.NodeSets.{just}
 use Rattle.flow_net.specs.Residual.{pushed, residual}
-use Rattle.flow_solve.specs.declared.forests.growing.TheConstants.{DONE}
 use Rattle.flow_solve.specs.residual.HalfArcs.{near_end}
 use Rattle.flow_solve.specs.Forests.{done_in}
 use Rattle.flow_solve.proofs.ForestLemmas.Joined.{IsUnderWay, way_begins, way_back, way_ends}
-use Rattle.flow_solve.proofs.ForestLemmas.Taken.{mark_is}
 use Rattle.flow_solve.proofs.forests.joining.send.Goals as goal
 
 pub loop-at-init : goal.loop-at-init
@@ -55,6 +53,6 @@ returns-clause-raised c = λ value r.
     let xs = c.args.flow.now.flows in
     let x = c.far-at.result in
     way_ends dir net c.args.node x t xs c.loop-at.flow.flows value c.requires.apart
-    (mark_is DONE c.args.state.now x c.far-at.ensures.node.0 c.if-state-at-ne-DONE.false) r
+    (sym c.is_done.ensures ∙ c.if-not-is_done.false) r
     (subst (λ z. IsUnderWay dir net (just c.args.node) t xs z x c.loop-at.flow.flows) c.loop-at-test.false
     (c.loop-at.invariant.under_way r.feasible))

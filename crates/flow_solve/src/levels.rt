@@ -21,7 +21,7 @@
 //!    repairs cost the more the longer paths are. That serves where the first paths are short and most of a tree
 //!    outlives a push: images, assignments, closures. Without them evacuations take 10 times as long, images 2 to 6,
 //!    stereo, clouds and volumes 2.1 to 2.5, matchings, densest subgraphs and open pits 1.6 to 1.7, surfaces 1.4,
-//!    transports and wide layers 1.3. They cost a fifth of what communities and wide frames take.
+//!    transports and wide layers 1.3. They cost a fifth of what communities take.
 //! 3. **Waves that lift** (`waves`, `settling`), where the trees had to end before their active nodes ran out. All
 //!    that can leave the sources does, and each node sends what it has received, its *excess*, on to nodes that a
 //!    search has found a level nearer to the sinks, the farthest level first (after Karzanov 1974). A node that is
@@ -57,7 +57,7 @@
 //!
 //! In a dense network the phases follow the near sends. The trees grow no farther than until the nearest source and
 //! sink are found to be far apart, since then much flow goes far, and paths one by one bring little. There the waves
-//! begin.
+//! begin. Where few half-arcs are at the sources or at the sinks, as in frames, a shorter way counts as far.
 ghost use Rattle.std.specs.Prelude.{◌≡◌, ◌+◌, ◌*◌, ◌≤◌, IsFalse, IsTrue, drop, length};
 ghost use Rattle.flow_net.specs.Limits.{AreTerminals};
 ghost use Rattle.flow_net.specs.NodeSets.{one_of};

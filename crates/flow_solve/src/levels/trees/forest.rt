@@ -52,6 +52,8 @@ pub(crate) struct Trees<'a> {
     pub left: u64,
     /// The trees are tired where no more than this is left: they have brought too little for what they took.
     pub floor: u64,
+    /// The most half-arcs that the first path may have.
+    pub farthest: u32,
 }
 
 /// Where a node's label stands: twice one more than its distance from the root when that was last looked at, and 1 more

@@ -6,28 +6,50 @@ ghost use Rattle.flow_tools.specs.solving.ArrangedProblems.{IsSameOrArranged};
 use crate::cells::filled;
 use crate::solving::arranging::arrange_if_scattered;
 use flow_net::{Network, OutOfMemory, Problem, is_scattered};
-use flow_solve::least_degree;
 use std::alloc::Global;
 
-/// The least number of arcs at a node: of those that leave it or of those that enter it, or where `undirected` is true
-/// of both together.
-fn least_at_a_node(alloc: Global, net: &Network, undirected: bool) -> Result<u64, OutOfMemory> {
-    let n = net.nodes() as usize;
-    let mut cells = filled(alloc, 0u32, 2 * n)?;
-    let cells = cells.as_mut_slice();
-    let mut least = least_degree(net, cells);
-    if undirected {
-        least = u64::MAX;
-        for place in 0..n {
-            least = least.min(u64::from(cells[place]) + u64::from(cells[n + place]));
+/// So many arcs at each node, or more, are there where a network is arranged. With fewer at most two forests grow, or
+/// none, and that takes less than to arrange the network.
+const LEAST_ARRANGED: u8 = 3;
+
+/// Counts the arcs that leave and that enter each node, self-loops left out, as far as a byte goes.
+fn count_few(net: &Network, leaving: &mut [u8], entering: &mut [u8])
+    requires leaving { length leaving.old ≡ net.now.nodes }
+    requires entering { length entering.old ≡ net.now.nodes }
+{
+    for i in 0..net.len() {
+        let arc = net.arc(i);
+        let src = arc.src as usize - 1;
+        let dst = arc.dst as usize - 1;
+        if src != dst {
+            leaving[src] = leaving[src].saturating_add(1);
+            entering[dst] = entering[dst].saturating_add(1);
         }
     }
-    Ok(least)
 }
 
-/// The least number of arcs at a node with which a network is arranged. With fewer at most two forests grow, or none,
-/// and that takes less than to arrange the network.
-const LEAST_ARRANGED: u64 = 3;
+/// Whether some node has few arcs: of those that leave it or of those that enter it, or where `undirected` is true of
+/// both together.
+fn has_few(alloc: Global, net: &Network, undirected: bool) -> Result<bool, OutOfMemory> {
+    let n = net.nodes() as usize;
+    let mut leaving = filled(alloc, 0u8, n)?;
+    let mut entering = filled(alloc, 0u8, n)?;
+    let leaving = leaving.as_mut_slice();
+    let entering = entering.as_mut_slice();
+    count_few(net, leaving, entering);
+    for place in 0..n {
+        let (out, into) = (leaving[place], entering[place]);
+        let count = if undirected {
+            out.saturating_add(into)
+        } else {
+            out.min(into)
+        };
+        if count < LEAST_ARRANGED {
+            return Ok(true);
+        }
+    }
+    Ok(false)
+}
 
 /// Meets the neighbours of the nodes that were met in a round. Answers how many that weren't met before.
 fn meet_neighbours(net: &Network, met: &mut [u8], round: u8) -> u32
@@ -85,7 +107,7 @@ fn is_kept(alloc: Global, problem: &Problem, undirected: bool) -> Result<bool, O
     if !is_scattered(net, problem.sources()[0], problem.sinks()[0]) {
         return Ok(true);
     }
-    if least_at_a_node(alloc, net, undirected)? < LEAST_ARRANGED {
+    if has_few(alloc, net, undirected)? {
         return Ok(true);
     }
     leads_anywhere(alloc, net)

@@ -38,8 +38,8 @@ fn rows_by_hand(rt: HostRuntime) {
     assert_eq!(&rt; &halves[..6], ENTRIES);
 }
 
-/// A line of pixels, each with an arc to the sink, and with one to the next pixel or, if asked for, one each way between
-/// the two. With arcs both ways each third arc is of one kind.
+/// A line of pixels, each with an arc to the sink, and with one to the next pixel or, if asked for, one each way
+/// between the two. With arcs both ways each third arc is of one kind.
 fn line(alloc: Global, pixels: u32, both_ways: bool) -> Option<Network>
     requires { (2 ≤ pixels) × (pixels ≤ 1000) }
 {

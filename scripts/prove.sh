@@ -43,7 +43,7 @@ prove() { # LAST ROOM
 }
 
 cat >&2 <<TEXT
-Proving and building $1, since nothing is built that isn't proved. From nothing this takes ten to fifteen
+Proving and building $1, since nothing is built that isn't proved. From nothing this takes eight to twelve
 minutes on four cores, and up to six gigabytes of memory; what an earlier run has proved is kept, and taken up.
 TEXT
 

@@ -12,7 +12,7 @@ use std::process::Abort;
 use std::test::Fail;
 
 /// Refused problems: the text, the line of the fault and its words.
-const PROBLEM_FAULTS: [(&str, u64, &str); 24] = [
+const PROBLEM_FAULTS: &[(&str, u64, &str)] = &[
     ("p max 2 0\nx\n", 2, "unknown line"),
     ("p max 2 0\npp max 2 0\n", 2, "unknown line"),
     ("p max 2\n", 1, "wrong number of fields"),
@@ -48,7 +48,7 @@ const PROBLEM_FAULTS: [(&str, u64, &str); 24] = [
 ];
 
 /// Refused solutions to a problem of two nodes, in the same way.
-const SOLUTION_FAULTS: [(&str, u64, &str); 10] = [
+const SOLUTION_FAULTS: &[(&str, u64, &str)] = &[
     ("", 1, "solution line missing"),
     ("f\n", 1, "solution line missing"),
     ("a 1 2 1\n", 1, "unknown line"),
@@ -70,7 +70,7 @@ const TOO_MANY_FLOW_LINES: ReadFault = ReadFault::Fault {
 const GREATEST: u128 = 340_282_366_920_938_463_463_374_607_431_768_211_455;
 
 /// Fields, limits, and what `number` answers.
-const NUMBERS: [(&[u8], u128, Number); 10] = [
+const NUMBERS: &[(&[u8], u128, Number)] = &[
     (b"", 5, Number::NotDigits),
     (b"5", 5, Number::Value(5)),
     (b"0005", 5, Number::Value(5)),
@@ -86,6 +86,18 @@ const NUMBERS: [(&[u8], u128, Number); 10] = [
     (&[b'9'; 39], GREATEST, Number::Above),
     (&[b'0'; 150], 0, Number::Value(0)),
 ];
+
+/// Whether a reader that has refused a problem lends nothing, and answers the same from then on.
+fn keeps_refusing_problem(mut reader: ProblemReader, refused: ReadFault) -> bool {
+    let silent = reader.net().is_none() && reader.feed(b"c") == Err(refused);
+    reader.finish().err() == Some(refused) && silent
+}
+
+/// The same of a reader that has refused a solution.
+fn keeps_refusing_solution(mut reader: SolutionReader, refused: ReadFault) -> bool {
+    let silent = reader.lines().is_empty() && reader.feed(b"c") == Err(refused);
+    reader.finish().err() == Some(refused) && silent
+}
 
 /// Reads a problem whose first piece has a given length, and the others at most another, and checks that a refusal
 /// stays.
@@ -107,9 +119,7 @@ fn read_problem(
         }
     }
     if let Err(refused) = answer {
-        assert!(rt; reader.net().is_none());
-        assert_eq!(rt; reader.feed(b"c"), Err(refused));
-        assert_eq!(rt; reader.finish().err(), Some(refused));
+        assert!(rt; keeps_refusing_problem(reader, refused));
         return Err(refused);
     }
     reader.finish()
@@ -134,9 +144,7 @@ fn read_solution(
         }
     }
     if let Err(refused) = answer {
-        assert!(rt; reader.lines().is_empty());
-        assert_eq!(rt; reader.feed(b"c"), Err(refused));
-        assert_eq!(rt; reader.finish().err(), Some(refused));
+        assert!(rt; keeps_refusing_solution(reader, refused));
         return Err(refused);
     }
     reader.finish()
@@ -176,16 +184,29 @@ fn check_solution_fault(rt: &impl Abort, alloc: Global, text: &str, line: u64, w
 
 #[test]
 fn problem_faults(rt: HostRuntime) {
-    for (text, line, words) in PROBLEM_FAULTS {
+    for &(text, line, words) in PROBLEM_FAULTS {
         check_problem_fault(&rt, rt.alloc(), text, line, words);
     }
 }
 
 #[test]
 fn solution_faults(rt: HostRuntime) {
-    for (text, line, words) in SOLUTION_FAULTS {
+    for &(text, line, words) in SOLUTION_FAULTS {
         check_solution_fault(&rt, rt.alloc(), text, line, words);
     }
+}
+
+/// What readers of problems and of solutions answer to as many bytes as a line may have, and to what comes then.
+fn answers_to_a_long_line(alloc: Global, more: &[u8]) -> [Result<(), ReadFault>; 4] {
+    let line = [b'x'; LONGEST_LINE];
+    let mut problem = ProblemReader::new(alloc);
+    let mut solution = SolutionReader::new(alloc, 2);
+    [
+        problem.feed(&line),
+        problem.feed(more),
+        solution.feed(&line),
+        solution.feed(more),
+    ]
 }
 
 #[test]
@@ -194,13 +215,11 @@ fn lines_of_the_greatest_length(rt: HostRuntime) {
         (b"x".as_slice(), FaultCode::LineTooLong),
         (b"\n".as_slice(), FaultCode::UnknownLine),
     ] {
-        let fault = ReadFault::Fault { line: 1, code };
-        let mut problem = ProblemReader::new(rt.alloc());
-        assert_eq!(&rt; problem.feed(&[b'x'; LONGEST_LINE]), Ok(()));
-        assert_eq!(&rt; problem.feed(more), Err(fault));
-        let mut solution = SolutionReader::new(rt.alloc(), 2);
-        assert_eq!(&rt; solution.feed(&[b'x'; LONGEST_LINE]), Ok(()));
-        assert_eq!(&rt; solution.feed(more), Err(fault));
+        let refused = Err(ReadFault::Fault { line: 1, code });
+        assert_eq!(&rt;
+            answers_to_a_long_line(rt.alloc(), more),
+            [Ok(()), refused, Ok(()), refused]
+        );
     }
 }
 
@@ -231,68 +250,72 @@ fn first_refused(
     for (taken, piece) in text.chunks(len).enumerate() {
         let kept = reader.lines().len();
         if let Err(fault) = reader.feed(piece) {
-            assert!(rt; reader.lines().is_empty());
-            assert_eq!(rt; reader.feed(b"c"), Err(fault));
-            assert_eq!(rt; reader.finish().err(), Some(fault));
+            assert!(rt; keeps_refusing_solution(reader, fault));
             return Some((taken, kept, fault));
         }
     }
     None
 }
 
+/// Checks how many pieces of so many bytes of such a solution are taken, and flow lines kept, before one is refused.
+fn check_pieces(
+    rt: &impl Abort,
+    alloc: Global,
+    len: usize,
+    taken: usize,
+    kept: usize,
+) -> Result<(), Fail>
+    requires { 0 < len }
+{
+    let text = too_long_solution(alloc)?;
+    assert_eq!(rt; text.len(), TOO_MANY_BYTES);
+    let refused = first_refused(rt, alloc, text.as_slice(), len);
+    assert_eq!(rt; refused, Some((taken, kept, TOO_MANY_FLOW_LINES)));
+    Ok(())
+}
+
 #[test]
 fn too_many_flow_lines_at_once(rt: HostRuntime) -> Result<(), Fail> {
-    let text = too_long_solution(rt.alloc())?;
-    let text = text.as_slice();
-    assert_eq!(&rt; text.len(), TOO_MANY_BYTES);
-    let refused = first_refused(&rt, rt.alloc(), text, TOO_MANY_BYTES);
-    assert_eq!(&rt; refused, Some((0, 0, TOO_MANY_FLOW_LINES)));
-    // All but the last line are taken and kept.
-    let (allowed, last) = text.split_at(text.len().saturating_sub(8));
-    let mut reader = SolutionReader::new(rt.alloc(), 2);
-    assert_eq!(&rt; reader.feed(allowed), Ok(()));
-    assert_eq!(&rt; reader.lines().len(), MOST_FLOW_LINES);
-    assert_eq!(&rt; reader.feed(last), Err(TOO_MANY_FLOW_LINES));
-    Ok(())
+    check_pieces(&rt, rt.alloc(), TOO_MANY_BYTES, 0, 0)
+}
+
+/// All but the last line are taken and kept.
+#[test]
+fn too_many_flow_lines_by_the_last(rt: HostRuntime) -> Result<(), Fail> {
+    check_pieces(&rt, rt.alloc(), TOO_MANY_BYTES - 8, 1, MOST_FLOW_LINES)
 }
 
 /// Byte 10 of the last line is refused.
 #[test]
 fn too_many_flow_lines_byte_by_byte(rt: HostRuntime) -> Result<(), Fail> {
-    let text = too_long_solution(rt.alloc())?;
-    let refused = first_refused(&rt, rt.alloc(), text.as_slice(), 1);
-    assert_eq!(&rt;
-        refused,
-        Some((TOO_MANY_BYTES - 1, MOST_FLOW_LINES, TOO_MANY_FLOW_LINES))
-    );
-    Ok(())
+    check_pieces(&rt, rt.alloc(), 1, TOO_MANY_BYTES - 1, MOST_FLOW_LINES)
 }
 
 /// Pieces of 7 bytes cut lines of 8 bytes at each of their places: of the whole pieces and 2 bytes, these 2 are
 /// refused. Two pieces cut at every place of the text would be 32 million readings of it, which is out of reach.
 #[test]
 fn too_many_flow_lines_in_pieces(rt: HostRuntime) -> Result<(), Fail> {
-    let text = too_long_solution(rt.alloc())?;
-    let refused = first_refused(&rt, rt.alloc(), text.as_slice(), 7);
-    assert_eq!(&rt;
-        refused,
-        Some((TOO_MANY_BYTES / 7, MOST_FLOW_LINES, TOO_MANY_FLOW_LINES))
-    );
-    Ok(())
+    check_pieces(&rt, rt.alloc(), 7, TOO_MANY_BYTES / 7, MOST_FLOW_LINES)
 }
 
 #[test]
 fn fields_of_a_line(rt: HostRuntime) {
     let mut found = fields(b"\ta  12\r 3 \r");
-    assert_eq!(&rt; found.next(), Some(b"a".as_slice()));
-    assert_eq!(&rt; found.next(), Some(b"12".as_slice()));
-    assert_eq!(&rt; found.next(), Some(b"3".as_slice()));
-    assert_eq!(&rt; found.next(), None);
+    let four = [found.next(), found.next(), found.next(), found.next()];
+    assert_eq!(&rt;
+        four,
+        [
+            Some(b"a".as_slice()),
+            Some(b"12".as_slice()),
+            Some(b"3".as_slice()),
+            None
+        ]
+    );
 }
 
 #[test]
 fn numbers_of_fields(rt: HostRuntime) {
-    for (field, limit, answer) in NUMBERS {
+    for &(field, limit, answer) in NUMBERS {
         assert_eq!(&rt; number(field, limit), answer);
     }
 }

@@ -1,8 +1,8 @@
 //! The words of each fault.
 use super::*;
 
-/// The words of the faults of a problem.
-const PROBLEM_WORDS: [(FaultCode, &str); 17] = [
+/// The words of the faults of a problem, then of those that only a solution has.
+const WORDS: &[(FaultCode, &str)] = &[
     (FaultCode::LineTooLong, "line too long"),
     (FaultCode::UnknownLine, "unknown line"),
     (FaultCode::WrongFields, "wrong number of fields"),
@@ -23,10 +23,6 @@ const PROBLEM_WORDS: [(FaultCode, &str); 17] = [
     (FaultCode::CapacityOutOfRange, "capacity out of range"),
     (FaultCode::TooFewArcs, "too few arcs"),
     (FaultCode::AlreadyTerminal, "node is already a terminal"),
-];
-
-/// The words of the faults that only a solution has.
-const SOLUTION_WORDS: [(FaultCode, &str); 5] = [
     (FaultCode::SecondSolutionLine, "second solution line"),
     (FaultCode::SolutionLineMissing, "solution line missing"),
     (FaultCode::TooManyFlowLines, "too many flow lines"),
@@ -35,15 +31,8 @@ const SOLUTION_WORDS: [(FaultCode, &str); 5] = [
 ];
 
 #[test]
-fn words_of_problem_faults(rt: HostRuntime) {
-    for (code, words) in PROBLEM_WORDS {
-        assert_eq!(&rt; code.text(), words);
-    }
-}
-
-#[test]
-fn words_of_solution_faults(rt: HostRuntime) {
-    for (code, words) in SOLUTION_WORDS {
+fn words_of_faults(rt: HostRuntime) {
+    for &(code, words) in WORDS {
         assert_eq!(&rt; code.text(), words);
     }
 }

@@ -1,6 +1,6 @@
 //! The bytes of each output line, with small numbers and with the greatest.
 use super::*;
-use flow_net::Arc;
+use crate::net::arc;
 
 /// The first text that its line hasn't.
 fn missed<'a>(lines: &[(Line, &'a str)]) -> Option<&'a str> {
@@ -10,10 +10,6 @@ fn missed<'a>(lines: &[(Line, &'a str)]) -> Option<&'a str> {
         }
     }
     None
-}
-
-fn arc(src: u32, dst: u32, cap: u64) -> Arc {
-    Arc { src, dst, cap }
 }
 
 fn over(src: u32, dst: u32, flow: u128, cap: u128) -> Verdict {

@@ -1,7 +1,7 @@
 ghost use Rattle.flow_net.specs.Flows.{Fits, IsFeasible};
-ghost use Rattle.std.specs.Prelude.{◌≡◌, ◌≢◌, ℕ, Bool, List, ◌*◌, ◌≤◌, ◌<◌, IsTrue, IfSome, length, slice_index};
+ghost use Rattle.std.specs.Prelude.{◌≡◌, ◌≢◌, ℕ, List, ◌*◌, ◌≤◌, ◌<◌, IsTrue, length, slice_index};
 ghost use Rattle.std.specs.Prelude.{take, drop};
-ghost use Rattle.flow_net.specs.Nets.{IsNode};
+ghost use Rattle.flow_net.specs.NodeSets.{one_of};
 ghost use Rattle.flow_net.specs.Limits.{AreTerminals, AreDistinct};
 ghost use Rattle.std.specs.List.{All};
 ghost use Rattle.flow_solve.specs.Bounds.{work_cells};
@@ -66,18 +66,25 @@ fn all_within(nodes: &[u32], most: u32) -> bool
     true
 }
 
-/// A network with some arcs, if it can have them all and there is memory.
-fn network(alloc: Global, nodes: u32, arcs: &[(u32, u32, u64)]) -> Option<Network>
+/// A network with some arcs.
+fn network(rt: &impl Abort, alloc: Global, nodes: u32, arcs: &[(u32, u32, u64)]) -> Network
     requires least { FEWEST_NODES ≤ nodes }
     requires most { nodes ≤ MOST_NODES }
 {
     let mut net = Network::new(alloc, nodes);
+    assert!(rt; add_all(&mut net, arcs));
+    net
+}
+
+/// Adds arcs, and answers whether the network can have them all and there is memory.
+#[must_use]
+fn add_all(net: &mut Network, arcs: &[(u32, u32, u64)]) -> bool {
     for (src, dst, cap) in arcs {
-        if !add(&mut net, *src, *dst, *cap) {
-            return None;
+        if !add(net, *src, *dst, *cap) {
+            return false;
         }
     }
-    Some(net)
+    true
 }
 
 /// Adds an arc, and answers whether the network can have it and there is memory.
@@ -91,10 +98,11 @@ fn add(net: &mut Network, src: u32, dst: u32, cap: u64) -> bool {
     }
 }
 
-/// What the solver says of a network: whether the empty flow can be raised, the greatest value, the least source side
-/// and the least sink side.
-#[derive(Drop)]
+/// What the solvers say of a network: whether they and their searches agree, whether the empty flow can be raised, the
+/// greatest value, the least source side and the least sink side.
+#[derive(Clone, Copy)]
 struct Answer {
+    agree: bool,
     rises: bool,
     value: u128,
     side: [bool; 6],
@@ -102,54 +110,77 @@ struct Answer {
 }
 
 /// A table of an empty flow.
-fn empty_flow(alloc: Global, net: &Network) -> Option<FlowTable>
-    ensures feasible { IfSome result (λ table. (s t : ℕ → Bool) → IsFeasible net.now s t table.flows) }
-    ensures flow { IfSome result (λ table. (s t : List ℕ) → IsFlow net.now s t table.flows 0) }
+fn empty_flow(rt: &impl Abort, alloc: Global, net: &Network) -> FlowTable
+    ensures fits { Fits net.now result.flows }
+    ensures flow { (s t : List ℕ) → IsFlow net.now s t result.flows 0 }
 {
-    match FlowTable::new(alloc, net) {
-        Ok(table) => Some(table),
-        Err(_) => None,
-    }
+    FlowTable::new(alloc, net).expect(rt, "memory")
 }
 
-/// The solvers' answer for a network of at most 6 nodes and 40 arcs, if the terminals are good and they and their
-/// searches agree.
-fn solve(alloc: Global, net: &Network, terminals: &[u32], k: usize) -> Option<Answer> {
-    let mut work = [7u32; 120];
-    let n = net.nodes() as usize;
-    if n > 6 || net.len() > 40 || !may_be_terminals(net, terminals, k) {
-        return None;
-    }
-    let mut flow = empty_flow(alloc, net)?;
+/// The cells that a solver works in.
+fn cells_for(rt: &impl Abort, alloc: Global, net: &Network) -> Vec<u32>
+    ensures { length result.items ≡ work_cells net.now }
+{
+    Vec::from_elem(alloc, 7u32, work_len(net.nodes(), net.len())).expect(rt, "memory")
+}
+
+/// The solvers' answer for a network of at most 6 nodes and 40 arcs.
+fn solve(rt: &impl Abort, alloc: Global, net: &Network, terminals: &[u32], k: usize) -> Answer {
+    assert!(rt; net.nodes() <= 6 && net.len() <= 40 && may_be_terminals(net, terminals, k));
+    let mut flow = empty_flow(rt, alloc, net);
     let (s, t) = terminals.split_at(k);
+    run_solvers(net, s, t, &mut flow)
+}
+
+/// The solvers' answer, beginning with an empty flow.
+fn run_solvers(net: &Network, s: &[u32], t: &[u32], flow: &mut FlowTable) -> Answer
+    requires flow { IsFlow net.now s.now t.now flow.old.flows 0 }
+    requires terminals { AreTerminals net.now s.now t.now }
+    requires small { (net.now.nodes ≤ 6) × (length net.now.arcs ≤ 40) }
+{
+    let mut work = [7u32; 120];
     let mut answer = Answer {
+        agree: true,
         rises: true,
         value: 0,
         side: [true; 6],
         back: [true; 6],
     };
-    answer.rises = reach(net, s, t, &mut flow, &mut work, &mut answer.side[..n]);
-    if reach_back(net, s, t, &mut flow, &mut work, &mut answer.back[..n]) != answer.rises {
-        return None;
-    }
-    if has_augmenting_path(net, s, t, &mut flow, &mut work) != answer.rises {
-        return None;
-    }
-    answer.value = Paths::greatest(net, s, t, &mut flow, &mut work);
-    if Levels::greatest(net, s, t, &mut flow, &mut work) != answer.value {
-        return None;
-    }
-    if reach(net, s, t, &mut flow, &mut work, &mut answer.side[..n]) {
-        return None;
-    }
-    if reach_back(net, s, t, &mut flow, &mut work, &mut answer.back[..n]) {
-        return None;
-    }
-    if cuts_agree(net, s, t, &mut flow, &mut work, &answer) {
-        Some(answer)
-    } else {
-        None
-    }
+    let before = searches(net, s, t, flow, &mut work, &mut answer);
+    answer.rises = before[0];
+    answer.value = Paths::greatest(net, s, t, flow, &mut work);
+    let same = Levels::greatest(net, s, t, flow, &mut work);
+    let after = searches(net, s, t, flow, &mut work, &mut answer);
+    answer.agree = before == [answer.rises; 3]
+        && same == answer.value
+        && after == [false; 3]
+        && cuts_agree(net, s, t, flow, &mut work, &answer);
+    answer
+}
+
+/// What the three searches say: whether a flow can be raised. They mark the sides of an answer.
+fn searches(
+    net: &Network,
+    s: &[u32],
+    t: &[u32],
+    flow: &mut FlowTable,
+    work: &mut [u32],
+    answer: &mut Answer,
+) -> [bool; 3]
+    requires feasible { IsFeasible net.now (one_of s.now) (one_of t.now) flow.old.flows }
+    requires terminals { AreTerminals net.now s.now t.now }
+    requires small { net.now.nodes ≤ 6 }
+    requires cells { work_cells net.now ≤ length work.old }
+    ensures { flow.new.flows ≡ flow.old.flows }
+{
+    let n = net.nodes() as usize;
+    let by_reach = reach(net, s, t, flow, work, &mut answer.side[..n]);
+    let by_reach_back = reach_back(net, s, t, flow, work, &mut answer.back[..n]);
+    [
+        by_reach,
+        by_reach_back,
+        has_augmenting_path(net, s, t, flow, work),
+    ]
 }
 
 /// Whether the cuts that the methods find have the value and the sides of an answer.
@@ -228,15 +259,13 @@ fn in_each(net: &Network, s: &[u32], t: &[u32], least: u128, node: u32, inside: 
 }
 
 /// Whether the solver answers what a trial of all sets of nodes does.
-fn agrees(alloc: Global, net: &Network, terminals: &[u32], k: usize) -> bool {
+fn agrees(rt: &impl Abort, alloc: Global, net: &Network, terminals: &[u32], k: usize) -> bool {
     if terminals.len() < k {
         return false;
     }
     let (s, t) = terminals.split_at(k);
     let least = least_capacity(net, s, t);
-    let Some(answer) = solve(alloc, net, terminals, k) else {
-        return false;
-    };
+    let answer = solve(rt, alloc, net, terminals, k);
     for place in 0u32..6 {
         let (side, back) = (answer.side[place as usize], answer.back[place as usize]);
         if place < net.nodes()
@@ -246,7 +275,7 @@ fn agrees(alloc: Global, net: &Network, terminals: &[u32], k: usize) -> bool {
             return false;
         }
     }
-    answer.rises == (least > 0) && answer.value == least
+    answer.agree && answer.rises == (least > 0) && answer.value == least
 }
 
 /// Numbers that look random.
@@ -319,9 +348,7 @@ fn draw(alloc: Global, random: &mut Random, more: u64, arcs: u64) -> Option<Draw
 {
     let n = 2 + random.below(more) as u32;
     let mut net = Network::new(alloc, n);
-    if !add_arcs(&mut net, random, arcs) {
-        return None;
-    }
+    let is_added = add_arcs(&mut net, random, arcs);
     let nodes = [
         random_node(random, n),
         random_node(random, n),
@@ -331,7 +358,7 @@ fn draw(alloc: Global, random: &mut Random, more: u64, arcs: u64) -> Option<Draw
     let k = 1 + random.below(2) as usize;
     let len = k + 1 + random.below(2) as usize;
     let drawn = Drawn { net, nodes, k, len };
-    if may_be_terminals(&drawn.net, drawn.terminals(), k) {
+    if is_added && may_be_terminals(&drawn.net, drawn.terminals(), k) {
         Some(drawn)
     } else {
         None
@@ -344,7 +371,7 @@ fn all_sets_agree(rt: HostRuntime) {
     let mut tried = 0u32;
     for _ in 0..600 {
         if let Some(drawn) = draw(rt.alloc(), &mut random, 5, 15) {
-            assert!(&rt; agrees(rt.alloc(), &drawn.net, drawn.terminals(), drawn.k));
+            assert!(&rt; agrees(&rt, rt.alloc(), &drawn.net, drawn.terminals(), drawn.k));
             tried = tried.wrapping_add(1);
         }
     }
@@ -353,65 +380,139 @@ fn all_sets_agree(rt: HostRuntime) {
 
 /// Stages of [`Levels`] before the phases, and how much they may take.
 trait Stage {
-    /// The stages that work in rows of entries: raises the flow that carries nothing, and answers its value.
-    fn begin(&self, task: Task<'_>, flow: &mut FlowTable, cells: &mut [u32]) -> u128
+    /// The stages that work in rows of entries: raises the flow that carries nothing, and answers its value, and
+    /// whether they say that it is greatest.
+    fn begin(&self, task: Task<'_>, flow: &mut FlowTable, cells: &mut [u32]) -> (u128, bool)
         requires task { IsOpening task }
         requires cells { length cells.old ≡ 5 * task.packed.net.now.nodes }
         requires flow { HasFlow task flow.old.flows 0 }
-        ensures flow { HasFlow task.entry flow.new.flows result };
+        ensures flow { HasFlow task.entry flow.new.flows result.0 };
 
-    /// Those that come after them: raises a flow of some value, and answers its value then.
-    fn go_on(&self, task: Task<'_>, flow: &mut FlowTable, cells: &mut [u32], value: u128) -> u128
-        requires task { IsTask task }
-        requires cells { length cells.old ≡ 5 * task.packed.net.now.nodes }
-        requires flow { HasFlow task flow.old.flows value }
-        ensures flow { HasFlow task.entry flow.new.flows result };
+    /// Those that come after them: raises a flow of some value, and answers its value then. Mostly there are none.
+    fn go_on(&self, _task: Task<'_>, _flow: &mut FlowTable, _cells: &mut [u32], value: u128) -> u128
+        requires task { IsTask _task }
+        requires cells { length _cells.old ≡ 5 * _task.packed.net.now.nodes }
+        requires flow { HasFlow _task _flow.old.flows value }
+        ensures flow { HasFlow _task.entry _flow.new.flows result }
+    {
+        value
+    }
 }
 
-/// The values that stages reach, and the phases after them, and that of the other method, if the terminals are
-/// good and there is memory.
+/// The values that stages reach, and the phases after them, and that of the other method.
+#[derive(Clone, Copy)]
+struct Outcome {
+    reached: u128,
+    /// Whether the stages say that this is the greatest value.
+    is_finished: bool,
+    raised: u128,
+    greatest: u128,
+}
+
+impl Outcome {
+    /// Whether the stages reach one value, and both methods another.
+    fn is(&self, reached: u128, greatest: u128) -> bool {
+        self.reached == reached && self.raised == greatest && self.greatest == greatest
+    }
+
+    /// Whether both methods reach the same, and the stages no more, and no less if they say that it is greatest.
+    fn is_possible(&self) -> bool {
+        let most = self.greatest;
+        self.raised == most && self.reached <= most && (!self.is_finished || self.reached == most)
+    }
+
+    /// Whether the stages reach no less than before and no more than a value, and both methods that value.
+    fn is_after(&self, before: u128, value: u128) -> bool {
+        before <= self.reached && self.reached <= value && self.is(self.reached, value)
+    }
+
+    /// Whether the stages reach something, and leave something to the phases.
+    fn is_between(&self) -> bool {
+        0 < self.reached && self.reached < self.greatest
+    }
+}
+
+/// What stages reach on a network, and the phases after them, and the other method.
 fn stages<'a, S: Stage>(
+    rt: &impl Abort,
     alloc: Global,
     net: &'a Network,
     terminals: &'a [u32],
     k: usize,
     stage: &S,
-) -> Option<(u128, u128, u128)> {
-    if !may_be_terminals(net, terminals, k) {
-        return None;
-    }
-    let n = net.nodes() as usize;
-    let m = net.len() as usize;
-    let Ok(mut work) = Vec::from_elem(alloc, 7u32, work_len(net.nodes(), net.len())) else {
-        return None;
-    };
-    let mut flow = empty_flow(alloc, net)?;
+) -> Outcome {
+    assert!(rt; may_be_terminals(net, terminals, k));
+    let mut work = cells_for(rt, alloc, net);
+    let mut flow = empty_flow(rt, alloc, net);
     let (s, t) = terminals.split_at(k);
+    let (reached, is_finished, raised) = run_stages(
+        net,
+        s,
+        t,
+        &mut flow,
+        work.as_mut_slice(),
+        stage,
+    );
+    let greatest = Paths::greatest(net, s, t, &mut flow, work.as_mut_slice());
+    Outcome {
+        reached,
+        is_finished,
+        raised,
+        greatest,
+    }
+}
+
+/// Raises the empty flow by stages and by the phases after them. Answers the value that the stages reach, whether they
+/// say that it is greatest, and the value that the phases reach.
+fn run_stages<'a, S: Stage>(
+    net: &'a Network,
+    s: &'a [u32],
+    t: &'a [u32],
+    flow: &mut FlowTable,
+    work: &mut [u32],
+    stage: &S,
+) -> (u128, bool, u128)
+    requires terminals { AreTerminals net.now s.now t.now }
+    requires cells { length work.old ≡ work_cells net.now }
+    requires flow { IsFlow net.now s.now t.now flow.old.flows 0 }
+    ensures { Fits net.entry.now flow.new.flows }
+{
+    let n = net.nodes() as usize;
     let (cells, rest) = work.split_at_mut(5 * n);
     let (first, rest) = rest.split_at_mut(n + 1);
-    let (halves, _rest) = rest.split_at_mut(2 * m);
+    let (halves, _rest) = rest.split_at_mut(2 * net.len() as usize);
     let (marks, _free) = cells.split_at_mut(n);
     mark_terminals(net, s, t, marks);
     pack_rows(net, marks, first, halves);
     let packed = Packed { net, first, halves };
-    let begun = stage.begin(Task { packed, s, t }, &mut flow, cells);
+    let (begun, is_finished) = stage.begin(Task { packed, s, t }, flow, cells);
     pack(net, first, halves);
     let packed = Packed { net, first, halves };
     let task = Task { packed, s, t };
-    let reached = stage.go_on(task, &mut flow, cells, begun);
-    let raised = run_phases(task, &mut flow, cells, reached);
-    let mut other = empty_flow(alloc, net)?;
-    let greatest = Paths::greatest(net, s, t, &mut other, &mut work);
-    Some((reached, raised, greatest))
+    let reached = stage.go_on(task, flow, cells, begun);
+    (reached, is_finished, run_phases(task, flow, cells, reached))
 }
 
-/// A stage that may take as much as is drawn.
+/// A stage that may take as much as is drawn, below a number.
 trait Limited: Stage {
-    fn limited(random: &mut Random) -> Self;
+    fn limited(random: &mut Random, most: u64) -> Self
+        requires { 0 < most };
+}
+
+/// Which random networks are drawn, and how much a stage may take.
+#[derive(Clone, Copy)]
+struct Draws {
+    state: u64,
+    /// How often one is drawn.
+    times: u32,
+    /// There are fewer nodes more than two, and fewer arcs, and a stage may take less than that.
+    more: u64,
+    arcs: u64,
+    most: u64,
 }
 
 /// How runs of a stage on random networks came out.
-#[derive(Drop)]
+#[derive(Clone, Copy)]
 struct Tally {
     /// How many there were.
     tried: u32,
@@ -419,79 +520,103 @@ struct Tally {
     carried: u32,
     /// In how many it did, and left something to the phases.
     between: u32,
+    /// In how many it said that what it reached is the greatest value.
+    finished: u32,
 }
 
 /// Runs a stage on random networks, with as much as is drawn each time: the phases bring what it leaves.
-fn run_on_random_networks<S: Limited + Drop>(
-    rt: &impl Abort,
-    alloc: Global,
-    state: u64,
-    more: u64,
-    arcs: u64,
-) -> Tally
-    requires more { (0 < more) × (more ≤ 100) }
-    requires arcs { 0 < arcs }
+fn run_on_random_networks<S: Limited + Drop>(rt: &impl Abort, alloc: Global, draws: Draws) -> Tally
+    requires more { (0 < draws.more) × (draws.more ≤ 100) }
+    requires arcs { 0 < draws.arcs }
+    requires most { 0 < draws.most }
 {
-    let mut random = Random { state };
-    let (mut tried, mut carried, mut between) = (0u32, 0u32, 0u32);
-    for _ in 0..6000 {
-        let Some(drawn) = draw(alloc, &mut random, more, arcs) else {
+    let mut random = Random { state: draws.state };
+    let (mut tried, mut carried, mut between, mut finished) = (0u32, 0u32, 0u32, 0u32);
+    for _ in 0..draws.times {
+        let Some(drawn) = draw(alloc, &mut random, draws.more, draws.arcs) else {
             continue;
         };
-        let stage = S::limited(&mut random);
-        let answer = stages(alloc, &drawn.net, drawn.terminals(), drawn.k, &stage);
-        let (reached, raised, greatest) = answer.expect(rt, "good terminals, and memory");
-        assert!(rt; reached <= greatest);
-        assert_eq!(rt; raised, greatest);
+        let stage = S::limited(&mut random, draws.most);
+        let outcome = stages(rt, alloc, &drawn.net, drawn.terminals(), drawn.k, &stage);
+        assert!(rt; outcome.is_possible());
         tried = tried.wrapping_add(1);
-        carried = carried.wrapping_add(u32::from(0 < reached));
-        between = between.wrapping_add(u32::from(0 < reached && reached < greatest));
+        carried = carried.wrapping_add(u32::from(0 < outcome.reached));
+        between = between.wrapping_add(u32::from(outcome.is_between()));
+        finished = finished.wrapping_add(u32::from(outcome.is_finished));
     }
     Tally {
         tried,
         carried,
         between,
+        finished,
     }
+}
+
+/// Whether both methods send 1, and the least source side holds node 1 alone.
+fn is_narrow(
+    net: &Network,
+    s: &[u32],
+    t: &[u32],
+    flow: &mut FlowTable,
+    work: &mut [u32],
+    side: &mut [bool],
+) -> bool
+    requires fits { Fits net.now flow.old.flows }
+    requires terminals { AreTerminals net.now s.now t.now }
+    requires cells { work_cells net.now ≤ length work.old }
+    requires side { length side.old ≡ net.now.nodes }
+{
+    let by_paths = Paths::greatest(net, s, t, flow, work);
+    let rises = reach(net, s, t, flow, work, side);
+    flow.clear();
+    let by_levels = Levels::greatest(net, s, t, flow, work);
+    by_paths == 1 && !rises && side[0] && !side[1..].contains(&true) && by_levels == 1
+}
+
+/// Adds the arcs of a chain, the last first, each wider than the one before it. Answers whether all were added.
+#[must_use]
+fn add_chain(net: &mut Network) -> bool {
+    for i in 0u32..99_999 {
+        let v = 99_999 - i;
+        if !add(net, v, v + 1, u64::from(v)) {
+            return false;
+        }
+    }
+    true
 }
 
 #[test]
 fn a_long_chain(rt: HostRuntime) {
     let mut net = Network::new(rt.alloc(), 100_000);
-    for i in 0u32..99_999 {
-        let v = 99_999 - i;
-        assert!(&rt; add(&mut net, v, v + 1, u64::from(v)));
-    }
+    assert!(&rt; add_chain(&mut net));
     let net = net;
-    let (s, t) = ([1], [100_000]);
     assert!(&rt; may_be_terminals(&net, &[1, 100_000], 1));
     assert_eq!(&rt; net.nodes(), 100_000);
-    let mut flow = FlowTable::new(rt.alloc(), &net).expect(&rt, "memory");
-    let len = work_len(net.nodes(), net.len());
-    let mut work = Vec::from_elem(rt.alloc(), 0u32, len).expect(&rt, "memory");
+    let mut flow = empty_flow(&rt, rt.alloc(), &net);
+    let mut work = cells_for(&rt, rt.alloc(), &net);
     let mut side = Vec::from_elem(rt.alloc(), false, 100_000).expect(&rt, "memory");
-    assert_eq!(&rt; Paths::greatest(&net, &s, &t, &mut flow, &mut work), 1);
-    assert!(&rt; !reach(&net, &s, &t, &mut flow, &mut work, &mut side));
-    assert!(&rt; side[0]);
-    assert!(&rt; !side[1..].contains(&true));
-    flow.clear();
-    assert_eq!(&rt; Levels::greatest(&net, &s, &t, &mut flow, &mut work), 1);
+    assert!(&rt; is_narrow(&net, &[1], &[100_000], &mut flow, &mut work, &mut side));
+}
+
+/// Adds a star: a path over each of its nodes. Answers whether all arcs were added.
+#[must_use]
+fn add_star(net: &mut Network) -> bool {
+    for node in 2u32..200_002 {
+        if !add(net, 1, node, 1) || !add(net, node, 200_002, 1) {
+            return false;
+        }
+    }
+    true
 }
 
 #[test]
 fn a_star(rt: HostRuntime) {
     let mut net = Network::new(rt.alloc(), 200_002);
-    for i in 0u32..200_000 {
-        assert!(&rt; add(&mut net, 1, i + 2, 1));
-        assert!(&rt; add(&mut net, i + 2, 200_002, 1));
-    }
+    assert!(&rt; add_star(&mut net));
     let net = net;
-    let (s, t) = ([1], [200_002]);
     assert!(&rt; may_be_terminals(&net, &[1, 200_002], 1));
-    let mut flow = FlowTable::new(rt.alloc(), &net).expect(&rt, "memory");
-    let len = work_len(net.nodes(), net.len());
-    let mut work = Vec::from_elem(rt.alloc(), 0u32, len).expect(&rt, "memory");
-    assert_eq!(&rt;
-        Levels::greatest(&net, &s, &t, &mut flow, &mut work),
-        200_000
-    );
+    let mut flow = empty_flow(&rt, rt.alloc(), &net);
+    let mut work = cells_for(&rt, rt.alloc(), &net);
+    let value = Levels::greatest(&net, &[1], &[200_002], &mut flow, &mut work);
+    assert_eq!(&rt; value, 200_000);
 }

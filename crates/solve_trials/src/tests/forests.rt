@@ -1,5 +1,5 @@
 //! Networks with balanced degrees, and the connectivity by forests of some of them: what a count by hand says of each.
-ghost use Rattle.std.specs.Prelude.{◌≡◌, ◌≤◌, IsTrue};
+ghost use Rattle.std.specs.Prelude.{◌≡◌, IsTrue};
 ghost use Rattle.std.specs.List.{All};
 
 use super::*;
@@ -13,18 +13,15 @@ struct Unit {
     connectivity: u64,
 }
 
-/// A network with some arcs of capacity 1, if it can have them all and there is memory.
-fn unit_network(alloc: Global, nodes: u32, arcs: &[(u32, u32)]) -> Option<Network>
-    requires least { FEWEST_NODES ≤ nodes }
-    requires most { nodes ≤ MOST_NODES }
-{
-    let mut net = Network::new(alloc, nodes);
+/// Adds arcs of capacity 1, and answers whether the network can have them all and there is memory.
+#[must_use]
+fn add_units(net: &mut Network, arcs: &[(u32, u32)]) -> bool {
     for (src, dst) in arcs {
-        if !add(&mut net, *src, *dst, 1) {
-            return None;
+        if !add(net, *src, *dst, 1) {
+            return false;
         }
     }
-    Some(net)
+    true
 }
 
 /// Whether every capacity is 1.
@@ -47,13 +44,13 @@ fn is_balanced(alloc: Global, net: &Network) -> Option<bool> {
     Some(are_balanced(net, degrees.as_slice()))
 }
 
-/// The connectivity by forests; nothing if a capacity isn't 1, memory is refused, or it takes more steps than it may.
-fn grown_within(alloc: Global, net: &Network, budget: u64) -> Option<u64> {
-    let mut work = Vec::from_elem(alloc, 7u32, work_len(net.nodes(), net.len())).ok()?;
-    let mut flow = empty_flow(alloc, net)?;
+/// The connectivity by forests; nothing if a capacity isn't 1, or it takes more steps than it may.
+fn grown_within(rt: &impl Abort, alloc: Global, net: &Network, budget: u64) -> Option<u64> {
     if !are_units(net) {
         return None;
     }
+    let mut work = cells_for(rt, alloc, net);
+    let mut flow = empty_flow(rt, alloc, net);
     connectivity_by_forests(net, &mut flow, work.as_mut_slice(), budget)
 }
 
@@ -160,47 +157,45 @@ const UNITS: &[Unit] = &[
 #[test]
 fn balanced_degrees_and_connectivity_by_hand(rt: HostRuntime) {
     for unit in UNITS {
-        let net = unit_network(rt.alloc(), unit.nodes, unit.arcs).expect(&rt, "memory");
+        let mut net = Network::new(rt.alloc(), unit.nodes);
+        assert!(&rt; add_units(&mut net, unit.arcs));
         assert_eq!(&rt;
             (unit.name, is_balanced(rt.alloc(), &net)),
             (unit.name, Some(unit.is_balanced))
         );
         assert_eq!(&rt;
-            (unit.name, grown_within(rt.alloc(), &net, 1000)),
+            (unit.name, grown_within(&rt, rt.alloc(), &net, 1000)),
             (unit.name, Some(unit.connectivity))
         );
     }
 }
 
-/// A ring one way, its arcs from each node to the next or, turned round, from the next to it.
-fn turned_ring(alloc: Global, nodes: u32, is_turned: bool) -> Option<Network>
-    requires least { 2 ≤ nodes }
-    requires most { nodes ≤ MOST_NODES }
-{
-    let mut net = Network::new(alloc, nodes);
-    for node in 1..nodes {
+/// Adds a ring one way, its arcs from each node to the next or, turned round, from the next to it. Answers whether all
+/// were added.
+#[must_use]
+fn add_ring(net: &mut Network, is_turned: bool) -> bool {
+    let nodes = net.nodes();
+    for node in 1..=nodes {
+        let next = node % nodes + 1;
         let (src, dst) = if is_turned {
-            (node + 1, node)
+            (next, node)
         } else {
-            (node, node + 1)
+            (node, next)
         };
-        if !add(&mut net, src, dst, 1) {
-            return None;
+        if !add(net, src, dst, 1) {
+            return false;
         }
     }
-    let (src, dst) = if is_turned { (1, nodes) } else { (nodes, 1) };
-    if !add(&mut net, src, dst, 1) {
-        return None;
-    }
-    Some(net)
+    true
 }
 
 #[test]
 fn a_forest_goes_round_a_ring_without_a_flow(rt: HostRuntime) {
     for is_turned in [false, true] {
-        let net = turned_ring(rt.alloc(), 500, is_turned).expect(&rt, "memory");
+        let mut net = Network::new(rt.alloc(), 500);
+        assert!(&rt; add_ring(&mut net, is_turned));
         assert_eq!(&rt;
-            (is_turned, grown_within(rt.alloc(), &net, 0)),
+            (is_turned, grown_within(&rt, rt.alloc(), &net, 0)),
             (is_turned, Some(1))
         );
     }

@@ -1,5 +1,6 @@
 //! Rows of entries: what they have, by hand, and which networks they suit.
-ghost use Rattle.std.specs.Prelude.{◌≤◌};
+ghost use Rattle.std.specs.Prelude.{◌≡◌, ◌≤◌, ◌∷◌, [], length};
+ghost use Rattle.flow_net.specs.Limits.{AreTerminals};
 
 use super::*;
 
@@ -17,25 +18,32 @@ const ARCS: &[(u32, u32, u64)] = &[
 ];
 
 /// Where each node's row begins.
-const FIRST: &[u32] = &[0, 1, 2, 4, 5, 6];
+const FIRST: [u32; 6] = [0, 1, 2, 4, 5, 6];
 
 /// The rows one after the other: nodes 2 and 4 have no entry that leads to a terminal, and node 2 none for its
 /// self-loop.
 const ENTRIES: &[u32] = &[0, JOINED + 2, JOINED + 3, 8, 9, 11];
 
-#[test]
-fn rows_by_hand(rt: HostRuntime) {
-    let net = network(rt.alloc(), 5, ARCS).expect(&rt, "memory");
-    assert!(&rt; may_be_terminals(&net, &[1, 5], 1));
+/// Whether the network has the marks and the rows that are expected, between nodes 1 and 5.
+fn has_rows(net: &Network) -> bool
+    requires terminals { AreTerminals net.now (1 ∷ []) (5 ∷ []) }
+    requires nodes { net.now.nodes ≡ 5 }
+    requires arcs { length net.now.arcs ≡ 6 }
+{
     let mut marks = [7u32; 5];
     let mut first = [7u32; 6];
     let mut halves = [7u32; 12];
-    assert_eq!(&rt; (net.nodes(), net.len()), (5, 6));
-    mark_terminals(&net, &[1], &[5], &mut marks);
-    assert_eq!(&rt; marks, [1, 0, 0, 0, 1]);
-    pack_rows(&net, &marks, &mut first, &mut halves);
-    assert_eq!(&rt; &first[..], FIRST);
-    assert_eq!(&rt; &halves[..6], ENTRIES);
+    mark_terminals(net, &[1], &[5], &mut marks);
+    pack_rows(net, &marks, &mut first, &mut halves);
+    let (entries, _free) = halves.split_at(6);
+    marks == [1, 0, 0, 0, 1] && first == FIRST && entries == ENTRIES
+}
+
+#[test]
+fn rows_by_hand(rt: HostRuntime) {
+    let net = network(&rt, rt.alloc(), 5, ARCS);
+    assert!(&rt; net.nodes() == 5 && net.len() == 6 && may_be_terminals(&net, &[1, 5], 1));
+    assert!(&rt; has_rows(&net));
 }
 
 /// A line of pixels, each with an arc to the sink, and with one to the next pixel or, if asked for, one each way

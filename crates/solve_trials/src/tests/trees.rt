@@ -9,18 +9,9 @@ use super::*;
 struct Trees(u64);
 
 impl Stage for Trees {
-    fn begin(&self, task: Task<'_>, flow: &mut FlowTable, cells: &mut [u32]) -> u128 {
-        grow_trees(task, flow, cells, 0, self.0).value
-    }
-
-    fn go_on(
-        &self,
-        _task: Task<'_>,
-        _flow: &mut FlowTable,
-        _cells: &mut [u32],
-        value: u128,
-    ) -> u128 {
-        value
+    fn begin(&self, task: Task<'_>, flow: &mut FlowTable, cells: &mut [u32]) -> (u128, bool) {
+        let reached = grow_trees(task, flow, cells, 0, self.0);
+        (reached.value, reached.is_finished)
     }
 }
 
@@ -37,84 +28,44 @@ const GROWN: &[(&[(u32, u32, u64)], u128)] = &[
 #[test]
 fn trees_that_end_of_themselves(rt: HostRuntime) {
     for (arcs, value) in GROWN {
-        let net = network(rt.alloc(), 6, arcs).expect(&rt, "memory");
-        assert_eq!(&rt;
-            stages(rt.alloc(), &net, &[1, 6], 1, &Trees(1000)),
-            Some((*value, *value, *value))
-        );
+        let net = network(&rt, rt.alloc(), 6, arcs);
+        let outcome = stages(&rt, rt.alloc(), &net, &[1, 6], 1, &Trees(1000));
+        assert!(&rt; outcome.is(*value, *value));
     }
 }
 
 #[test]
 fn trees_that_are_left(rt: HostRuntime) {
     let (arcs, value) = GROWN[0];
-    let net = network(rt.alloc(), 6, arcs).expect(&rt, "memory");
+    let net = network(&rt, rt.alloc(), 6, arcs);
     let mut before = 0u128;
     let mut between = 0u32;
     for allowance in 0u64..200 {
-        let answer = stages(rt.alloc(), &net, &[1, 6], 1, &Trees(allowance));
-        let (reached, greatest, other) = answer.expect(&rt, "good terminals");
-        assert!(&rt; before <= reached && reached <= value);
-        assert_eq!(&rt; (greatest, other), (value, value));
-        if 0 < reached && reached < value {
-            between = between.wrapping_add(1);
-        }
-        before = reached;
+        let outcome = stages(&rt, rt.alloc(), &net, &[1, 6], 1, &Trees(allowance));
+        assert!(&rt; outcome.is_after(before, value));
+        between = between.wrapping_add(u32::from(outcome.is_between()));
+        before = outcome.reached;
     }
-    assert!(&rt; between > 0);
-    assert_eq!(&rt; before, value);
+    assert!(&rt; between > 0 && before == value);
 }
 
 impl Limited for Trees {
-    fn limited(random: &mut Random) -> Trees {
-        Trees(random.below(60))
+    fn limited(random: &mut Random, most: u64) -> Trees {
+        Trees(random.below(most))
     }
 }
 
 #[test]
 fn trees_agree_on_random_networks(rt: HostRuntime) {
-    let tally = run_on_random_networks::<Trees>(&rt, rt.alloc(), 1970, 5, 15);
-    assert!(&rt; tally.tried > 2000);
-    assert!(&rt; tally.between > 20);
-}
-
-/// What the trees alone reach with an allowance, if the terminals are good and there is memory. The first `k` terminals
-/// are the sources.
-fn grow<'a>(
-    alloc: Global,
-    net: &'a Network,
-    terminals: &'a [u32],
-    k: usize,
-    allowance: u64,
-) -> Option<Reached> {
-    if !may_be_terminals(net, terminals, k) {
-        return None;
-    }
-    let n = net.nodes() as usize;
-    let m = net.len() as usize;
-    let mut work = Vec::from_elem(alloc, 7u32, work_len(net.nodes(), net.len())).ok()?;
-    let mut flow = empty_flow(alloc, net)?;
-    let (s, t) = terminals.split_at(k);
-    let (cells, rest) = work.split_at_mut(5 * n);
-    let (first, rest) = rest.split_at_mut(n + 1);
-    let (halves, _rest) = rest.split_at_mut(2 * m);
-    let (marks, _free) = cells.split_at_mut(n);
-    mark_terminals(net, s, t, marks);
-    pack_rows(net, marks, first, halves);
-    let packed = Packed { net, first, halves };
-    let task = Task { packed, s, t };
-    Some(grow_trees(task, &mut flow, cells, 0, allowance))
-}
-
-/// The greatest value by the method of paths, if the terminals are good and there is memory.
-fn greatest<'a>(alloc: Global, net: &'a Network, terminals: &'a [u32], k: usize) -> Option<u128> {
-    if !may_be_terminals(net, terminals, k) {
-        return None;
-    }
-    let mut work = Vec::from_elem(alloc, 7u32, work_len(net.nodes(), net.len())).ok()?;
-    let mut flow = empty_flow(alloc, net)?;
-    let (s, t) = terminals.split_at(k);
-    Some(Paths::greatest(net, s, t, &mut flow, &mut work))
+    let draws = Draws {
+        state: 1970,
+        times: 6000,
+        more: 5,
+        arcs: 15,
+        most: 60,
+    };
+    let tally = run_on_random_networks::<Trees>(&rt, rt.alloc(), draws);
+    assert!(&rt; tally.tried > 2000 && tally.between > 20);
 }
 
 /// The columns and rows of the image.
@@ -143,21 +94,27 @@ fn add_pixel(net: &mut Network, random: &mut Random, column: u32, row: u32) -> b
     added && right && below
 }
 
+/// Adds the pixels. Answers whether all arcs were added.
+#[must_use]
+fn add_image(net: &mut Network, random: &mut Random) -> bool {
+    for row in 0..ROWS {
+        for column in 0..COLUMNS {
+            if !add_pixel(net, random, column, row) {
+                return false;
+            }
+        }
+    }
+    true
+}
+
 /// No contract tells whether the trees bring anything.
 #[test]
 fn trees_alone_cut_an_image(rt: HostRuntime) {
     let mut random = Random { state: 2004 };
     let mut net = Network::new(rt.alloc(), 2 + COLUMNS * ROWS);
-    for row in 0..ROWS {
-        for column in 0..COLUMNS {
-            assert!(&rt; add_pixel(&mut net, &mut random, column, row));
-        }
-    }
-    let answer = grow(rt.alloc(), &net, &[1, 2], 1, allowance(&net));
-    let reached = answer.expect(&rt, "good terminals");
-    let most = greatest(rt.alloc(), &net, &[1, 2], 1).expect(&rt, "good terminals");
-    assert!(&rt; 1000 < most);
-    assert_eq!(&rt; (reached.value, reached.is_finished), (most, true));
+    assert!(&rt; add_image(&mut net, &mut random));
+    let outcome = stages(&rt, rt.alloc(), &net, &[1, 2], 1, &Trees(allowance(&net)));
+    assert!(&rt; 1000 < outcome.greatest && outcome.is_finished && outcome.is_possible());
 }
 
 /// How many leaves the hub has, and how many paths lead to it and from it.
@@ -179,57 +136,60 @@ fn add_path(net: &mut Network, src: u32, dst: u32, first: u32, len: u32) -> bool
     add(net, node, dst, 1)
 }
 
+/// Adds the leaves, each with an arc from the hub, node 3, and one to it. Answers whether all were added.
+#[must_use]
+fn add_leaves(net: &mut Network) -> bool {
+    for leaf in 4..4 + LEAVES {
+        if !add(net, 3, leaf, 1) || !add(net, leaf, 3, 1) {
+            return false;
+        }
+    }
+    true
+}
+
+/// Adds the paths, longer and longer ones. Answers whether all were added.
+#[must_use]
+fn add_ways(net: &mut Network) -> bool {
+    let mut fresh = 4 + LEAVES;
+    for way in 1..=WAYS {
+        let middle = fresh.saturating_add(way);
+        if !add_path(net, 1, 3, fresh, way) || !add_path(net, 3, 2, middle, way) {
+            return false;
+        }
+        fresh = middle.saturating_add(way);
+    }
+    true
+}
+
 /// Each augmentation fills the shortest way to a hub and the shortest way from it, so that one of the trees has to move
 /// the hub with all of its leaves. That costs more than it earns, and the trees leave, however much they may take.
 #[test]
 fn trees_are_tired_of_a_hub(rt: HostRuntime) {
     let mut net = Network::new(rt.alloc(), 3 + LEAVES + WAYS * (WAYS + 1));
-    for leaf in 0..LEAVES {
-        assert!(&rt; add(&mut net, 3, 4 + leaf, 1));
-        assert!(&rt; add(&mut net, 4 + leaf, 3, 1));
-    }
-    let mut fresh = 4 + LEAVES;
-    for way in 1..=WAYS {
-        assert!(&rt; add_path(&mut net, 1, 3, fresh, way));
-        assert!(&rt; add_path(&mut net, 3, 2, fresh.saturating_add(way), way));
-        fresh = fresh.saturating_add(2 * way);
-    }
-    let answer = grow(rt.alloc(), &net, &[1, 2], 1, u64::MAX / 2);
-    let reached = answer.expect(&rt, "good terminals");
-    assert!(&rt; 0 < reached.value && reached.value < u128::from(WAYS));
-    assert!(&rt; !reached.is_finished);
+    assert!(&rt; add_leaves(&mut net) && add_ways(&mut net));
+    let outcome = stages(&rt, rt.alloc(), &net, &[1, 2], 1, &Trees(u64::MAX / 2));
+    assert!(&rt; 0 < outcome.reached && outcome.reached < u128::from(WAYS));
+    assert!(&rt; !outcome.is_finished);
 }
 
 /// Where the trees say that they are finished the flow is greatest, as their contract tells. That they mostly are, none
 /// does.
 #[test]
 fn trees_on_random_networks(rt: HostRuntime) {
-    let mut random = Random { state: 2011 };
-    let mut finished = 0u32;
-    let mut between = 0u32;
-    for _ in 0..4000 {
-        let Some(drawn) = draw(rt.alloc(), &mut random, 30, 90) else {
-            continue;
-        };
-        let (net, terminals, k) = (&drawn.net, drawn.terminals(), drawn.k);
-        let answer = grow(rt.alloc(), net, terminals, k, random.below(1000));
-        let reached = answer.expect(&rt, "good terminals");
-        let most = greatest(rt.alloc(), net, terminals, k).expect(&rt, "good terminals");
-        assert!(&rt; reached.value <= most);
-        if reached.is_finished {
-            assert_eq!(&rt; reached.value, most);
-            finished = finished.wrapping_add(1);
-        } else if 0 < reached.value && reached.value < most {
-            between = between.wrapping_add(1);
-        }
-    }
-    assert!(&rt; finished > 1000);
-    assert!(&rt; between > 100);
+    let draws = Draws {
+        state: 2011,
+        times: 4000,
+        more: 30,
+        arcs: 90,
+        most: 1000,
+    };
+    let tally = run_on_random_networks::<Trees>(&rt, rt.alloc(), draws);
+    assert!(&rt; tally.finished > 1000 && tally.between > 100);
 }
 
 #[test]
 fn trees_with_no_allowance(rt: HostRuntime) {
-    let net = network(rt.alloc(), 6, &[(1, 2, 3), (2, 6, 2)]).expect(&rt, "memory");
-    let reached = grow(rt.alloc(), &net, &[1, 6], 1, 0).expect(&rt, "good terminals");
-    assert_eq!(&rt; (reached.value, reached.is_finished), (0, false));
+    let net = network(&rt, rt.alloc(), 6, &[(1, 2, 3), (2, 6, 2)]);
+    let outcome = stages(&rt, rt.alloc(), &net, &[1, 6], 1, &Trees(0));
+    assert!(&rt; outcome.reached == 0 && !outcome.is_finished);
 }

@@ -1,13 +1,14 @@
 //! Problems whose lines come in no order, which are arranged before they are solved, against the same problems with
 //! their lines in order, which aren't.
-ghost use Rattle.std.specs.Prelude.{◌<◌, ◌≤◌};
+ghost use Rattle.std.specs.Prelude.{◌≡◌, ◌<◌, ◌≤◌, ◌+◌, ◌*◌, length, IsTrue};
+ghost use Rattle.flow_net.specs.Arrangements.{IsNaming};
 
+use crate::tools::nets::add_arc;
 use crate::tools::runs::{
     CHECK, CUT, CUT_SINK, DIRECTED, DIRECTED_PAIR, SOLVE, UNDIRECTED, UNDIRECTED_PAIR, VALUE,
 };
-use flow_net::{Arc, MOST_ARCS, Network, arrange, is_scattered, name_nodes};
-use flow_solve::work_len;
-use flow_text::{ProblemReader, SolutionReader, arc_line};
+use flow_net::{Arc, Network, arrange, is_scattered, name_nodes};
+use flow_text::{FlowLine, SolutionReader, arc_line};
 use flow_tools::{Job, run_on_texts};
 use std::alloc::Global;
 use std::process::Abort;
@@ -85,72 +86,95 @@ fn network(alloc: Global, seed: u64, step: u32) -> Option<Network>
     let mut net = Network::new(alloc, NODES);
     for i in 0..ARCS {
         let arc = arc_at(seed, i * step % ARCS);
-        if net.len() >= MOST_ARCS || net.nodes() != NODES || net.push(arc).is_err() {
+        if !add_arc(&mut net, arc) {
             return None;
         }
     }
     Some(net)
 }
 
-/// Whether the arcs of a problem come in no order once it is arranged; nothing where no names were found for it, or
-/// without memory.
-fn is_scattered_arranged(alloc: Global, text: &[u8]) -> Option<bool> {
-    let mut reader = ProblemReader::new(alloc);
-    reader.feed(text).ok()?;
-    let (mut net, sources, sinks) = reader.finish().ok()?.into_parts();
-    let (n, m) = (net.nodes() as usize, net.len() as usize);
-    let mut nodes = Vec::from_elem(alloc, 0u32, n).ok()?;
-    let mut names = Vec::from_elem(alloc, 0u32, n).ok()?;
-    let mut work = Vec::from_elem(alloc, 0u32, work_len(net.nodes(), net.len())).ok()?;
-    if !name_nodes(
-        &net,
-        sinks.as_slice(),
-        nodes.as_mut_slice(),
-        names.as_mut_slice(),
-        work.as_mut_slice(),
-    ) {
+/// Whether its arcs come in no order; nothing without memory.
+fn is_scattered_in_steps(alloc: Global, seed: u64, step: u32) -> Option<bool>
+    requires { step < ARCS }
+{
+    let net = network(alloc, seed, step)?;
+    Some(is_scattered(&net, 1, 1764))
+}
+
+/// Names the nodes of a network by a search from its sinks, in lent cells, and answers whether each has a name.
+fn find_names(net: &Network, names: &mut [u32], cells: &mut [u32]) -> bool
+    requires names { length names.old ≡ net.now.nodes }
+    requires cells { 2 * net.now.nodes + 2 * length net.now.arcs + 1 ≤ length cells.old }
+    ensures { IsTrue result → IsNaming net.now names.new }
+{
+    let (nodes, work) = cells.split_at_mut(net.nodes() as usize);
+    name_nodes(net, &[1764, 527], nodes, names, work)
+}
+
+/// Whether the arcs of a network come in no order, from source 1 to sink 1764, once it is arranged in lent cells.
+/// Nothing where no names were found for it.
+fn is_scattered_once_arranged(
+    net: &mut Network,
+    names: &mut [u32],
+    cells: &mut [u32],
+) -> Option<bool>
+    requires sink { 1764 ≤ net.old.nodes }
+    requires names { length names.old ≡ net.old.nodes }
+    requires cells { 2 * net.old.nodes + 3 * length net.old.arcs + 1 ≤ length cells.old }
+{
+    if !find_names(net, names, cells) {
         return None;
     }
-    let mut places = Vec::from_elem(alloc, 0u32, m).ok()?;
-    let mut spots = Vec::from_elem(alloc, 0u32, m).ok()?;
-    let mut stands = Vec::from_elem(alloc, 0u32, m).ok()?;
-    let mut counts = Vec::from_elem(alloc, 0u32, n).ok()?;
-    arrange(
-        &mut net,
-        names.as_slice(),
-        places.as_mut_slice(),
-        spots.as_mut_slice(),
-        stands.as_mut_slice(),
-        counts.as_mut_slice(),
-    );
-    let s = names[sources[0] as usize - 1];
-    let t = names[sinks[0] as usize - 1];
-    Some(is_scattered(&net, s, t))
+    let m = net.len() as usize;
+    let (places, rest) = cells.split_at_mut(m);
+    let (spots, rest) = rest.split_at_mut(m);
+    let (stands, rest) = rest.split_at_mut(m);
+    let (counts, _) = rest.split_at_mut(net.nodes() as usize);
+    arrange(net, names, places, spots, stands, counts);
+    Some(is_scattered(net, names[0], names[1763]))
+}
+
+/// The same of the network that a number determines, its arcs far apart; nothing without memory.
+fn is_scattered_arranged(alloc: Global, seed: u64) -> Option<bool> {
+    let mut net = network(alloc, seed, FAR_STEP)?;
+    let n = net.nodes() as usize;
+    let mut cells = Vec::from_elem(alloc, 0u32, 3 * n + 3 * net.len() as usize + 1).ok()?;
+    if net.nodes() != NODES {
+        return None;
+    }
+    let (names, rest) = cells.as_mut_slice().split_at_mut(n);
+    is_scattered_once_arranged(&mut net, names, rest)
 }
 
 /// What a job puts, or nothing where it ends with a fault or without memory.
 fn answer(alloc: Global, job: Job, problem: &[u8], solution: &[u8]) -> Option<Vec<u8>> {
     let mut out: Vec<u8> = Vec::new(alloc);
     let mut err: Vec<u8> = Vec::new(alloc);
-    match run_on_texts(alloc, job, problem, solution, &mut out, &mut err) {
-        Ok(0) => Some(out),
-        _ => None,
-    }
+    let status = run_on_texts(alloc, job, problem, solution, &mut out, &mut err).ok()?;
+    if status == 0 { Some(out) } else { None }
 }
 
-/// Whether each flow line of a solution stands where the arc of its two nodes stands in the scattered problem; nothing
-/// where it can't be read.
+/// Whether each flow line stands where the arc of its two nodes stands in the scattered problem.
+fn are_in_its_order(seed: u64, lines: &[FlowLine]) -> bool {
+    if lines.len() != ARCS as usize {
+        return false;
+    }
+    for i in 0..ARCS {
+        let arc = arc_at(seed, i * FAR_STEP % ARCS);
+        let line = lines[i as usize];
+        if line.src != arc.src || line.dst != arc.dst || line.flow > arc.cap {
+            return false;
+        }
+    }
+    true
+}
+
+/// Whether the flow lines of a solution come in the order of the scattered problem; nothing where it can't be read.
 fn follows_the_file(alloc: Global, seed: u64, solution: &[u8]) -> Option<bool> {
     let mut reader = SolutionReader::new(alloc, NODES);
     reader.feed(solution).ok()?;
-    let lines = reader.finish().ok()?.lines;
-    let mut follows = lines.len() == ARCS as usize;
-    for i in 0..ARCS {
-        let arc = arc_at(seed, i * FAR_STEP % ARCS);
-        let line = lines.get(i as usize)?;
-        follows = follows && line.src == arc.src && line.dst == arc.dst && line.flow <= arc.cap;
-    }
-    Some(follows)
+    let solution = reader.finish().ok()?;
+    Some(are_in_its_order(seed, solution.lines.as_slice()))
 }
 
 /// Jobs whose answers are the same in whichever order the arcs come.
@@ -168,10 +192,11 @@ const JOBS: [Job; 7] = [
 #[test]
 fn arcs_far_apart_are_scattered(rt: HostRuntime) -> Result<(), Fail> {
     for seed in 0..4 {
-        let ordered = network(rt.alloc(), seed, 1);
-        let scattered = network(rt.alloc(), seed, FAR_STEP);
-        assert!(rt; ordered.is_some_and(|net| !is_scattered(&net, 1, 1764)));
-        assert!(rt; scattered.is_some_and(|net| is_scattered(&net, 1, 1764)));
+        assert_eq!(rt; is_scattered_in_steps(rt.alloc(), seed, 1), Some(false));
+        assert_eq!(rt;
+            is_scattered_in_steps(rt.alloc(), seed, FAR_STEP),
+            Some(true)
+        );
     }
     Ok(())
 }
@@ -180,11 +205,8 @@ fn arcs_far_apart_are_scattered(rt: HostRuntime) -> Result<(), Fail> {
 #[test]
 fn arranged_problems_are_in_order(rt: HostRuntime) -> Result<(), Fail> {
     for seed in 0..4 {
-        let text = problem_text(rt.alloc(), seed, FAR_STEP)?;
-        assert_eq!(rt;
-            is_scattered_arranged(rt.alloc(), text.as_slice()),
-            Some(false)
-        );
+        let scattered = is_scattered_arranged(rt.alloc(), seed);
+        assert_eq!(rt; scattered, Some(false));
     }
     Ok(())
 }

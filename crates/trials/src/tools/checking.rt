@@ -1,10 +1,10 @@
 ghost use Rattle.std.specs.Prelude.{◌≡◌, ◌≤◌, length, IfOk};
 ghost use Rattle.flow_net.specs.declared.limits.TheConstants.{FEWEST_NODES, MOST_ARCS};
-ghost use Rattle.flow_text.specs.SolutionReading.{IsWithinLimits, written_in};
+ghost use Rattle.flow_text.specs.SolutionReading.{IsLineWithin, IsWithinLimits, written_in};
 
-use crate::tools::nets::{ARCS_A, ARCS_B, ARCS_C, ARCS_D, Triple};
+use crate::tools::nets::{ARCS_A, ARCS_B, ARCS_C, ARCS_D, Triple, add_arc};
 use flow_net::{Arc, FEWEST_NODES, GREATEST_CAPACITY, MOST_NODES, Network, Problem};
-use flow_text::{FlowLine, GREATEST_VALUE, Solution, Verdict};
+use flow_text::{FlowLine, GREATEST_VALUE, MOST_FLOW_LINES, Solution, Verdict};
 use flow_tools::check;
 use std::alloc::Global;
 use std::process::Abort;
@@ -31,10 +31,7 @@ fn network(rt: &impl Abort, alloc: Global, nodes: u32, arcs: &[Triple]) -> Netwo
     assert!(rt; FEWEST_NODES <= nodes && nodes <= MOST_NODES);
     let mut net = Network::new(alloc, nodes);
     for &(src, dst, cap) in arcs {
-        assert!(rt; net.len() < 1000);
-        assert!(rt; 1 <= src && src <= nodes);
-        assert!(rt; 1 <= dst && dst <= nodes);
-        assert!(rt; net.push(Arc { src, dst, cap }).is_ok());
+        assert!(rt; add_arc(&mut net, Arc { src, dst, cap }));
     }
     net
 }
@@ -56,6 +53,16 @@ fn problem(rt: &impl Abort, alloc: Global, case: &Case) -> Result<Problem, Fail>
     }
 }
 
+/// A flow line whose ends are nodes.
+fn line_within(rt: &impl Abort, nodes: u32, line: Triple) -> FlowLine
+    ensures { IsLineWithin nodes result }
+{
+    let (src, dst, flow) = line;
+    assert!(rt; 1 <= src && src <= nodes);
+    assert!(rt; 1 <= dst && dst <= nodes);
+    FlowLine { src, dst, flow }
+}
+
 fn solution(rt: &impl Abort, alloc: Global, case: &Case) -> Result<Solution, Fail>
     ensures { IfOk result (λ solution. IsWithinLimits case.now.nodes (written_in solution)) }
 {
@@ -63,11 +70,9 @@ fn solution(rt: &impl Abort, alloc: Global, case: &Case) -> Result<Solution, Fai
     let value = case.value;
     assert!(rt; value <= GREATEST_VALUE);
     let mut lines = Vec::new(alloc);
-    for &(src, dst, flow) in case.lines {
-        assert!(rt; lines.len() < 1000);
-        assert!(rt; 1 <= src && src <= nodes);
-        assert!(rt; 1 <= dst && dst <= nodes);
-        lines.push(FlowLine { src, dst, flow })?;
+    for &line in case.lines {
+        assert!(rt; lines.len() < MOST_FLOW_LINES);
+        lines.push(line_within(rt, nodes, line))?;
     }
     Ok(Solution { value, lines })
 }
@@ -204,25 +209,11 @@ fn large_numbers(rt: HostRuntime) -> Result<(), Fail> {
 
 #[test]
 fn many_lines_on_one_arc(rt: HostRuntime) -> Result<(), Fail> {
-    let one = with_one_source(
-        2,
-        2,
-        &[(1, 2, 100000)],
-        100000,
-        &[],
-        Verdict::Optimal(100000),
-    );
-    let problem = problem(&rt, rt.alloc(), &one)?;
-    let line = FlowLine {
-        src: 1,
-        dst: 2,
-        flow: 1,
-    };
-    let solution = Solution {
-        value: 100000,
-        lines: Vec::from_elem(rt.alloc(), line, 100000)?,
-    };
-    let verdict = check(rt.alloc(), &problem, &solution, false);
-    assert!(&rt; verdict == Ok(Verdict::Optimal(100000)));
-    Ok(())
+    let lines = Vec::from_elem(rt.alloc(), (1, 2, 1), 100000)?;
+    let verdict = Verdict::Optimal(100000);
+    expect(
+        &rt,
+        rt.alloc(),
+        &with_one_source(2, 2, &[(1, 2, 100000)], 100000, &lines, verdict),
+    )
 }

@@ -3,6 +3,7 @@
 ghost use Rattle.std.specs.Prelude.{◌≡◌, ◌≤◌};
 ghost use Rattle.std.specs.List.{All};
 
+use crate::tools::nets::add_arc;
 use flow_net::{Arc, FlowTable, MOST_ARCS, Network};
 use flow_solve::{Levels, Paths, work_len};
 use flow_tools::connectivity;
@@ -54,19 +55,14 @@ fn answer(alloc: Global, net: &Network) -> Option<(u64, u64)>
     Some((levels, paths))
 }
 
-/// Adds an arc, and answers whether the network can have it and there is memory.
+/// Adds an arc of capacity 1, and answers whether the network can have it and there is memory.
 #[must_use]
 pub(super) fn add(net: &mut Network, src: u32, dst: u32) -> bool {
-    let nodes = net.nodes();
-    if net.len() < MOST_ARCS && 1 <= src && src <= nodes && 1 <= dst && dst <= nodes {
-        net.push(Arc { src, dst, cap: 1 }).is_ok()
-    } else {
-        false
-    }
+    add_arc(net, Arc { src, dst, cap: 1 })
 }
 
 /// The next number of a fixed sequence.
-fn shuffle(seed: u64) -> u64 {
+pub(super) fn shuffle(seed: u64) -> u64 {
     seed.wrapping_mul(6364136223846793005)
         .wrapping_add(1442695040888963407)
 }
@@ -166,7 +162,7 @@ fn two_rings(alloc: Global, between: u32) -> Option<Network> {
 
 #[test]
 fn two_rings_with_chords(rt: HostRuntime) {
-    for (between, connectivity) in [(0u32, 0u64), (1, 1), (2, 2), (3, 2), (40, 2)] {
+    for &(between, connectivity) in &[(0u32, 0u64), (1, 1), (2, 2), (3, 2), (40, 2)] {
         let net = two_rings(rt.alloc(), between).expect(&rt, "memory");
         let is_so = has(rt.alloc(), net, true, connectivity);
         assert_eq!(&rt; (between, is_so), (between, true));
@@ -177,9 +173,7 @@ fn two_rings_with_chords(rt: HostRuntime) {
 fn parallel_arcs(rt: HostRuntime) {
     let mut net = Network::new(rt.alloc(), 3);
     for _ in 0..1000u32 {
-        assert!(&rt; add(&mut net, 1, 2));
-        assert!(&rt; add(&mut net, 2, 3));
-        assert!(&rt; add(&mut net, 3, 1));
+        assert!(&rt; add(&mut net, 1, 2) && add(&mut net, 2, 3) && add(&mut net, 3, 1));
     }
     assert!(&rt; has(rt.alloc(), net, false, 1000));
 }
@@ -196,8 +190,7 @@ fn a_star_both_ways(rt: HostRuntime) {
 #[test]
 fn disconnected(rt: HostRuntime) {
     let mut net = Network::new(rt.alloc(), 20);
-    assert!(&rt; join_all(&mut net, 1, 11));
-    assert!(&rt; join_all(&mut net, 11, 21));
+    assert!(&rt; join_all(&mut net, 1, 11) && join_all(&mut net, 11, 21));
     assert!(&rt; has(rt.alloc(), net, false, 0));
 }
 
@@ -211,23 +204,19 @@ fn complete(rt: HostRuntime) {
 #[test]
 fn two_halves_with_few_arcs_between(rt: HostRuntime) {
     let mut net = Network::new(rt.alloc(), 60);
-    assert!(&rt; join_all(&mut net, 1, 31));
-    assert!(&rt; join_all(&mut net, 31, 61));
-    assert!(&rt; add(&mut net, 3, 40));
-    assert!(&rt; add(&mut net, 17, 41));
-    assert!(&rt; add(&mut net, 30, 59));
+    let joined = join_all(&mut net, 1, 31) && join_all(&mut net, 31, 61);
+    let linked = add(&mut net, 3, 40) && add(&mut net, 17, 41) && add(&mut net, 30, 59);
+    assert!(&rt; joined && linked);
     assert!(&rt; has(rt.alloc(), net, true, 3));
 }
 
 #[test]
 fn thin_in_one_direction_alone(rt: HostRuntime) {
     let mut net = Network::new(rt.alloc(), 40);
-    assert!(&rt; join_all(&mut net, 1, 21));
-    assert!(&rt; join_all(&mut net, 21, 41));
+    let mut is_built = join_all(&mut net, 1, 21) && join_all(&mut net, 21, 41);
     for i in 1u32..11 {
-        assert!(&rt; add(&mut net, i, i + 20));
+        is_built = add(&mut net, i, i + 20) && is_built;
     }
-    assert!(&rt; add(&mut net, 40, 20));
-    assert!(&rt; add(&mut net, 39, 20));
+    assert!(&rt; add(&mut net, 40, 20) && add(&mut net, 39, 20) && is_built);
     assert!(&rt; has(rt.alloc(), net, false, 2));
 }

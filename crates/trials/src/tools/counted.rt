@@ -77,80 +77,93 @@ impl Write for TakesAgain {
     }
 }
 
+/// Whether the second of three pulls alone fails, and the input has failed from then on.
+fn fails_once(input: &mut Counted<FailsOnce<'_>>) -> bool {
+    let mut buf = [0u8; 4096];
+    input.pull(&mut buf) == Ok(16)
+        && input.pull(&mut buf) == Err(Failed)
+        && Input::failed(input)
+        && input.pull(&mut buf) == Ok(16)
+        && Input::failed(input)
+}
+
 #[test]
 fn one_pull_is_one_read(rt: HostRuntime) -> Result<(), Fail> {
     let mut input = Counted::new(FailsOnce::new(NET_A, 2));
-    let mut buf = [0u8; 4096];
-    assert_eq!(rt; input.pull(&mut buf), Ok(16));
-    assert_eq!(rt; input.pull(&mut buf), Err(Failed));
-    assert!(rt; Input::failed(&input));
-    assert_eq!(rt; input.pull(&mut buf), Ok(16));
-    assert!(rt; Input::failed(&input));
+    assert!(rt; fails_once(&mut input));
     assert_eq!(rt; input.into_inner().reads, 3);
     Ok(())
+}
+
+/// Whether the second of three puts alone fails, and the output has failed from then on.
+fn takes_again(out: &mut Counted<TakesAgain>) -> bool {
+    out.put(SOLVED_A) == Ok(16)
+        && out.put(SOLVED_A) == Err(Failed)
+        && Output::failed(out)
+        && out.put(SOLVED_A) == Ok(16)
+        && Output::failed(out)
 }
 
 #[test]
 fn one_put_is_one_write(rt: HostRuntime) -> Result<(), Fail> {
     let mut out = Counted::new(TakesAgain::new(rt.alloc(), 2));
-    assert_eq!(rt; out.put(SOLVED_A), Ok(16));
-    assert_eq!(rt; out.put(SOLVED_A), Err(Failed));
-    assert!(rt; Output::failed(&out));
-    assert_eq!(rt; out.put(SOLVED_A), Ok(16));
-    assert!(rt; Output::failed(&out));
+    assert!(rt; takes_again(&mut out));
     assert_eq!(rt; out.into_inner().writes, 3);
     Ok(())
+}
+
+/// Whether a text of 44 bytes, put into a writer that fails where it is told to, ends like this after so many writes,
+/// of so many bytes.
+fn is_put(
+    alloc: Global,
+    fails_at: u64,
+    ended: Result<(), Failed>,
+    writes: u64,
+    taken: u64,
+) -> bool {
+    let mut out = Counted::new(TakesAgain::new(alloc, fails_at));
+    let is_so = put_all(&mut out, SOLVED_A) == ended;
+    let writer = out.into_inner();
+    is_so && writer.writes == writes && writer.taken.len() as u64 == taken
 }
 
 /// The 44 bytes of a text are three writes of 16 bytes at most.
 #[test]
 fn nothing_is_put_after_a_failure(rt: HostRuntime) -> Result<(), Fail> {
     for k in 1..4u64 {
-        let mut out = Counted::new(TakesAgain::new(rt.alloc(), k));
-        assert_eq!(rt; put_all(&mut out, SOLVED_A), Err(Failed));
-        let writer = out.into_inner();
-        assert_eq!(rt; writer.writes, k);
-        assert_eq!(rt; writer.taken.len() as u64, (k - 1) * 16);
+        assert!(rt; is_put(rt.alloc(), k, Err(Failed), k, (k - 1) * 16));
     }
-    let mut out = Counted::new(TakesAgain::new(rt.alloc(), 4));
-    assert_eq!(rt; put_all(&mut out, SOLVED_A), Ok(()));
-    assert_eq!(rt; out.into_inner().writes, 3);
+    assert!(rt; is_put(rt.alloc(), 4, Ok(()), 3, 44));
     Ok(())
 }
 
-/// Solves net A from a reader and into a writer that fail where they are told to, and answers both, the message and the
-/// status.
-fn solve<'a>(
+/// Whether a solve of net A, from a reader and into a writer that fail where they are told to, tells this message after
+/// so many reads and writes, with status 4.
+fn is_stopped(
     alloc: Global,
-    reader: FailsOnce<'a>,
-    writer: TakesAgain,
-) -> (FailsOnce<'a>, TakesAgain, Vec<u8>, u8) {
-    let mut problem = Counted::new(reader);
+    read_fails_at: u64,
+    write_fails_at: u64,
+    reads: u64,
+    writes: u64,
+    message: &[u8],
+) -> bool {
+    let mut problem = Counted::new(FailsOnce::new(NET_A, read_fails_at));
     let mut unread = Counted::new(b"".as_slice());
-    let mut out = Counted::new(writer);
+    let mut out = Counted::new(TakesAgain::new(alloc, write_fails_at));
     let mut err = Counted::new(Vec::<u8>::new(alloc));
     let status = run(alloc, SOLVE, &mut problem, &mut unread, &mut out, &mut err);
-    (
-        problem.into_inner(),
-        out.into_inner(),
-        err.into_inner(),
-        status,
-    )
+    let reader = problem.into_inner();
+    let writer = out.into_inner();
+    let told = err.into_inner();
+    let is_counted = reader.reads == reads && writer.writes == writes;
+    is_counted && told.as_slice() == message && status == 4
 }
 
 /// The 62 bytes of net A are four reads of 16 bytes at most, and the fifth tells the end.
 #[test]
 fn nothing_is_pulled_after_a_failure(rt: HostRuntime) -> Result<(), Fail> {
     for k in 1..6u64 {
-        let (reader, writer, message, status) = solve(
-            rt.alloc(),
-            FailsOnce::new(NET_A, k),
-            TakesAgain::new(rt.alloc(), 0),
-        );
-        assert_eq!(rt; reader.reads, k);
-        assert_eq!(rt; writer.writes, 0);
-        assert_eq!(rt; message.as_slice(), b"flow: read failed\n".as_slice());
-        assert_eq!(rt; status, 4);
+        assert!(rt; is_stopped(rt.alloc(), k, 0, k, 0, b"flow: read failed\n"));
     }
     Ok(())
 }
@@ -159,15 +172,7 @@ fn nothing_is_pulled_after_a_failure(rt: HostRuntime) -> Result<(), Fail> {
 #[test]
 fn a_run_puts_nothing_after_a_failure(rt: HostRuntime) -> Result<(), Fail> {
     for k in 1..4u64 {
-        let (reader, writer, message, status) = solve(
-            rt.alloc(),
-            FailsOnce::new(NET_A, 0),
-            TakesAgain::new(rt.alloc(), k),
-        );
-        assert_eq!(rt; reader.reads, 5);
-        assert_eq!(rt; writer.writes, k);
-        assert_eq!(rt; message.as_slice(), b"flow: write failed\n".as_slice());
-        assert_eq!(rt; status, 4);
+        assert!(rt; is_stopped(rt.alloc(), 0, k, 5, k, b"flow: write failed\n"));
     }
     Ok(())
 }

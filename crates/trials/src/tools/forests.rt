@@ -4,7 +4,8 @@ ghost use Rattle.std.specs.Prelude.{◌≡◌, ◌<◌, ◌≤◌};
 ghost use Rattle.std.specs.List.{All};
 ghost use Rattle.flow_solve.specs.Bounds.{levels_bound};
 
-use flow_net::{Arc, FEWEST_NODES, FlowTable, MOST_ARCS, MOST_NODES, Network};
+use super::connecting::{add, shuffle};
+use flow_net::{FlowTable, MOST_ARCS, Network};
 use flow_solve::{Levels, Method, connectivity_by_forests, work_len};
 use flow_tools::connectivity;
 use std::alloc::Global;
@@ -103,13 +104,6 @@ pub(super) fn grown_within(alloc: Global, net: &Network, budget: u64) -> Option<
     connectivity_by_forests(net, &mut flow, work, budget)
 }
 
-/// The next number of a fixed sequence.
-fn next_of(state: u64) -> u64 {
-    state
-        .wrapping_mul(6364136223846793005)
-        .wrapping_add(1442695040888963407)
-}
-
 /// A number below another, by the high bits of a number of the sequence.
 fn below(state: u64, most: u32) -> u32
     requires { 0 < most }
@@ -121,21 +115,18 @@ fn below(state: u64, most: u32) -> u32
 /// A network of 3 to 22 nodes that a number determines, with a few arcs for each node, from near nodes to near ones for
 /// every second number; one of three is both ways.
 fn random_network(alloc: Global, seed: u64) -> Option<Network> {
-    let mut state = next_of(seed);
+    let mut state = shuffle(seed);
     let nodes = 3 + below(state, 20);
     let mut net = Network::new(alloc, nodes);
-    state = next_of(state);
+    state = shuffle(state);
     let arcs = nodes * (2 + below(state, 5));
     for _ in 0..arcs {
-        state = next_of(state);
+        state = shuffle(state);
         let src = 1 + below(state, nodes);
-        state = next_of(state);
+        state = shuffle(state);
         let ahead = if seed % 2 == 0 { 4 } else { nodes };
         let dst = 1 + (src + below(state, ahead)) % nodes;
-        if net.len() >= MOST_ARCS || dst > net.nodes() || src > net.nodes() {
-            return None;
-        }
-        if net.push(Arc { src, dst, cap: 1 }).is_err() {
+        if !add(&mut net, src, dst) {
             return None;
         }
     }
@@ -166,43 +157,4 @@ fn forests_agree_with_a_solve_for_each_node(rt: HostRuntime) {
     for seed in 0..4000u64 {
         assert_eq!(&rt; (seed, agree(rt.alloc(), seed)), (seed, true));
     }
-}
-
-/// A ring of some nodes, one way or both.
-fn ring(alloc: Global, nodes: u32, is_both_ways: bool) -> Option<Network>
-    requires least { FEWEST_NODES ≤ nodes }
-    requires most { nodes ≤ MOST_NODES }
-{
-    let mut net = Network::new(alloc, nodes);
-    for i in 0..nodes {
-        let src = 1 + i;
-        let dst = if src == net.nodes() { 1 } else { src + 1 };
-        if net.len() >= MOST_ARCS || src > net.nodes() {
-            return None;
-        }
-        if net.push(Arc { src, dst, cap: 1 }).is_err() {
-            return None;
-        }
-    }
-    if is_both_ways && (net.len() > MOST_ARCS || net.both_ways().is_err()) {
-        return None;
-    }
-    Some(net)
-}
-
-/// The connectivity of a ring by forests alone, within some steps for each node.
-#[tactic(auto, using(crate::proofs::Units::unit_capacities))]
-fn ring_within(alloc: Global, nodes: u32, is_both_ways: bool, steps: u64) -> Option<u64>
-    requires least { FEWEST_NODES ≤ nodes }
-    requires most { nodes ≤ MOST_NODES }
-{
-    let net = ring(alloc, nodes, is_both_ways)?;
-    let net = net.unit();
-    grown_within(alloc, &net, steps.saturating_mul(u64::from(nodes)))
-}
-
-#[test]
-fn forests_go_round_a_ring_one_way(rt: HostRuntime) {
-    assert_eq!(&rt; ring_within(rt.alloc(), 3000, false, 40), Some(1));
-    assert_eq!(&rt; ring_within(rt.alloc(), 3000, true, 40), Some(2));
 }

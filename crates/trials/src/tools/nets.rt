@@ -1,4 +1,7 @@
 //! The networks that several tests speak of: as texts of problems, and as lists of arcs.
+ghost use Rattle.std.specs.Prelude.{◌≡◌, ◌≤◌, length};
+
+use flow_net::{Arc, MOST_ARCS, Network};
 
 /// Source 1 and sink 4. A flow of the greatest value, 5, has to fill every arc.
 pub(crate) const NET_A: &[u8] =
@@ -29,3 +32,18 @@ pub(crate) const ARCS_B: &[Triple] = &[(1, 2, 2), (2, 3, 2)];
 pub(crate) const ARCS_C: &[Triple] = &[(1, 2, 1), (1, 2, 4), (2, 1, 7)];
 
 pub(crate) const ARCS_D: &[Triple] = &[(1, 3, 2), (2, 3, 2), (3, 4, 3)];
+
+/// Adds an arc, and answers whether the network can have it and there is memory.
+#[must_use]
+pub(crate) fn add_arc(net: &mut Network, arc: Arc) -> bool
+    ensures nodes { net.new.nodes ≡ net.old.nodes }
+    ensures few { length net.old.arcs ≤ MOST_ARCS → length net.new.arcs ≤ MOST_ARCS }
+{
+    let Arc { src, dst, .. } = arc;
+    let nodes = net.nodes();
+    if net.len() < MOST_ARCS && 1 <= src && src <= nodes && 1 <= dst && dst <= nodes {
+        net.push(arc).is_ok()
+    } else {
+        false
+    }
+}

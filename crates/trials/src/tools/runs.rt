@@ -59,6 +59,13 @@ pub(crate) struct Ended {
     pub read_failed: bool,
 }
 
+impl Ended {
+    /// Whether the run put these bytes, told this message and ended with this status.
+    pub fn has_left(&self, out: &[u8], err: &[u8], status: u8) -> bool {
+        self.out.bytes() == out && self.err.bytes() == err && self.status == status
+    }
+}
+
 /// Runs a job over a problem and a solution.
 pub(crate) fn run_over(
     alloc: Global,
@@ -99,6 +106,20 @@ pub(crate) fn answer(alloc: Global, job: Job, problem: Script<'_>) -> Ended {
         Collector::new(7, 512),
         Collector::new(7, 128),
     )
+}
+
+/// Whether a job over a problem alone puts these bytes and tells this message, with status 0, or 3 where there is a
+/// message.
+pub(crate) fn is_answered(
+    alloc: Global,
+    job: Job,
+    problem: Script<'_>,
+    out: &[u8],
+    err: &[u8],
+) -> bool {
+    let ended = answer(alloc, job, problem);
+    let status = if err.is_empty() { 0 } else { 3 };
+    ended.has_left(out, err, status) && ended.solution_pulls == 0
 }
 
 /// Runs a job over a problem and a solution, into ample streams that take 16 bytes a put.

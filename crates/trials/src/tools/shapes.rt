@@ -26,6 +26,14 @@ fn grown(alloc: Global, mut net: Network, both: bool) -> Option<u64> {
     grown_within(alloc, &net, Levels::spare_steps(&net))
 }
 
+/// Whether there is a network, and forests tell its connectivity, with `both` that of the network both ways.
+fn has_grown(alloc: Global, net: Option<Network>, both: bool, connectivity: u64) -> bool {
+    match net {
+        Some(net) => grown(alloc, net, both) == Some(connectivity),
+        None => false,
+    }
+}
+
 /// Adds an arc from one node to each that is so many steps on, and answers whether all were added.
 #[must_use]
 fn add_steps(net: &mut Network, node: u32, steps: &[u32]) -> bool {
@@ -59,10 +67,8 @@ fn is_told(alloc: Global, round: &Round, both: bool) -> bool {
     if round.nodes < FEWEST_NODES || round.nodes > MOST_NODES {
         return false;
     }
-    match ring_with(alloc, round.nodes, round.steps) {
-        Some(net) => grown(alloc, net, both) == Some(round.connectivity),
-        None => false,
-    }
+    let net = ring_with(alloc, round.nodes, round.steps);
+    has_grown(alloc, net, both, round.connectivity)
 }
 
 /// Arcs both ways: a ring, a lattice that closes, near links, and all nodes joined.
@@ -100,6 +106,26 @@ fn links_round_a_ring(rt: HostRuntime) {
         let told = is_told(rt.alloc(), round, true);
         assert_eq!(&rt; (round.nodes, told), (round.nodes, true));
     }
+}
+
+/// The connectivity of a ring by forests alone, within some steps for each node.
+#[tactic(auto, using(crate::proofs::Units::unit_capacities))]
+fn ring_within(alloc: Global, nodes: u32, both: bool, steps: u64) -> Option<u64>
+    requires least { FEWEST_NODES ≤ nodes }
+    requires most { nodes ≤ MOST_NODES }
+{
+    let mut net = ring_with(alloc, nodes, &[1])?;
+    if both && (net.len() > MOST_ARCS || net.both_ways().is_err()) {
+        return None;
+    }
+    let net = net.unit();
+    grown_within(alloc, &net, steps.saturating_mul(u64::from(nodes)))
+}
+
+#[test]
+fn forests_go_round_a_ring_one_way(rt: HostRuntime) {
+    assert_eq!(&rt; ring_within(rt.alloc(), 3000, false, 40), Some(1));
+    assert_eq!(&rt; ring_within(rt.alloc(), 3000, true, 40), Some(2));
 }
 
 /// Arcs one way: a ring, steps of several lengths, parallel arcs.
@@ -163,13 +189,8 @@ fn halves(alloc: Global) -> Option<Network> {
 
 #[test]
 fn a_cube_a_tree_and_two_halves(rt: HostRuntime) {
-    let shapes = [
-        (cube(rt.alloc()), false, 7u64),
-        (tree(rt.alloc()), true, 1),
-        (halves(rt.alloc()), true, 3),
-    ];
-    for (net, both, connectivity) in shapes {
-        let net = net.expect(&rt, "memory");
-        assert_eq!(&rt; grown(rt.alloc(), net, both), Some(connectivity));
-    }
+    let alloc = rt.alloc();
+    assert!(&rt; has_grown(alloc, cube(alloc), false, 7));
+    assert!(&rt; has_grown(alloc, tree(alloc), true, 1));
+    assert!(&rt; has_grown(alloc, halves(alloc), true, 3));
 }

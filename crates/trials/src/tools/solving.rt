@@ -1,6 +1,6 @@
 //! Runs of `solve` and `cut` over memory: worked problems with their answers, and faults.
 use crate::tools::nets::{NET_A, NET_B, NET_C, NET_D, NO_ARCS, SOLVED_A};
-use crate::tools::runs::{CUT, CUT_ARCS, CUT_SINK, CUT_SINK_ARCS, SOLVE, VALUE, answer};
+use crate::tools::runs::{CUT, CUT_ARCS, CUT_SINK, CUT_SINK_ARCS, SOLVE, VALUE, is_answered};
 use flow_text::LONGEST_LINE;
 use flow_tools::Job;
 use flow_tools::memory::Script;
@@ -14,7 +14,7 @@ type Answer = (Job, &'static [u8], &'static [u8]);
 /// A job, a text with a fault, and what the run must tell.
 type Told = (Job, &'static [u8], &'static [u8]);
 
-const SOLUTIONS: [Answer; 10] = [
+const SOLUTIONS: &[Answer] = &[
     (SOLVE, NET_A, SOLVED_A),
     (VALUE, NET_A, b"s 5\n"),
     (SOLVE, NO_ARCS, b"s 0\n"),
@@ -54,7 +54,7 @@ const SOLUTIONS: [Answer; 10] = [
     ),
 ];
 
-const CUTS: [Answer; 13] = [
+const CUTS: &[Answer] = &[
     (CUT_ARCS, NET_A, b"s 5\nn 1\na 1 2 3\na 1 3 2\n"),
     (
         CUT_SINK_ARCS,
@@ -87,7 +87,7 @@ const CUTS: [Answer; 13] = [
     (CUT, b"p max 0002 00\nn 1 s\nn 2 t\n", b"s 0\nn 1\n"),
 ];
 
-const FAULTS: [Told; 11] = [
+const FAULTS: &[Told] = &[
     (SOLVE, b"", b"flow: line 1: problem line missing\n"),
     (
         SOLVE,
@@ -139,23 +139,17 @@ const FAULTS: [Told; 11] = [
 
 /// Runs a job on a text that comes in whole pieces, by single bytes, and by lines.
 fn expect(rt: &impl Abort, alloc: Global, job: Job, text: &[u8], out: &[u8], err: &[u8]) {
-    for k in 0..3u8 {
-        let input = match k {
-            0 => Script::new(text, 4096, false, 0),
-            1 => Script::new(text, 1, false, 0),
-            _ => Script::new(text, 4096, true, 0),
-        };
-        let ended = answer(alloc, job, input);
-        assert_eq!(rt; ended.out.bytes(), out);
-        assert_eq!(rt; ended.err.bytes(), err);
-        assert_eq!(rt; ended.status, if err.is_empty() { 0 } else { 3 });
-        assert_eq!(rt; ended.solution_pulls, 0);
-    }
+    let pieces = Script::new(text, 4096, false, 0);
+    assert!(rt; is_answered(alloc, job, pieces, out, err));
+    let bytes = Script::new(text, 1, false, 0);
+    assert!(rt; is_answered(alloc, job, bytes, out, err));
+    let lines = Script::new(text, 4096, true, 0);
+    assert!(rt; is_answered(alloc, job, lines, out, err));
 }
 
 #[test]
 fn problems_are_solved(rt: HostRuntime) -> Result<(), Fail> {
-    for (job, problem, out) in SOLUTIONS {
+    for &(job, problem, out) in SOLUTIONS {
         expect(&rt, rt.alloc(), job, problem, out, b"");
     }
     Ok(())
@@ -163,7 +157,7 @@ fn problems_are_solved(rt: HostRuntime) -> Result<(), Fail> {
 
 #[test]
 fn problems_are_cut(rt: HostRuntime) -> Result<(), Fail> {
-    for (job, problem, out) in CUTS {
+    for &(job, problem, out) in CUTS {
         expect(&rt, rt.alloc(), job, problem, out, b"");
     }
     Ok(())
@@ -171,7 +165,7 @@ fn problems_are_cut(rt: HostRuntime) -> Result<(), Fail> {
 
 #[test]
 fn faults_are_told(rt: HostRuntime) -> Result<(), Fail> {
-    for (job, text, message) in FAULTS {
+    for &(job, text, message) in FAULTS {
         expect(&rt, rt.alloc(), job, text, b"", message);
     }
     Ok(())
@@ -181,9 +175,7 @@ fn faults_are_told(rt: HostRuntime) -> Result<(), Fail> {
 /// `back`.
 fn padded(alloc: Global, front: &[u8], byte: u8, len: usize, back: &[u8]) -> Result<Vec<u8>, Fail> {
     let mut text = front.to_vec(alloc)?;
-    for _ in front.len()..len {
-        text.push(byte)?;
-    }
+    text.resize(len, byte)?;
     text.extend_from_slice(back)?;
     Ok(text)
 }
@@ -220,7 +212,7 @@ fn numbers_of_the_most_digits(rt: HostRuntime) -> Result<(), Fail> {
 /// What is told of a beginning of net A that has at most so many bytes, and more than the row before. A line that was
 /// cut has too few fields, until its last field has begun. One that is whole counts, with its byte 10 or without, and
 /// then the end comes too early: before a sink, or before the fifth arc.
-const BEGINNINGS_OF_A: [(usize, &[u8]); 16] = [
+const BEGINNINGS_OF_A: &[(usize, &[u8])] = &[
     (0, b"flow: line 1: problem line missing\n"),
     (8, b"flow: line 1: wrong number of fields\n"),
     (10, b"flow: line 2: terminals missing\n"),
@@ -241,7 +233,7 @@ const BEGINNINGS_OF_A: [(usize, &[u8]); 16] = [
 
 /// What is told of the first `len` bytes of net A: nothing where only the last byte 10 is missing, or none.
 fn told_of_beginning(len: usize) -> &'static [u8] {
-    for (most, message) in BEGINNINGS_OF_A {
+    for &(most, message) in BEGINNINGS_OF_A {
         if len <= most {
             return message;
         }
@@ -271,51 +263,21 @@ fn each_beginning_of_a_problem(rt: HostRuntime) -> Result<(), Fail> {
 /// Net A with byte 13 before each line end, behind a comment of 10,001 bytes, and without its last byte 10.
 #[test]
 fn carriage_returns_behind_a_long_comment(rt: HostRuntime) -> Result<(), Fail> {
-    let mut text: Vec<u8> = Vec::new(rt.alloc());
-    text.push(b'c')?;
-    for _ in 0..10_000 {
-        text.push(200)?;
-    }
-    text.push(b'\n')?;
-    for byte in NET_A {
-        if *byte == b'\n' {
-            text.push(b'\r')?;
-        }
-        text.push(*byte)?;
-    }
-    assert_eq!(rt; text.pop(), Some(b'\n'));
-    let ended = answer(rt.alloc(), SOLVE, Script::new(text.as_slice(), 1, false, 0));
-    assert_eq!(rt; ended.out.bytes(), SOLVED_A);
-    assert_eq!(rt; ended.err.bytes(), b"".as_slice());
-    assert_eq!(rt; ended.status, 0);
+    let net =
+        b"\np max 4 5\r\nn 1 s\r\nn 4 t\r\na 1 2 3\r\na 1 3 2\r\na 2 3 1\r\na 2 4 2\r\na 3 4 3\r";
+    let text = padded(rt.alloc(), b"c", 200, 10_001, net)?;
+    expect(&rt, rt.alloc(), SOLVE, &text, SOLVED_A, b"");
     Ok(())
 }
 
 /// A comment of 1,000,001 bytes, with byte 10 before net A, and without it at the end of the input.
 #[test]
 fn a_comment_of_a_million_bytes(rt: HostRuntime) -> Result<(), Fail> {
-    let mut text = b"c".to_vec(rt.alloc())?;
-    let bytes = Vec::from_elem(rt.alloc(), 255u8, 1_000_000)?;
-    text.extend_from_slice(bytes.as_slice())?;
-    let comment = answer(
-        rt.alloc(),
-        SOLVE,
-        Script::new(text.as_slice(), 4096, false, 0),
-    );
-    assert_eq!(rt; comment.out.bytes(), b"".as_slice());
-    assert_eq!(rt;
-        comment.err.bytes(),
-        b"flow: line 2: problem line missing\n".as_slice()
-    );
-    assert_eq!(rt; comment.status, 3);
+    let mut text = padded(rt.alloc(), b"c", 255, 1_000_001, b"")?;
+    let missing = b"flow: line 2: problem line missing\n";
+    expect(&rt, rt.alloc(), SOLVE, &text, b"", missing);
     text.push(b'\n')?;
     text.extend_from_slice(NET_A)?;
-    let solved = answer(
-        rt.alloc(),
-        SOLVE,
-        Script::new(text.as_slice(), 4096, false, 0),
-    );
-    assert_eq!(rt; solved.out.bytes(), SOLVED_A);
-    assert_eq!(rt; solved.status, 0);
+    expect(&rt, rt.alloc(), SOLVE, &text, SOLVED_A, b"");
     Ok(())
 }

@@ -29,11 +29,9 @@ fn expect_stop(
 ) {
     let ended = answer(alloc, SOLVE, Script::new(text, 4096, true, fails_at));
     let has_failed = pulls == fails_at;
-    assert_eq!(rt; ended.out.bytes(), b"".as_slice());
-    assert_eq!(rt; ended.err.bytes(), message);
-    assert_eq!(rt; ended.status, if has_failed { 4 } else { 3 });
-    assert_eq!(rt; ended.pulls, pulls);
-    assert_eq!(rt; ended.read_failed, has_failed);
+    let status = if has_failed { 4 } else { 3 };
+    let is_stopped = ended.pulls == pulls && ended.read_failed == has_failed;
+    assert!(rt; is_stopped && ended.has_left(b"", message, status));
 }
 
 /// The eight lines of net A and its end are nine pulls.
@@ -76,11 +74,8 @@ fn a_pull_fails_within_a_line(rt: HostRuntime) -> Result<(), Fail> {
 #[test]
 fn nothing_is_pulled_after_the_end(rt: HostRuntime) -> Result<(), Fail> {
     let ended = answer(rt.alloc(), SOLVE, Script::new(NET_A, 4096, true, 10));
-    assert_eq!(rt; ended.out.bytes(), SOLVED_A);
-    assert_eq!(rt; ended.err.bytes(), b"".as_slice());
-    assert_eq!(rt; ended.status, 0);
-    assert_eq!(rt; ended.pulls, 9);
-    assert!(rt; !ended.read_failed);
+    let is_whole = ended.pulls == 9 && !ended.read_failed;
+    assert!(rt; is_whole && ended.has_left(SOLVED_A, b"", 0));
     Ok(())
 }
 
@@ -98,10 +93,8 @@ fn each_byte_put_fails(rt: HostRuntime) -> Result<(), Fail> {
                 Collector::new(most, j),
                 Collector::new(64, 64),
             );
-            assert_eq!(rt; ended.out.bytes(), &SOLVED_A[..j]);
-            assert_eq!(rt; ended.err.bytes(), WRITE_FAILED);
-            assert_eq!(rt; ended.status, 4);
-            assert!(rt; ended.out.failed());
+            let put = &SOLVED_A[..j];
+            assert!(rt; ended.out.failed() && ended.has_left(put, WRITE_FAILED, 4));
         }
     }
     Ok(())
@@ -118,10 +111,8 @@ fn one_byte_a_put(rt: HostRuntime) -> Result<(), Fail> {
         Collector::new(1, 44),
         Collector::new(1, 0),
     );
-    assert_eq!(rt; ended.out.bytes(), SOLVED_A);
-    assert_eq!(rt; ended.status, 0);
-    assert!(rt; !ended.out.failed());
-    assert!(rt; !ended.err.failed());
+    let has_failed = ended.out.failed() || ended.err.failed();
+    assert!(rt; !has_failed && ended.has_left(SOLVED_A, b"", 0));
     Ok(())
 }
 
@@ -135,10 +126,7 @@ fn a_message_is_cut_short(rt: HostRuntime) -> Result<(), Fail> {
         Collector::new(1, 64),
         Collector::new(2, 3),
     );
-    assert_eq!(rt; ended.out.bytes(), b"".as_slice());
-    assert_eq!(rt; ended.err.bytes(), b"flo".as_slice());
-    assert_eq!(rt; ended.status, 3);
-    assert!(rt; ended.err.failed());
+    assert!(rt; ended.err.failed() && ended.has_left(b"", b"flo", 3));
     Ok(())
 }
 
@@ -146,7 +134,7 @@ fn a_message_is_cut_short(rt: HostRuntime) -> Result<(), Fail> {
 /// the run must tell, its status, and the pulls of the solution. Nothing is put.
 type Stopped = (&'static [u8], u64, usize, &'static [u8], u8, u64);
 
-const STOPPED_CHECKS: [Stopped; 4] = [
+const STOPPED_CHECKS: &[Stopped] = &[
     (b"s 0\n", 1, 512, READ_FAILED, 4, 1),
     (b"s 0\n", 2, 512, READ_FAILED, 4, 2),
     (
@@ -163,7 +151,7 @@ const STOPPED_CHECKS: [Stopped; 4] = [
 
 #[test]
 fn streams_of_a_check_that_fail(rt: HostRuntime) -> Result<(), Fail> {
-    for (text, fails_at, room, message, status, pulls) in STOPPED_CHECKS {
+    for &(text, fails_at, room, message, status, pulls) in STOPPED_CHECKS {
         let ended = run_over(
             rt.alloc(),
             CHECK,
@@ -172,10 +160,8 @@ fn streams_of_a_check_that_fail(rt: HostRuntime) -> Result<(), Fail> {
             Collector::new(16, room.min(512)),
             Collector::new(16, 128),
         );
-        assert_eq!(rt; ended.out.bytes(), b"".as_slice());
-        assert_eq!(rt; ended.err.bytes(), message);
-        assert_eq!(rt; ended.status, status);
-        assert_eq!(rt; ended.solution_pulls, pulls);
+        let is_stopped = ended.solution_pulls == pulls;
+        assert!(rt; is_stopped && ended.has_left(b"", message, status));
     }
     Ok(())
 }
@@ -194,26 +180,22 @@ impl Write for Full {
     }
 }
 
-/// Solves net A from a reader of std, and answers the status and the message.
-fn solve_into<W: Write>(alloc: Global, out: &mut Counted<W>) -> (u8, Vec<u8>) {
+/// Whether a solve of net A from a reader of std tells this message and ends with this status.
+fn is_told<W: Write>(alloc: Global, out: &mut Counted<W>, message: &[u8], status: u8) -> bool {
     let mut input = Counted::new(NET_A);
     let mut unread = Counted::new(b"".as_slice());
     let mut err = Counted::new(Vec::<u8>::new(alloc));
-    let status = run(alloc, SOLVE, &mut input, &mut unread, out, &mut err);
-    (status, err.into_inner())
+    let ended = run(alloc, SOLVE, &mut input, &mut unread, out, &mut err);
+    err.into_inner().as_slice() == message && ended == status
 }
 
 #[test]
 fn streams_of_std(rt: HostRuntime) -> Result<(), Fail> {
     let mut out = Counted::new(Vec::<u8>::new(rt.alloc()));
-    let (status, message) = solve_into(rt.alloc(), &mut out);
-    assert_eq!(rt; status, 0);
-    assert_eq!(rt; out.into_inner().as_slice(), SOLVED_A);
-    assert_eq!(rt; message.as_slice(), b"".as_slice());
+    let is_solved = is_told(rt.alloc(), &mut out, b"", 0);
+    let put = out.into_inner();
+    assert!(rt; is_solved && put.as_slice() == SOLVED_A);
     let mut full = Counted::new(Full);
-    let (status, message) = solve_into(rt.alloc(), &mut full);
-    assert_eq!(rt; status, 4);
-    assert_eq!(rt; message.as_slice(), WRITE_FAILED);
-    assert!(rt; Output::failed(&full));
+    assert!(rt; is_told(rt.alloc(), &mut full, WRITE_FAILED, 4) && Output::failed(&full));
     Ok(())
 }

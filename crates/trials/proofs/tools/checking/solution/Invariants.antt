@@ -5,5 +5,5 @@ use Rattle.flow_text.specs.SolutionReading.{IsLineWithin}
 use Rattle.flow_text.specs.declared.limits.TheConstants.{MOST_FLOW_LINES}
 use Rattle.trials.proofs.tools.checking.solution.Given as goal
 
-abbrev pub invariant-loop-src : goal.invariant-loop-src
-invariant-loop-src g l = All (IsLineWithin l.nodes) l.lines.items × (length l.lines.items ≤ MOST_FLOW_LINES)
+abbrev pub invariant-loop-line : goal.invariant-loop-line
+invariant-loop-line g l = All (IsLineWithin l.nodes) l.lines.items × (length l.lines.items ≤ MOST_FLOW_LINES)

@@ -35,7 +35,7 @@ fn is_marked(state: &[u32], mark: u32, node: u32) -> bool
 
 /// Gives a node a mark.
 #[inline(always)]
-fn mark(state: &mut [u32], mark: u32, node: u32)
+fn set_mark(state: &mut [u32], mark: u32, node: u32)
     requires mark { mark < 2 }
     requires node { (1 ≤ node) × (node ≤ length state.old) }
     ensures { HasMarked mark node state.old state.new }
@@ -68,7 +68,7 @@ pub(crate) fn set_done(state: &mut [u32], node: u32)
     requires { (1 ≤ node) × (node ≤ length state.old) }
     ensures { HasMarked DONE node state.old state.new }
 {
-    mark(state, DONE, node);
+    set_mark(state, DONE, node);
 }
 
 /// A search sees a node.
@@ -77,7 +77,7 @@ pub(crate) fn set_seen(state: &mut [u32], node: u32)
     requires { (1 ≤ node) × (node ≤ length state.old) }
     ensures { HasMarked SEEN node state.old state.new }
 {
-    mark(state, SEEN, node);
+    set_mark(state, SEEN, node);
 }
 
 /// Makes a node unseen, if it exists.
@@ -94,7 +94,8 @@ pub(crate) fn unsee(state: &mut [u32], node: u32)
 
 /// Takes all marks from all nodes.
 pub(crate) fn unmark_all(state: &mut [u32])
-    ensures { (v : ℕ) → IsFalse (done_in state.new v) }
+    ensures done { (v : ℕ) → IsFalse (done_in state.new v) }
+    ensures unseen { (v : ℕ) → IsFalse (seen_in state.new v) }
 {
     state.fill(0);
 }

@@ -1,6 +1,6 @@
--- `mark`: one bit of a cell is set.
+-- `set_mark`: one bit of a cell is set.
 use Rattle.flow_solve.proofs.ForestLemmas.Marks.{marked}
-use Rattle.flow_solve.proofs.forests.marks.mark.Goals as goal
+use Rattle.flow_solve.proofs.forests.marks.set_mark.Goals as goal
 
 pub returns : goal.returns
 returns c =

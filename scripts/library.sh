@@ -29,7 +29,8 @@ is_as_proved() { # SUM FILE..
 }
 
 # Proves the crate and builds the archive over the libraries that the gate has proved and left. The gate only checks a
-# static library, and `rt lib`, which builds one, takes none of the gate's, and would prove all of them again.
+# static library, and `rt lib`, which builds one, takes none of the gate's, and would prove all of them again. What an
+# earlier check of the crate has proved is taken up: scripts/test.sh leaves there what the gate's edits began with.
 build_over_the_gate() {
   local crate words=(--extern "std=$kit/rlibs/std.rlib")
   for crate in flow_net flow_text flow_solve flow_tools; do
@@ -40,7 +41,7 @@ build_over_the_gate() {
     cd crates/flow_c
     "$kit/bin/rattle" build --crate-name flow_c src/lib.rt "${words[@]}" -L "dependency=$kit/rlibs" \
       --antt-project "$kit/rattle/logic/antt-project.json" --logic-built "$kit/logic_built" --crate-type staticlib \
-      --toolchain "$kit/toolchain" --backend llvm -o out/libflow_c.a
+      --incremental out/incremental --toolchain "$kit/toolchain" --backend llvm -o out/libflow_c.a
   ) > "$scratch/log" 2>&1 || { tail -n 3 "$scratch/log" >&2; return 1; }
 }
 

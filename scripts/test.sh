@@ -108,6 +108,10 @@ add pages python3 scripts/pages.py crates/flow/out/flow
 # The library for C, its header against the crate's exports, and the package for Python over it.
 add header python3 scripts/header.py
 say "the library for C"
+if [ -d "$folder/begun/flow_c" ]; then
+  rm -rf crates/flow_c/out/incremental
+  cp -a "$folder/begun/flow_c" crates/flow_c/out/incremental
+fi
 bash scripts/library.sh "$folder/made" > /dev/null || exit 1
 add library python3 scripts/try_library.py "$folder/made" crates/flow/out/flow
 add bindings python3 scripts/bindings.py "$folder/made/libprovedflow.so.0"

@@ -108,6 +108,7 @@ add pages python3 scripts/pages.py crates/flow/out/flow
 # The library for C, its header against the crate's exports, and the package for Python over it.
 add header python3 scripts/header.py
 say "the library for C"
+# What the gate's edits of the crate began with is its whole proof: the library needs no other one.
 if [ -d "$folder/begun/flow_c" ]; then
   rm -rf crates/flow_c/out/incremental
   cp -a "$folder/begun/flow_c" crates/flow_c/out/incremental

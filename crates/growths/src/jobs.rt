@@ -8,6 +8,12 @@ use flow_tools::memory::{Collector, Script};
 use flow_tools::{Job, run, run_on_texts};
 use std::alloc::Global;
 
+/// What a run tells where memory was refused.
+const NO_MEMORY: &[u8] = b"flow: out of memory\n";
+
+/// What a run tells of a problem with fewer arcs than its problem line says.
+const TOO_FEW: &[u8] = b"flow: line 5: too few arcs\n";
+
 /// Makes the call with this name, and answers what is to be told of it.
 pub fn told(alloc: Global, name: &[u8]) -> &'static [u8] {
     match name {
@@ -54,18 +60,30 @@ fn run_texts(alloc: Global) -> &'static [u8] {
     }
 }
 
-/// Runs a job. Where a growth was refused it must put nothing, tell that, and answer 4; else it must put the answer, or
-/// tell the fault where there is none.
+/// What a run comes to. Where a growth was refused it must put nothing, tell that, and answer 4; else it must put the
+/// answer, or tell the fault where there is none.
+fn judged(status: u8, text: &[u8], told: &[u8], answer: &[u8]) -> &'static [u8] {
+    if status == 4 && text.is_empty() && told == NO_MEMORY {
+        return REFUSED;
+    }
+    if answer.is_empty() {
+        if status == 3 && text.is_empty() && told == TOO_FEW {
+            return b"line 5: too few arcs";
+        }
+        return BROKEN;
+    }
+    if status == 0 && text == answer && told.is_empty() {
+        return b"answered";
+    }
+    BROKEN
+}
+
+/// Runs a job, whose answer is told, or nothing where its problem has a fault.
 fn run_job(alloc: Global, job: Job, problem: &[u8], answer: &[u8]) -> &'static [u8] {
     let mut input = Script::new(problem, 4096, false, 0);
     let mut given = Script::new(OPTIMAL, 4096, false, 0);
     let mut out: Collector<128> = Collector::new(128, 128);
     let mut err: Collector<64> = Collector::new(64, 64);
     let status = run(alloc, job, &mut input, &mut given, &mut out, &mut err);
-    match (status, out.bytes(), err.bytes()) {
-        (4, b"", b"flow: out of memory\n") => REFUSED,
-        (0, text, b"") if text == answer && !text.is_empty() => b"answered",
-        (3, b"", b"flow: line 5: too few arcs\n") if answer.is_empty() => b"line 5: too few arcs",
-        _ => BROKEN,
-    }
+    judged(status, out.bytes(), err.bytes(), answer)
 }

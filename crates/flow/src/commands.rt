@@ -2,8 +2,8 @@
 
 ghost use Rattle.std.specs.Prelude.{◌≡◌, Some, codes};
 
-use clap::{Arg, ArgAction, Command, Error};
-use std::alloc::Global;
+use clap::{Arg, ArgAction, Command};
+use std::alloc::{AllocError, Global};
 
 /// What the help of `flow` ends with.
 const ALL_STATUSES: &str =
@@ -113,41 +113,47 @@ Example, with the problem and the solution in files:
   $ flow check net.max net.sol
   not-maximal 1";
 
-/// All commands. Their only error is that memory was refused.
-pub fn commands<'a>(alloc: Global) -> Result<Command<'a>, Error> {
+/// All commands.
+///
+/// # Errors
+///
+/// `AllocError` where memory was refused.
+pub fn commands<'a>(alloc: Global) -> Result<Command<'a>, AllocError> {
     let flow = Command::new(alloc, "flow")
         .version("0.1.0")
         .about("Maximum flows, minimum cuts and edge connectivity of networks in the DIMACS format")
         .after_help(ALL_STATUSES);
-    Ok(
-        flow.subcommand(solve(alloc)?)?
-            .subcommand(cut(alloc)?)?
-            .subcommand(connect(alloc)?)?
-            .subcommand(check(alloc)?)?,
-    )
+    flow.subcommand(solve(alloc)?)?
+        .subcommand(cut(alloc)?)?
+        .subcommand(connect(alloc)?)?
+        .subcommand(check(alloc)?)
+}
+
+/// A command with its help: what it does in short and at length, and what ends it.
+fn described<'a>(
+    alloc: Global,
+    name: &'a str,
+    about: &'a str,
+    long_about: &'a str,
+    statuses: &'a str,
+) -> Command<'a> {
+    Command::new(alloc, name)
+        .about(about)
+        .long_about(long_about)
+        .after_help(statuses)
 }
 
 /// `flow solve [--value] [FILE]`
-fn solve<'a>(alloc: Global) -> Result<Command<'a>, Error> {
-    let solve = Command::new(alloc, "solve")
-        .about("Print a maximum flow")
-        .long_about(SOLVE)
-        .after_help(STATUSES);
-    Ok(
-        solve
-            .arg(flag(alloc, "value", "Print the value alone"))?
-            .arg(problem(alloc))?,
-    )
+fn solve<'a>(alloc: Global) -> Result<Command<'a>, AllocError> {
+    described(alloc, "solve", "Print a maximum flow", SOLVE, STATUSES)
+        .arg(flag(alloc, "value", "Print the value alone"))?
+        .arg(problem(alloc))
 }
 
 /// `flow cut [--arcs] [--sink] [FILE]`
-fn cut<'a>(alloc: Global) -> Result<Command<'a>, Error> {
-    let cut = Command::new(alloc, "cut")
-        .about("Print a minimum cut")
-        .long_about(CUT)
-        .after_help(STATUSES);
-    Ok(
-        cut.arg(flag(
+fn cut<'a>(alloc: Global) -> Result<Command<'a>, AllocError> {
+    described(alloc, "cut", "Print a minimum cut", CUT, STATUSES)
+        .arg(flag(
             alloc,
             "arcs",
             "Print the arcs that leave the source side too, as lines a SRC DST CAP",
@@ -157,53 +163,52 @@ fn cut<'a>(alloc: Global) -> Result<Command<'a>, Error> {
             "sink",
             "Print the minimum cut nearest the sinks instead",
         ))?
-        .arg(problem(alloc))?,
-    )
+        .arg(problem(alloc))
 }
 
 /// `flow connect [--undirected] [--pair] [FILE]`
-fn connect<'a>(alloc: Global) -> Result<Command<'a>, Error> {
-    let connect = Command::new(alloc, "connect")
-        .about("Print the edge connectivity")
-        .long_about(CONNECT)
-        .after_help(STATUSES);
-    Ok(
-        connect
-            .arg(flag(
-                alloc,
-                "undirected",
-                "Count the arc lines with exactly one end in the set",
-            ))?
-            .arg(flag(
-                alloc,
-                "pair",
-                "Only sets with every source inside and every sink outside",
-            ))?
-            .arg(problem(alloc))?,
+fn connect<'a>(alloc: Global) -> Result<Command<'a>, AllocError> {
+    described(
+        alloc,
+        "connect",
+        "Print the edge connectivity",
+        CONNECT,
+        STATUSES,
     )
+    .arg(flag(
+        alloc,
+        "undirected",
+        "Count the arc lines with exactly one end in the set",
+    ))?
+    .arg(flag(
+        alloc,
+        "pair",
+        "Only sets with every source inside and every sink outside",
+    ))?
+    .arg(problem(alloc))
 }
 
 /// `flow check [--feasible] PROBLEM [SOLUTION]`
-fn check<'a>(alloc: Global) -> Result<Command<'a>, Error> {
-    let check = Command::new(alloc, "check")
-        .about("Check a solution of a problem")
-        .long_about(CHECK)
-        .after_help(CHECK_STATUSES);
-    Ok(
-        check
-            .arg(flag(
-                alloc,
-                "feasible",
-                "Print feasible VALUE and don't ask whether a greater flow exists",
-            ))?
-            .arg(
-                problem(alloc)
-                    .value_name("PROBLEM")
-                    .required(true)
-                    .help("The problem"),
-            )?
-            .arg(solution(alloc))?,
+fn check<'a>(alloc: Global) -> Result<Command<'a>, AllocError> {
+    described(
+        alloc,
+        "check",
+        "Check a solution of a problem",
+        CHECK,
+        CHECK_STATUSES,
     )
+    .arg(flag(
+        alloc,
+        "feasible",
+        "Print feasible VALUE and don't ask whether a greater flow exists",
+    ))?
+    .arg(
+        problem(alloc)
+            .value_name("PROBLEM")
+            .required(true)
+            .help("The problem"),
+    )?
+    .arg(solution(alloc))
 }
 
 /// A flag that is given by its name.

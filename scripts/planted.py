@@ -15,9 +15,9 @@ What was refused is remembered, by the sums of all that it rests on, in the user
 After the gate --begin FOLDER names what the gate's own edits began with: --gather TEMPORARY FOLDER, run beside the gate
 until it is ended, collects that out of the gate's temporary folder. Each check begins with that then, and reads the
 libraries that the gate has left in out/rlib; it is called as the gate calls it, since `rt check` builds libraries of
-its own, over which nothing of that holds. A crate whose proof the gate had kept has nothing collected, and is proved
-once more before its edits. Without --begin the first check of a crate proves it from nothing. RT_JOBS checks run at a
-time.
+its own, over which nothing of that holds. A crate of which nothing is collected, since the gate had kept its proof or
+tries none of its edits, is proved with the first group of them; where its edits are tried by two groups at once, once
+more before these. So is each crate without --begin. RT_JOBS checks run at a time.
 
 The last line is 'planted: N passed, M failed'.
 """
@@ -244,7 +244,7 @@ def lanes_of(crate):
 
 
 def prove(crate, begin):
-    """Proves a crate of which nothing was collected, so that its lanes needn't each."""
+    """Proves a crate of which nothing was collected, so that its lanes needn't each do that."""
     if begin and not (begin / crate).is_dir():
         with tempfile.TemporaryDirectory(prefix="flow-planted-") as folder:
             copy = Copy(crate, folder, begin)
@@ -336,7 +336,7 @@ def main(words):
         # (the crate with the most edits takes longest)
         for crate in sorted(crates, key=lambda crate: -len(edits_of(crate))):
             lanes, names, known = lanes_of(crate)
-            proof = pool.submit(prove, crate, begin if lanes else None)
+            proof = pool.submit(prove, crate, begin if len(lanes) > 1 else None)
             tried = [pool.submit(try_lane, crate, begin, lane, names, proof) for lane in lanes]
             started.append((crate, known, tried))
         for crate, known, lanes in started:

@@ -243,19 +243,24 @@ def lanes_of(crate):
     return [todo[lane::lanes] for lane in range(lanes)], names, len(edits) - len(todo)
 
 
+def waits(crate, begin, lanes):
+    """Whether a crate is proved before its lanes, so that they needn't each do that: nothing was collected of it."""
+    return bool(begin) and len(lanes) > 1 and not (begin / crate).is_dir()
+
+
 def prove(crate, begin):
-    """Proves a crate of which nothing was collected, so that its lanes needn't each do that."""
-    if begin and not (begin / crate).is_dir():
-        with tempfile.TemporaryDirectory(prefix="flow-planted-") as folder:
-            copy = Copy(crate, folder, begin)
-            copy.check({})
-            link_tree(copy.folder / "out" / "incremental", begin / crate)
+    """Proves a crate, and keeps what its lanes begin with."""
+    with tempfile.TemporaryDirectory(prefix="flow-planted-") as folder:
+        copy = Copy(crate, folder, begin)
+        copy.check({})
+        link_tree(copy.folder / "out" / "incremental", begin / crate)
 
 
 def try_lane(crate, begin, todo, names, proof):
-    """Tries edits of a crate, once it is proved, group after group; what is said, how many were refused, how many not,
-    and in how many checks."""
-    proof.result()
+    """Tries edits of a crate, once a proof that they wait for is done, group after group; what is said, how many were
+    refused, how many not, and in how many checks."""
+    if proof:
+        proof.result()
     said, refused, failed, checks = [], 0, 0, 0
     with tempfile.TemporaryDirectory(prefix="flow-planted-") as folder:
         copy = Copy(crate, folder, begin)
@@ -331,13 +336,14 @@ def main(words):
     if any(word not in crates for word in words):
         sys.exit(__doc__)
     passed = lacking = 0
+    found = [(crate, *lanes_of(crate)) for crate in crates]
+    # (where lanes wait for a proof of the crate, those of other crates go first; else the most edits take longest)
+    found.sort(key=lambda it: (waits(it[0], begin, it[1]), -sum(map(len, it[1]))))
     with ThreadPoolExecutor(int(os.environ.get("RT_JOBS") or 1)) as pool:
+        proofs = {it[0]: pool.submit(prove, it[0], begin) for it in found if waits(it[0], begin, it[1])}
         started = []
-        # (the crate with the most edits takes longest)
-        for crate in sorted(crates, key=lambda crate: -len(edits_of(crate))):
-            lanes, names, known = lanes_of(crate)
-            proof = pool.submit(prove, crate, begin if len(lanes) > 1 else None)
-            tried = [pool.submit(try_lane, crate, begin, lane, names, proof) for lane in lanes]
+        for crate, lanes, names, known in found:
+            tried = [pool.submit(try_lane, crate, begin, lane, names, proofs.get(crate)) for lane in lanes]
             started.append((crate, known, tried))
         for crate, known, lanes in started:
             refused, checks = known, 0

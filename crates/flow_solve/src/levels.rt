@@ -57,7 +57,8 @@
 //!
 //! In a dense network the phases follow the near sends. The trees grow no farther than until the nearest source and
 //! sink are found to be far apart, since then much flow goes far, and paths one by one bring little. There the waves
-//! begin. Where few half-arcs are at the sources or at the sinks, as in frames, a shorter way counts as far.
+//! begin. Where much goes through few half-arcs at the sources or at the sinks, as in frames, a shorter way counts as
+//! far.
 ghost use Rattle.std.specs.Prelude.{◌≡◌, ◌+◌, ◌*◌, ◌≤◌, IsFalse, IsTrue, drop, length};
 ghost use Rattle.flow_net.specs.Limits.{AreTerminals};
 ghost use Rattle.flow_net.specs.NodeSets.{one_of};

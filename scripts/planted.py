@@ -15,9 +15,9 @@ What was refused is remembered, by the sums of all that it rests on, in the user
 After the gate --begin FOLDER names what the gate's own edits began with: --gather TEMPORARY FOLDER, run beside the gate
 until it is ended, collects that out of the gate's temporary folder. Each check begins with that then, and reads the
 libraries that the gate has left in out/rlib; it is called as the gate calls it, since `rt check` builds libraries of
-its own, over which nothing of that holds. A crate of which nothing is collected, since the gate had kept its proof or
-tries none of its edits, is proved with the first group of them; where its edits are tried by two groups at once, once
-more before these. So is each crate without --begin. RT_JOBS checks run at a time.
+its own, over which nothing of that holds. A crate of which nothing is collected, since the gate had kept its proof, is
+proved with the first group of its edits; where they are tried by two groups at once, once before these. Without --begin
+each group that comes first proves its crate. RT_JOBS checks run at a time.
 
 The last line is 'planted: N passed, M failed'.
 """
@@ -243,8 +243,8 @@ def lanes_of(crate):
     return [todo[lane::lanes] for lane in range(lanes)], names, len(edits) - len(todo)
 
 
-def waits(crate, begin, lanes):
-    """Whether a crate is proved before its lanes, so that they needn't each do that: nothing was collected of it."""
+def needs_proof(crate, begin, lanes):
+    """Whether a crate is proved before its lanes, lest each of them does that: nothing was collected of it."""
     return bool(begin) and len(lanes) > 1 and not (begin / crate).is_dir()
 
 
@@ -338,9 +338,9 @@ def main(words):
     passed = lacking = 0
     found = [(crate, *lanes_of(crate)) for crate in crates]
     # (where lanes wait for a proof of the crate, those of other crates go first; else the most edits take longest)
-    found.sort(key=lambda it: (waits(it[0], begin, it[1]), -sum(map(len, it[1]))))
+    found.sort(key=lambda it: (needs_proof(it[0], begin, it[1]), -sum(map(len, it[1]))))
     with ThreadPoolExecutor(int(os.environ.get("RT_JOBS") or 1)) as pool:
-        proofs = {it[0]: pool.submit(prove, it[0], begin) for it in found if waits(it[0], begin, it[1])}
+        proofs = {it[0]: pool.submit(prove, it[0], begin) for it in found if needs_proof(it[0], begin, it[1])}
         started = []
         for crate, lanes, names, known in found:
             tried = [pool.submit(try_lane, crate, begin, lane, names, proofs.get(crate)) for lane in lanes]

@@ -2,13 +2,15 @@
 //! and Tarjan 1988).
 ghost use Rattle.std.specs.Prelude.{◌≡◌, ◌+◌, ◌*◌, ◌<◌, ◌≤◌, length};
 ghost use Rattle.flow_net.specs.Nets.{IsNode};
+ghost use Rattle.flow_net.specs.Flows.{Fits};
+ghost use Rattle.flow_solve.specs.Steps.{TakesSteps};
 ghost use Rattle.flow_solve.specs.levels.Waves.{HasCells, HasLookedOut, HasSent, IsWaving, OnlyMarks};
 
 use super::excess::{PLACES, UNSEEN, Wave, level_in};
 use crate::levels::spending::spend;
 use crate::residual::half_arcs::head;
 use crate::residual::packing::Packed;
-use flow_net::FlowTable;
+use flow_net::{FlowTable, Network};
 
 /// A node that sends its excess on.
 #[derive(Clone, Copy)]
@@ -56,6 +58,34 @@ fn accept(wave: &mut Wave<'_>, node: u32, level: u32, amount: u64) -> u64
     booked
 }
 
+/// Sends as much of an amount over a half-arc as remains there and as the excess of the node there, which is on some
+/// level, has room for. Answers how much.
+#[inline(always)]
+fn send_over(
+    net: &Network,
+    flow: &mut FlowTable,
+    wave: &mut Wave<'_>,
+    half: u32,
+    level: u32,
+    amount: u64,
+) -> u64
+    requires fits { Fits net.now flow.old.flows }
+    requires half { half < 2 * length net.now.arcs }
+    requires nodes { wave.old.nodes ≡ net.now.nodes }
+    requires size { length wave.old.cells.now ≡ 5 * net.now.nodes }
+    ensures most { result ≤ amount }
+    ensures fits { Fits net.now flow.new.flows }
+    ensures marks { OnlyMarks wave.old wave.new }
+    ensures steps { TakesSteps flow.old flow.new 2 }
+{
+    let (node, room) = flow.look(net, half);
+    let sent = accept(wave, node, level, amount.min(room));
+    if sent > 0 {
+        flow.push(net, half, sent);
+    }
+    sent
+}
+
 /// Passes a sender's half-arcs, and sends its excess on over those that lead to the next nearer level.
 fn pass(packed: Packed<'_>, flow: &mut FlowTable, wave: &mut Wave<'_>, sender: &mut Sender)
     requires waving { IsWaving packed flow.old wave.old }
@@ -71,12 +101,7 @@ fn pass(packed: Packed<'_>, flow: &mut FlowTable, wave: &mut Wave<'_>, sender: &
     while step < end - begin && spend(&mut left, 2) {
         let half = packed.halves[spot_of(begin, end, step, sender.backwards) as usize];
         if wave.level(head(packed.net, half)) == nearer {
-            let (node, room) = flow.look(packed.net, half);
-            let sent = accept(wave, node, nearer, amount.min(room));
-            if sent > 0 {
-                flow.push(packed.net, half, sent);
-                amount -= sent;
-            }
+            amount -= send_over(packed.net, flow, wave, half, nearer, amount);
             if amount == 0 {
                 break;
             }

@@ -1,15 +1,17 @@
 //! The search that gives the nodes their levels: backwards from the roots, no farther than excess may be lifted.
-ghost use Rattle.std.specs.Prelude.{◌≡◌, ◌*◌, ◌<◌, ◌≤◌, true, length};
+ghost use Rattle.std.specs.Prelude.{◌≡◌, ◌+◌, ◌*◌, ◌<◌, ◌≤◌, true, length};
 ghost use Rattle.std.specs.List.{All};
 ghost use Rattle.flow_net.specs.Nets.{IsNode};
-ghost use Rattle.flow_solve.specs.levels.Waves.{HasCells, HasLookedOut, IsWaving, OnlyMarks};
+ghost use Rattle.flow_net.specs.Flows.{Fits};
+ghost use Rattle.flow_solve.specs.Steps.{PaysLooks};
+ghost use Rattle.flow_solve.specs.levels.Waves.{HasCells, HasLookedOut, IsWaving, OnlyMarks, StaysIn};
 
 use super::excess::{BARRED, UNSEEN, Wave};
 use crate::levels::spending::spend;
 use crate::residual::half_arcs::{head, twin};
 use crate::residual::packing::Packed;
 use crate::task::Task;
-use flow_net::FlowTable;
+use flow_net::{FlowTable, Network};
 
 /// How many times the number of arcs a wave may take before the next search: some times what a search does, since in a
 /// wave that goes on for long most nodes are lifted where nothing leads on. With half or twice as many, networks with
@@ -41,6 +43,23 @@ fn see(wave: &mut Wave<'_>, node: u32, level: u32)
     }
 }
 
+/// Sees the node that a half-arc leads to, if it is unseen and something remains on the other half-arc of its arc. One
+/// look is paid beforehand.
+#[inline(always)]
+fn see_over(net: &Network, flow: &mut FlowTable, wave: &mut Wave<'_>, half: u32, level: u32)
+    requires fits { Fits net.now flow.old.flows }
+    requires half { half < 2 * length net.now.arcs }
+    requires nodes { wave.old.nodes ≡ net.now.nodes }
+    requires size { length wave.old.cells.now ≡ 5 * net.now.nodes }
+    ensures stays { StaysIn wave.old wave.new }
+    ensures paid { PaysLooks flow.old (wave.old.left + 1) flow.new wave.new.left }
+{
+    let node = head(net, half);
+    if wave.level(node) == UNSEEN && flow.look(net, twin(half)).1 > 0 {
+        see(wave, node, level);
+    }
+}
+
 /// Goes on from a node: gives a level to the unseen nodes next to it from which something remains, and counts those
 /// with excess.
 fn scan(packed: Packed<'_>, flow: &mut FlowTable, wave: &mut Wave<'_>, node: u32)
@@ -55,11 +74,7 @@ fn scan(packed: Packed<'_>, flow: &mut FlowTable, wave: &mut Wave<'_>, node: u32
         return;
     }
     for spot in begin..end {
-        let half = packed.halves[spot as usize];
-        let next = head(packed.net, half);
-        if wave.level(next) == UNSEEN && flow.look(packed.net, twin(half)).1 > 0 {
-            see(wave, next, level);
-        }
+        see_over(packed.net, flow, wave, packed.halves[spot as usize], level);
     }
 }
 

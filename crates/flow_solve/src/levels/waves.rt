@@ -21,6 +21,7 @@ ghost use Rattle.flow_solve.specs.Steps.{TakesSteps};
 mod discharging;
 mod excess;
 mod levelling;
+mod passing;
 mod settling;
 
 use crate::levels::spending::spend;

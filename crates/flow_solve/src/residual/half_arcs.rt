@@ -26,6 +26,19 @@ pub(crate) fn head(net: &Network, half: u32) -> u32
     if half % 2 == 0 { arc.dst } else { arc.src }
 }
 
+/// The node that a half-arc leads to, told by the one that it leaves: the sum of its arc's ends less that one, which
+/// needs no choice between them. No step: it reads the arc alone.
+#[inline(always)]
+pub(crate) fn other_end(net: &Network, half: u32, near: u32) -> u32
+    requires half { half < 2 * length net.now.arcs }
+    requires near { tail_of net.now half ≡ near }
+    ensures head { result ≡ head_of net.now half }
+    ensures node { IsNode net.now result }
+{
+    let arc = net.arc(half / 2);
+    arc.src + arc.dst - near
+}
+
 /// The node that a half-arc leaves. No step: it reads the arc alone.
 pub(crate) fn tail(net: &Network, half: u32) -> u32
     requires { half < 2 * length net.now.arcs }

@@ -4,40 +4,26 @@ ghost use Rattle.std.specs.Prelude.{◌≡◌, ◌+◌, ◌*◌, ◌<◌, ◌≤
 ghost use Rattle.flow_net.specs.Nets.{IsNode};
 ghost use Rattle.flow_net.specs.Flows.{Fits};
 ghost use Rattle.flow_solve.specs.Steps.{TakesSteps};
-ghost use Rattle.flow_solve.specs.levels.Waves.{HasCells, HasLookedOut, HasSent, IsWaving, OnlyMarks};
+ghost use Rattle.flow_solve.specs.levels.Waves.{HasCells, HasLookedOut, HasSent, IsRow, IsWaving, OnlyMarks};
 
 use super::excess::{PLACES, UNSEEN, Wave, level_in};
+use super::passing::{Row, half_at, next_to, row_of};
 use crate::levels::spending::spend;
-use crate::residual::half_arcs::head;
+use crate::residual::half_arcs::other_end;
 use crate::residual::packing::Packed;
 use flow_net::{FlowTable, Network};
 
 /// A node that sends its excess on.
 #[derive(Clone, Copy)]
-struct Sender {
-    /// The node.
-    node: u32,
+struct Sender<'a> {
+    /// Its half-arcs.
+    row: Row<'a>,
     /// Its level.
     level: u32,
     /// How many of its half-arcs lead to no nearer level any more.
-    passed: u32,
-    /// Whether it passes them from the last to the first.
-    backwards: bool,
+    passed: usize,
     /// Its excess.
     amount: u64,
-}
-
-/// The place of a half-arc among those side by side, by how many come before it on the way through them.
-fn spot_of(begin: u32, end: u32, step: u32, backwards: bool) -> u32
-    requires { begin + step < end }
-    ensures begun { begin ≤ result }
-    ensures within { result < end }
-{
-    if backwards {
-        end - 1 - step
-    } else {
-        begin + step
-    }
 }
 
 /// Books as much of an amount at a node as its excess has room for, and lists the node if it had none; a root, at level
@@ -87,57 +73,61 @@ fn send_over(
 }
 
 /// Passes a sender's half-arcs, and sends its excess on over those that lead to the next nearer level.
-fn pass(packed: Packed<'_>, flow: &mut FlowTable, wave: &mut Wave<'_>, sender: &mut Sender)
+fn pass(packed: Packed<'_>, flow: &mut FlowTable, wave: &mut Wave<'_>, sender: &mut Sender<'_>)
     requires waving { IsWaving packed flow.old wave.old }
-    requires node { IsNode packed.net.now sender.old.node }
+    requires row { IsRow packed.net.now sender.old.row }
     ensures sent { HasSent packed.entry flow.old wave.old flow.new wave.new }
-    ensures node { sender.new.node ≡ sender.old.node }
+    ensures row { sender.new.row ≡ sender.old.row }
 {
-    let begin = packed.first[sender.node as usize - 1];
-    let end = packed.first[sender.node as usize];
+    let row = sender.row;
     let nearer = sender.level.saturating_sub(1);
-    let (mut left, mut amount) = (wave.left, sender.amount);
-    let mut step = sender.passed;
-    while step < end - begin && spend(&mut left, 2) {
-        let half = packed.halves[spot_of(begin, end, step, sender.backwards) as usize];
-        if wave.level(head(packed.net, half)) == nearer {
-            amount -= send_over(packed.net, flow, wave, half, nearer, amount);
-            if amount == 0 {
-                break;
-            }
-        }
-        step += 1;
+    let mut step = sender.passed.min(row.halves.len());
+    if !spend(&mut wave.left, 2 * (row.halves.len() - step) as u64) {
+        return;
     }
-    wave.left = left;
+    let mut amount = sender.amount;
+    while let Some(half) = next_to(packed.net, wave.cells, row, &mut step, nearer) {
+        amount -= send_over(packed.net, flow, wave, half, nearer, amount);
+        step += 1;
+        if amount == 0 {
+            break;
+        }
+    }
+    // What was paid for half-arcs that weren't reached comes back.
+    let unused = 2 * (row.halves.len() - step) as u64;
+    wave.left = wave.left.saturating_add(unused);
     sender.amount = amount;
-    sender.passed = step;
+    // Where nothing is left, more may go over the last one.
+    sender.passed = step.saturating_sub(usize::from(amount == 0));
 }
 
 /// Lifts a stuck sender to one more than the nearest level that it leads to, if that is below the ceiling; else it is
 /// unseen until the next search. Its own level is near enough: with levels as a search gives them none of a stuck
 /// node's half-arcs leads nearer.
-fn lift(packed: Packed<'_>, flow: &mut FlowTable, wave: &mut Wave<'_>, sender: &mut Sender)
+fn lift(packed: Packed<'_>, flow: &mut FlowTable, wave: &mut Wave<'_>, sender: &mut Sender<'_>)
     requires waving { IsWaving packed flow.old wave.old }
-    requires node { IsNode packed.net.now sender.old.node }
+    requires row { IsRow packed.net.now sender.old.row }
     ensures looked { HasLookedOut flow.old wave.old flow.new wave.new }
-    ensures node { sender.new.node ≡ sender.old.node }
+    ensures row { sender.new.row ≡ sender.old.row }
 {
-    let begin = packed.first[sender.node as usize - 1];
-    let end = packed.first[sender.node as usize];
+    let row = sender.row;
     let (own, most) = (sender.level, wave.ceiling.saturating_sub(1));
     let (mut least, mut found) = (most, 0);
     let mut left = wave.left;
     let mut step = 0;
-    // Where they are is read once, and not at each half-arc.
-    let cells: &[u32] = wave.cells;
-    while step < end - begin && own < least && spend(&mut left, 1) {
-        let half = packed.halves[spot_of(begin, end, step, sender.backwards) as usize];
-        let level = level_in(cells, head(packed.net, half));
-        if own <= level && level < least && flow.look(packed.net, half).1 > 0 {
-            least = level;
-            found = step;
+    if spend(&mut left, row.halves.len() as u64) {
+        // Where they are is read once, and not at each half-arc.
+        let cells: &[u32] = wave.cells;
+        while step < row.halves.len() && own < least {
+            let half = half_at(packed.net, row, step);
+            let level = level_in(cells, other_end(packed.net, half, row.node));
+            if own <= level && level < least && flow.look(packed.net, half).1 > 0 {
+                least = level;
+                found = step;
+            }
+            step += 1;
         }
-        step += 1;
+        left += (row.halves.len() - step) as u64;
     }
     wave.left = left;
     sender.passed = found;
@@ -152,13 +142,13 @@ pub(super) fn discharge(packed: Packed<'_>, flow: &mut FlowTable, wave: &mut Wav
     requires node { IsNode packed.net.now node }
     ensures sent { HasSent packed.entry flow.old wave.old flow.new wave.new }
 {
-    let degree = packed.first[node as usize] - packed.first[node as usize - 1];
-    let part = degree / PLACES + 1;
+    let row = row_of(packed, node, (node ^ wave.turn) % 2 == 0);
+    // The place in a long row is told in blocks: of a power of two half-arcs, since a division would take longer.
+    let shift = 64 - (row.halves.len() / PLACES).leading_zeros();
     let mut sender = Sender {
-        node,
+        row,
         level: wave.level(node),
-        passed: wave.place(node).saturating_mul(part),
-        backwards: (node ^ wave.turn) % 2 == 0,
+        passed: wave.place(node).wrapping_shl(shift),
         amount: wave.excess(node),
     };
     'turns: while sender.level < UNSEEN && wave.left > wave.floor && spend(&mut wave.left, 1) {
@@ -168,6 +158,6 @@ pub(super) fn discharge(packed: Packed<'_>, flow: &mut FlowTable, wave: &mut Wav
         }
         lift(packed, flow, wave, &mut sender);
     }
-    wave.set_level(node, sender.level, sender.passed / part);
+    wave.set_level(node, sender.level, sender.passed.wrapping_shr(shift));
     wave.set_excess(node, sender.amount);
 }

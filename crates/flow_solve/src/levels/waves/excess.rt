@@ -5,7 +5,7 @@
 //!
 //! | Cells | What they hold |
 //! |---|---|
-//! | `n` | each node's level, and [`LEVELS`] times its current place, in [`PLACES`]ths of its half-arcs |
+//! | `n` | each node's level, and [`LEVELS`] times its current place, in blocks if it has [`PLACES`] half-arcs |
 //! | `n` | the search's queue; then for each node the next one with excess on its level |
 //! | `n` | for each level its first node with excess |
 //! | `2·n` | each node's excess, in two cells |
@@ -25,7 +25,7 @@ pub(super) const UNSEEN: u32 = LEVELS - 1;
 pub(super) const BARRED: u32 = LEVELS - 2;
 
 /// So many places fit the cell of a node: the half-arcs before its current place lead to no nearer level.
-pub(super) const PLACES: u32 = 4096;
+pub(super) const PLACES: usize = 4096;
 
 /// Waves under way.
 #[derive(Drop)]
@@ -109,18 +109,18 @@ impl Wave<'_> {
     }
 
     /// A node's current place.
-    pub(super) fn place(&self, node: u32) -> u32
+    pub(super) fn place(&self, node: u32) -> usize
         requires { (1 ≤ node) × (node ≤ length self.now.cells.now) }
     {
-        self.cells[node as usize - 1] / LEVELS
+        (self.cells[node as usize - 1] / LEVELS) as usize
     }
 
     /// Sets a node's level and its current place.
-    pub(super) fn set_level(&mut self, node: u32, level: u32, place: u32)
+    pub(super) fn set_level(&mut self, node: u32, level: u32, place: usize)
         requires { 1 ≤ node }
         ensures { OnlyMarks self.old self.new }
     {
-        let number = level % LEVELS + place % PLACES * LEVELS;
+        let number = level % LEVELS + (place % PLACES) as u32 * LEVELS;
         put(self.cells, node as usize - 1, number);
     }
 

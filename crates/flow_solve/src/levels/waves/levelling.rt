@@ -7,8 +7,9 @@ ghost use Rattle.flow_solve.specs.Steps.{PaysLooks};
 ghost use Rattle.flow_solve.specs.levels.Waves.{HasCells, HasLookedOut, IsWaving, OnlyMarks, StaysIn};
 
 use super::excess::{BARRED, UNSEEN, Wave};
+use super::passing::{half_at, row_of};
 use crate::levels::spending::spend;
-use crate::residual::half_arcs::{head, twin};
+use crate::residual::half_arcs::{other_end, twin};
 use crate::residual::packing::Packed;
 use crate::task::Task;
 use flow_net::{FlowTable, Network};
@@ -43,18 +44,25 @@ fn see(wave: &mut Wave<'_>, node: u32, level: u32)
     }
 }
 
-/// Sees the node that a half-arc leads to, if it is unseen and something remains on the other half-arc of its arc. One
+/// Sees a node that a half-arc leads to, if it is unseen and something remains on the other half-arc of its arc. One
 /// look is paid beforehand.
 #[inline(always)]
-fn see_over(net: &Network, flow: &mut FlowTable, wave: &mut Wave<'_>, half: u32, level: u32)
+fn see_over(
+    net: &Network,
+    flow: &mut FlowTable,
+    wave: &mut Wave<'_>,
+    half: u32,
+    node: u32,
+    level: u32,
+)
     requires fits { Fits net.now flow.old.flows }
     requires half { half < 2 * length net.now.arcs }
+    requires node { IsNode net.now node }
     requires nodes { wave.old.nodes ≡ net.now.nodes }
     requires size { length wave.old.cells.now ≡ 5 * net.now.nodes }
     ensures stays { StaysIn wave.old wave.new }
     ensures paid { PaysLooks flow.old (wave.old.left + 1) flow.new wave.new.left }
 {
-    let node = head(net, half);
     if wave.level(node) == UNSEEN && flow.look(net, twin(half)).1 > 0 {
         see(wave, node, level);
     }
@@ -67,14 +75,15 @@ fn scan(packed: Packed<'_>, flow: &mut FlowTable, wave: &mut Wave<'_>, node: u32
     requires node { IsNode packed.net.now node }
     ensures looked { HasLookedOut flow.old wave.old flow.new wave.new }
 {
-    let begin = packed.first[node as usize - 1];
-    let end = packed.first[node as usize];
+    let row = row_of(packed, node, false);
     let level = wave.level(node).saturating_add(1);
-    if !spend(&mut wave.left, u64::from(end - begin)) {
+    if !spend(&mut wave.left, row.halves.len() as u64) {
         return;
     }
-    for spot in begin..end {
-        see_over(packed.net, flow, wave, packed.halves[spot as usize], level);
+    for step in 0..row.halves.len() {
+        let half = half_at(packed.net, row, step);
+        let next = other_end(packed.net, half, row.node);
+        see_over(packed.net, flow, wave, half, next, level);
     }
 }
 

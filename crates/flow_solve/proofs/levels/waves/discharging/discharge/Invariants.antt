@@ -1,12 +1,11 @@
 -- `discharge`: what was sent and looked at is paid, and each turn takes something off what may still be done.
-use Rattle.std.proofs.Common.{◌≡◌}
-use Rattle.flow_solve.specs.levels.Waves.{HasSent, IsWaving}
+use Rattle.flow_solve.specs.levels.Waves.{HasSent, IsRow, IsWaving}
 use Rattle.flow_solve.proofs.levels.waves.discharging.discharge.Given as goal
 
 abbrev pub invariant-turns : goal.invariant-turns
 invariant-turns l = record {
   waving : IsWaving l.packed l.flow l.wave;
-  node : l.sender.node ≡ l.node;
+  row : IsRow l.packed.net.now l.sender.row;
   sent : HasSent l.packed l.fn.flow l.fn.wave l.flow l.wave;
 }
 

@@ -1,14 +1,11 @@
 -- A wave from one call to the next: its cells stay where they are, and what is sent is paid.
-use Rattle.std.proofs.Common.{refl, ◌∙◌}
+use Rattle.std.proofs.Common.{◌∙◌}
 use Rattle.flow_net.specs.Flows.{Fits}
 use Rattle.flow_net.specs.Residual.{Table}
 use Rattle.flow_solve.specs.declared.levels.waves.excess.Wave.{Wave}
 use Rattle.flow_solve.specs.declared.residual.packing.Packed.{Packed}
 use Rattle.flow_solve.specs.levels.Waves.{HasLookedOut, HasSent, IsWaving, StaysIn}
-use Rattle.flow_solve.proofs.Payments.{looks_then, paid_none, paid_then}
-
-pub stays_none : (u : Wave) → StaysIn u u
-stays_none u = record { cells = refl; size = refl; nodes = refl }
+use Rattle.flow_solve.proofs.Payments.{looks_then, paid_then}
 
 pub stays_then : (u v w : Wave) → StaysIn u v → StaysIn v w → StaysIn u w
 stays_then u v w one more = record {
@@ -31,9 +28,6 @@ looked_then a b c u v w one more = record {
   stays = stays_then u v w one.stays more.stays;
   paid = looks_then a b c u.left v.left w.left one.paid more.paid;
 }
-
-pub sent_none : (packed : Packed) (a : Table) (u : Wave) → Fits packed.net.now a.flows → HasSent packed a u a u
-sent_none packed a u fits = record { stays = stays_none u; fits = fits; paid = paid_none a u.left }
 
 pub sent_then : (packed : Packed) (a b c : Table) (u v w : Wave) → HasSent packed a u b v → HasSent packed b v c w
     → HasSent packed a u c w

@@ -14,5 +14,4 @@ pub mod Turning
 pub mod Carried
 pub mod Entries
 pub mod Settled
-pub mod Waving
 pub mod Border

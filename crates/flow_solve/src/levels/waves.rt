@@ -25,13 +25,13 @@ mod passing;
 mod settling;
 
 use crate::levels::spending::spend;
-use crate::residual::half_arcs::head;
 use crate::residual::packing::Packed;
 use crate::task::{Sent, Task};
 use discharging::discharge;
 use excess::{BARRED, UNSEEN, Wave};
 use flow_net::FlowTable;
 use levelling::search_levels;
+use passing::{half_at, row_of};
 use settling::settle;
 
 /// Sends as much over a half-arc of a source as remains there and as can be booked: nothing to a source, and to a sink
@@ -43,16 +43,11 @@ fn release(packed: Packed<'_>, flow: &mut FlowTable, wave: &mut Wave<'_>, half: 
     ensures fits { Fits packed.entry.net.now flow.new.flows }
     ensures steps { TakesSteps flow.old flow.new 2 }
 {
-    let node = head(packed.net, half);
-    let level = wave.level(node);
-    if level == BARRED {
-        return;
-    }
-    let (_, room) = flow.look(packed.net, half);
-    let sent = if level == 0 {
-        room
-    } else {
-        wave.book(node, room)
+    let (node, room) = flow.look(packed.net, half);
+    let sent = match wave.level(node) {
+        0 => room,
+        BARRED => 0,
+        _ => wave.book(node, room),
     };
     flow.push(packed.net, half, sent);
 }
@@ -63,13 +58,12 @@ fn drain(packed: Packed<'_>, flow: &mut FlowTable, wave: &mut Wave<'_>, node: u3
     requires node { IsNode packed.net.now node }
     ensures sent { HasSent packed.entry flow.old wave.old flow.new wave.new }
 {
-    let begin = packed.first[node as usize - 1];
-    let end = packed.first[node as usize];
-    for spot in begin..end {
-        if !spend(&mut wave.left, 2) {
-            return;
-        }
-        release(packed, flow, wave, packed.halves[spot as usize]);
+    let row = row_of(packed, node, false);
+    if !spend(&mut wave.left, 2 * row.halves.len() as u64) {
+        return;
+    }
+    for step in 0..row.halves.len() {
+        release(packed, flow, wave, half_at(packed.net, row, step));
     }
 }
 
@@ -94,10 +88,9 @@ fn sweep(packed: Packed<'_>, flow: &mut FlowTable, wave: &mut Wave<'_>)
     requires waving { IsWaving packed flow.old wave.old }
     ensures sent { HasSent packed.entry flow.old wave.old flow.new wave.new }
 {
-    let nodes = packed.net.nodes();
     'turns: while wave.farthest > 0 && wave.left > wave.floor && spend(&mut wave.left, 1) {
         let node = wave.take_listed(wave.farthest);
-        if 1 <= node && node <= nodes {
+        if 1 <= node && node <= packed.net.nodes() {
             discharge(packed, flow, wave, node);
         } else {
             wave.farthest = wave.farthest.saturating_sub(1);
@@ -110,17 +103,9 @@ fn sweep(packed: Packed<'_>, flow: &mut FlowTable, wave: &mut Wave<'_>)
 /// frames, layers and netlists pass a third more half-arcs, and with 24 in the first wave frames a seventh more.
 const LEAST_REACH: u32 = 16;
 
-/// The next wave's reach: twice as far where the last one took less than its search, so that chains of dead ends don't
-/// take a search for each few levels; and half as far otherwise.
-fn next_reach(reach: u32, searched: u64, swept: u64) -> u32 {
-    if swept < searched {
-        reach.saturating_mul(2)
-    } else {
-        (reach / 2).max(LEAST_REACH)
-    }
-}
-
-/// Waves towards the sinks of a task, until no search finds excess that leads there, or no more may be done.
+/// Waves towards the sinks of a task, until no search finds excess that leads there, or no more may be done. One that
+/// took less than its search lets the next one reach twice as far, so that chains of dead ends don't take a search for
+/// each few levels; any other half as far.
 fn send(task: Task<'_>, flow: &mut FlowTable, wave: &mut Wave<'_>)
     requires waving { IsWaving task.packed flow.old wave.old }
     requires roots { All (IsNode task.packed.net.now) task.t.now }
@@ -131,7 +116,11 @@ fn send(task: Task<'_>, flow: &mut FlowTable, wave: &mut Wave<'_>)
     'waves: while search_levels(task, flow, wave) {
         let begun = wave.left;
         sweep(task.packed, flow, wave);
-        wave.reach = next_reach(wave.reach, before - begun, begun - wave.left);
+        wave.reach = if begun - wave.left < before - begun {
+            wave.reach.saturating_mul(2)
+        } else {
+            (wave.reach / 2).max(LEAST_REACH)
+        };
         before = wave.left;
     }
 }
@@ -153,7 +142,6 @@ fn at_rest<'a>(cells: &'a mut [u32], nodes: u32, allowance: u64) -> Wave<'a>
         ceiling: 0,
         reach: LEAST_REACH,
         queued: 0,
-        seen: 0,
         wanted: 0,
         lost: 0,
     }
@@ -174,11 +162,10 @@ pub fn send_waves(task: Task<'_>, flow: &mut FlowTable, cells: &mut [u32], begun
         return begun.value;
     }
     let share = (begun.left - looks) / 2;
-    let nodes = packed.net.nodes();
-    let mut there = at_rest(cells, nodes, share);
+    let mut there = at_rest(cells, packed.net.nodes(), share);
     supply(task, flow, &mut there);
     send(task, flow, &mut there);
-    let mut home = at_rest(cells, nodes, share);
+    let mut home = at_rest(cells, packed.net.nodes(), share);
     // Home is the same way with sources and sinks exchanged.
     send(Task { packed, s: t, t: s }, flow, &mut home);
     let Some(settled) = settle(task, flow, cells) else {

@@ -6,7 +6,7 @@ ghost use Rattle.flow_net.specs.Flows.{Fits};
 ghost use Rattle.flow_solve.specs.Steps.{TakesSteps};
 ghost use Rattle.flow_solve.specs.levels.Waves.{HasCells, HasLookedOut, HasSent, IsRow, IsWaving, OnlyMarks};
 
-use super::excess::{PLACES, UNSEEN, Wave, level_in};
+use super::excess::{PLACES, UNSEEN, Wave};
 use super::passing::{Row, half_at, next_to, row_of};
 use crate::levels::spending::spend;
 use crate::residual::half_arcs::other_end;
@@ -26,26 +26,9 @@ struct Sender<'a> {
     amount: u64,
 }
 
-/// Books as much of an amount at a node as its excess has room for, and lists the node if it had none; a root, at level
-/// 0, takes all, and nothing is booked. Answers how much.
-fn accept(wave: &mut Wave<'_>, node: u32, level: u32, amount: u64) -> u64
-    requires cells { HasCells wave.old node }
-    ensures marks { OnlyMarks wave.old wave.new }
-    ensures most { result ≤ amount }
-{
-    if level == 0 || amount == 0 {
-        return amount;
-    }
-    let had_none = wave.excess(node) == 0;
-    let booked = wave.book(node, amount);
-    if had_none {
-        wave.list(node, level);
-    }
-    booked
-}
-
 /// Sends as much of an amount over a half-arc as remains there and as the excess of the node there, which is on some
-/// level, has room for. Answers how much.
+/// level, has room for; a root, at level 0, takes all, and nothing is booked. A node that had no excess is listed.
+/// Answers how much.
 #[inline(always)]
 fn send_over(
     net: &Network,
@@ -65,7 +48,14 @@ fn send_over(
     ensures steps { TakesSteps flow.old flow.new 2 }
 {
     let (node, room) = flow.look(net, half);
-    let sent = accept(wave, node, level, amount.min(room));
+    let mut sent = amount.min(room);
+    if level > 0 && sent > 0 {
+        let had_none = wave.excess(node) == 0;
+        sent = wave.book(node, sent);
+        if had_none {
+            wave.list(node, level);
+        }
+    }
     if sent > 0 {
         flow.push(net, half, sent);
     }
@@ -86,7 +76,7 @@ fn pass(packed: Packed<'_>, flow: &mut FlowTable, wave: &mut Wave<'_>, sender: &
         return;
     }
     let mut amount = sender.amount;
-    while let Some(half) = next_to(packed.net, wave.cells, row, &mut step, nearer) {
+    while let Some(half) = next_to(packed.net, wave, row, &mut step, nearer) {
         amount -= send_over(packed.net, flow, wave, half, nearer, amount);
         step += 1;
         if amount == 0 {
@@ -116,11 +106,9 @@ fn lift(packed: Packed<'_>, flow: &mut FlowTable, wave: &mut Wave<'_>, sender: &
     let mut left = wave.left;
     let mut step = 0;
     if spend(&mut left, row.halves.len() as u64) {
-        // Where they are is read once, and not at each half-arc.
-        let cells: &[u32] = wave.cells;
         while step < row.halves.len() && own < least {
             let half = half_at(packed.net, row, step);
-            let level = level_in(cells, other_end(packed.net, half, row.node));
+            let level = wave.level(other_end(packed.net, half, row.node));
             if own <= level && level < least && flow.look(packed.net, half).1 > 0 {
                 least = level;
                 found = step;

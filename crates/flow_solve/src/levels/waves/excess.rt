@@ -49,19 +49,10 @@ pub(super) struct Wave<'a> {
     pub reach: u32,
     /// How many nodes the search has put in its queue.
     pub queued: u32,
-    /// How many of these have excess.
-    pub seen: u32,
-    /// How many nodes with excess it looks out for.
+    /// How many nodes with excess it still looks out for.
     pub wanted: u32,
     /// How many nodes have excess that leads to no root.
     pub lost: u32,
-}
-
-/// A node's level.
-pub(super) fn level_in(cells: &[u32], node: u32) -> u32
-    requires { (1 ≤ node) × (node ≤ length cells.now) }
-{
-    cells[node as usize - 1] % LEVELS
 }
 
 /// Where the next node on a node's list stands.
@@ -96,16 +87,15 @@ impl Wave<'_> {
     /// The highest level at which the ceiling may stand.
     pub(super) fn highest(&self) -> u32 {
         let more = (self.farthest / WAY_PER_LEVEL).min(MOST_LEVELS_MORE);
-        self.farthest
-            .saturating_add(self.reach)
-            .saturating_add(more)
+        let level = self.farthest.saturating_add(self.reach);
+        level.saturating_add(more)
     }
 
     /// A node's level.
     pub(super) fn level(&self, node: u32) -> u32
         requires { (1 ≤ node) × (node ≤ length self.now.cells.now) }
     {
-        level_in(self.cells, node)
+        self.cells[node as usize - 1] % LEVELS
     }
 
     /// A node's current place.

@@ -32,20 +32,8 @@ fn count_excess(wave: &Wave<'_>) -> u32
     count
 }
 
-/// Gives a node its level, puts it in the queue, and counts it if it has excess.
-fn see(wave: &mut Wave<'_>, node: u32, level: u32)
-    requires { HasCells wave.old node }
-    ensures { OnlyMarks wave.old wave.new }
-{
-    wave.enter(node, level);
-    if wave.excess(node) > 0 {
-        wave.seen = wave.seen.saturating_add(1);
-        wave.farthest = level;
-    }
-}
-
-/// Sees a node that a half-arc leads to, if it is unseen and something remains on the other half-arc of its arc. One
-/// look is paid beforehand.
+/// Sees a node that a half-arc leads to, if it is unseen and something remains on the other half-arc of its arc: gives
+/// it its level, puts it in the queue, and counts it if it has excess. One look is paid beforehand.
 #[inline(always)]
 fn see_over(
     net: &Network,
@@ -63,8 +51,13 @@ fn see_over(
     ensures stays { StaysIn wave.old wave.new }
     ensures paid { PaysLooks flow.old (wave.old.left + 1) flow.new wave.new.left }
 {
-    if wave.level(node) == UNSEEN && flow.look(net, twin(half)).1 > 0 {
-        see(wave, node, level);
+    if wave.level(node) != UNSEEN || flow.look(net, twin(half)).1 == 0 {
+        return;
+    }
+    wave.enter(node, level);
+    if wave.excess(node) > 0 {
+        wave.wanted = wave.wanted.saturating_sub(1);
+        wave.farthest = level;
     }
 }
 
@@ -97,15 +90,11 @@ fn scan_all(packed: Packed<'_>, flow: &mut FlowTable, wave: &mut Wave<'_>)
     for place in 0..nodes {
         if place >= wave.queued {
             // Nothing else leads to a root any more.
-            let unseen = wave.wanted.saturating_sub(wave.seen);
-            wave.lost = wave.lost.saturating_add(unseen);
+            wave.lost = wave.lost.saturating_add(wave.wanted);
             return;
         }
         let node = wave.queued_at(place);
-        if node < 1 || nodes < node {
-            return;
-        }
-        if wave.seen >= wave.wanted && wave.level(node) >= wave.highest() {
+        if node < 1 || nodes < node || (wave.wanted == 0 && wave.level(node) >= wave.highest()) {
             return;
         }
         scan(packed, flow, wave, node);
@@ -142,7 +131,6 @@ pub(super) fn search_levels(task: Task<'_>, flow: &mut FlowTable, wave: &mut Wav
         return false;
     }
     wave.queued = 0;
-    wave.seen = 0;
     wave.farthest = 0;
     wave.wanted = count_excess(wave).saturating_sub(wave.lost);
     if wave.wanted == 0 {
@@ -159,5 +147,5 @@ pub(super) fn search_levels(task: Task<'_>, flow: &mut FlowTable, wave: &mut Wav
     wave.ceiling = wave.highest().min(nodes - 1);
     wave.floor = wave.left.saturating_sub(FUEL * u64::from(packed.net.len()));
     wave.turn ^= 1;
-    wave.seen > 0
+    wave.farthest > 0
 }

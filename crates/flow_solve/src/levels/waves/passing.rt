@@ -5,7 +5,7 @@ ghost use Rattle.flow_net.specs.Residual.{tail_of};
 ghost use Rattle.flow_solve.specs.residual.Packs.{IsPacked};
 ghost use Rattle.flow_solve.specs.levels.Waves.{IsRow};
 
-use super::excess::level_in;
+use super::excess::Wave;
 use crate::residual::half_arcs::other_end;
 use crate::residual::packing::Packed;
 use flow_net::Network;
@@ -58,27 +58,24 @@ pub(super) fn half_at(net: &Network, row: Row<'_>, step: usize) -> u32
 #[inline(always)]
 pub(super) fn next_to(
     net: &Network,
-    cells: &[u32],
+    wave: &Wave<'_>,
     row: Row<'_>,
     step: &mut usize,
     level: u32,
 ) -> Option<u32>
     requires row { IsRow net.now row }
-    requires cells { net.now.nodes ≤ length cells.now }
+    requires cells { net.now.nodes ≤ length wave.now.cells.now }
     requires step { step.old ≤ length row.halves.now }
     ensures onwards { step.old ≤ step.new }
     ensures within { step.new ≤ length row.entry.halves.now }
     ensures half { IfSome result (λ h. (h < 2 * length net.now.arcs) × (step.new < length row.entry.halves.now)) }
 {
-    let mut at = *step;
-    while at < row.halves.len() {
-        let half = half_at(net, row, at);
-        if level_in(cells, other_end(net, half, row.node)) == level {
-            *step = at;
+    while *step < row.halves.len() {
+        let half = half_at(net, row, *step);
+        if wave.level(other_end(net, half, row.node)) == level {
             return Some(half);
         }
-        at += 1;
+        *step += 1;
     }
-    *step = at;
     None
 }

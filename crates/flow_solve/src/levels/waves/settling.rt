@@ -4,7 +4,7 @@
 //! it less what leaves it, counted from [`EVEN`]; a balance that is too great for 64 bits fails the test, and so does a
 //! self-loop with flow. With `n` nodes the first `2·n` cells have the balances, and the next `n` each node's role.
 ghost use Rattle.std.specs.Prelude.{◌≡◌, ◌≢◌, ℕ, ◌+◌, ◌-◌, ◌*◌, ◌<◌, ◌≤◌, ◌==◌, if◌then◌else◌};
-ghost use Rattle.std.specs.Prelude.{true, IfSome, length, slice_index};
+ghost use Rattle.std.specs.Prelude.{true, false, IfSome, length, slice_index};
 ghost use Rattle.std.specs.List.{All};
 ghost use Rattle.flow_net.specs.declared.limits.TheConstants.{MOST_NODES};
 ghost use Rattle.flow_net.specs.NodeSets.{one_of};
@@ -65,44 +65,31 @@ fn cast(roles: &mut [u32], terminals: &[u32], role: u32)
     }
 }
 
-/// Books an amount that leaves a node, if it is no terminal. Answers whether its balance has room for that.
-fn lose(roles: &[u32], balances: &mut [u32], node: u32, amount: u64) -> bool
+/// Books an amount that enters a node or leaves it, if the node is no terminal. Answers whether its balance has room
+/// for that.
+fn book(roles: &[u32], balances: &mut [u32], node: u32, enters: bool, amount: u64) -> bool
     requires node { (1 ≤ node) × (node ≤ length roles.now) }
     requires size { length balances.old ≡ 2 * length roles.now }
     ensures size { length balances.new ≡ length balances.old }
-    ensures booked { result ≡ true → (v : ℕ) → 1 ≤ v → slice_index roles.now (v - 1) ≡ INNER
+    ensures lost { result ≡ true → enters ≡ false → (v : ℕ) → 1 ≤ v → slice_index roles.now (v - 1) ≡ INNER
         → pair_at balances.new (v - 1) + (if node == v then amount else 0) ≡ pair_at balances.old (v - 1) }
-{
-    if amount == 0 || roles[node as usize - 1] != INNER {
-        return true;
-    }
-    match get_pair(balances, node - 1).checked_sub(amount) {
-        None => false,
-        Some(balance) => {
-            put_pair(balances, node - 1, balance);
-            true
-        }
-    }
-}
-
-/// Books an amount that enters a node, if it is no terminal. Answers whether its balance has room for that.
-fn gain(roles: &[u32], balances: &mut [u32], node: u32, amount: u64) -> bool
-    requires node { (1 ≤ node) × (node ≤ length roles.now) }
-    requires size { length balances.old ≡ 2 * length roles.now }
-    ensures size { length balances.new ≡ length balances.old }
-    ensures booked { result ≡ true → (v : ℕ) → 1 ≤ v → slice_index roles.now (v - 1) ≡ INNER
+    ensures gained { result ≡ true → enters ≡ true → (v : ℕ) → 1 ≤ v → slice_index roles.now (v - 1) ≡ INNER
         → pair_at balances.new (v - 1) ≡ pair_at balances.old (v - 1) + (if node == v then amount else 0) }
 {
     if amount == 0 || roles[node as usize - 1] != INNER {
         return true;
     }
-    match get_pair(balances, node - 1).checked_add(amount) {
-        None => false,
-        Some(balance) => {
-            put_pair(balances, node - 1, balance);
-            true
-        }
-    }
+    let before = get_pair(balances, node - 1);
+    let after = if enters {
+        before.checked_add(amount)
+    } else {
+        before.checked_sub(amount)
+    };
+    let Some(balance) = after else {
+        return false;
+    };
+    put_pair(balances, node - 1, balance);
+    true
 }
 
 /// An amount at a source, and 0 at any other node.
@@ -142,7 +129,8 @@ fn tally(
         if arc.src == arc.dst && amount > 0 {
             return None;
         }
-        if !lose(roles, balances, arc.src, amount) || !gain(roles, balances, arc.dst, amount) {
+        let has_left = book(roles, balances, arc.src, false, amount);
+        if !has_left || !book(roles, balances, arc.dst, true, amount) {
             return None;
         }
         out += at_source(roles, arc.src, amount);

@@ -5,20 +5,9 @@ use Rattle.flow_net.specs.NodeSets.{just}
 use Rattle.flow_net.specs.Cuts.{IsCut}
 use Rattle.flow_solve.specs.residual.HalfArcs.{IsClosedFor}
 use Rattle.flow_solve.specs.Forests.{done_in, seen_in}
-use Rattle.flow_solve.proofs.ForestLemmas.Joined.{raised_none, raised_parted, parted_reached}
+use Rattle.flow_solve.proofs.ForestLemmas.Joined.{raised_parted, parted_reached}
 use Rattle.flow_solve.proofs.ForestLemmas.Marks.{seen_apart}
 use Rattle.flow_solve.proofs.forests.joining.raise.Goals as goal
-
-pub loop-value-init : goal.loop-value-init
-loop-value-init c = record {
-  fits = c.requires.fits;
-  done = c.begin_search-search.ensures.done;
-  raised = raised_none c.args.ground.direction c.args.ground.net.now c.args.node (done_in c.args.state.now)
-      c.args.flow.now.flows (omega arith, omega arith)
-      (sym c.is_done.ensures ∙ c.if-is_done.false) c.requires.balanced;
-  below = omega arith;
-  paid = record { never_lowered = omega arith; left = omega arith; steps = omega arith };
-}
 
 -- the seen nodes are a closed cut, so the value is the number of its arcs
 pub returns-in_default-clause-reached : goal.returns-in_default-clause-reached

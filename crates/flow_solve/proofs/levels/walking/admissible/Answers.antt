@@ -1,7 +1,7 @@
 -- `admissible`: the node's half-arcs from its place on; each that is passed is filled, or leads to no lower rank.
 use Rattle.std.proofs.Common.{◌≡◌, ℕ, List, ◌+◌, ◌-◌, get_or, set, length, length-set, refl, ◌∙◌, sym, ap, subst, arith}
 use Rattle.flow_net.specs.Residual.{residual}
-use Rattle.flow_solve.specs.levels.Phases.{cell_of, first_at, HasMoved, AreWithin, IsBlocked, IsAdmissible, left, any}
+use Rattle.flow_solve.specs.levels.Phases.{cell_of, first_at, HasMoved, AreWithin, IsBlocked, IsAdmissible}
 use Rattle.flow_solve.proofs.LevelLemmas.Places.{IsMine, cell_set}
 use Rattle.flow_solve.proofs.LevelLemmas.Walks.{IsLooking, looking_start, looking_skip, looking_fail, looking_found}
 use Rattle.flow_solve.proofs.LevelLemmas.Walks.{mine_at}
@@ -18,12 +18,6 @@ loop-place-init c = record {
   looking = looking_start c.requires.node c.requires.current;
   never_lowered = omega arith;
 }
-
--- what stands packed is a half-arc of the node
-pub head-requires : goal.head-requires
-head-requires c =
-    (mine_at c.requires.run.packed.limits c.requires.run.packed c.requires.node c.requires.current
-    c.loop-place.invariant.looking c.loop-place-test.true).half
 
 -- one is found: the place moves up to it
 pub returns-then-room-gt0-clause-looked : goal.returns-then-room-gt0-clause-looked
@@ -80,17 +74,6 @@ returns-then-room-gt0-clause-some c =
     (cell_of (set z (c.args.node - 1) c.loop-place.place)) c.args.flow.now.flows c.args.node half) (sym old.current)
     (looking_found c.requires.run.packed.limits c.requires.run.packed c.requires.node c.requires.current l
     c.loop-place-test.true falls (omega (arith, same, c.look-room.ensures.residual, c.if-room-gt0.true)))
-
-pub returns-then-room-gt0-clause-steps_some : goal.returns-then-room-gt0-clause-steps_some
-returns-then-room-gt0-clause-steps_some c =
-    let old = c.loop-place.invariant in let net = c.args.phase.packed.net.now in
-    let same : left net (cell_of c.args.phase.rank.now) (first_at c.args.phase.packed.halves.now)
-    (cell_of (set c.loop-place.current (c.args.node - 1) c.loop-place.place)) any
-    ≡ left net (cell_of c.args.phase.rank.now) (first_at c.args.phase.packed.halves.now)
-    (cell_of (set c.args.current.now (c.args.node - 1) c.loop-place.place)) any =
-    ap (λ (z : List ℕ). left net (cell_of c.args.phase.rank.now) (first_at c.args.phase.packed.halves.now)
-    (cell_of (set z (c.args.node - 1) c.loop-place.place)) any) old.current in
-    omega (arith, old.looking.paid, c.look-room.ensures.steps, same)
 
 -- one more is passed
 pub loop-place-preserved : goal.loop-place-preserved
@@ -182,34 +165,3 @@ returns-clause-looked c = record {
       (first_at c.args.phase.packed.halves.now) (cell_of (set c.args.current.now (c.args.node - 1) p))
       c.args.flow.now.flows) end (l.blocked t b));
 }
-
--- so the place is where the next node's half-arcs begin
-pub returns-clause-none : goal.returns-clause-none
-returns-clause-none c =
-    cell_set c.loop-place.current c.args.node (get_or c.args.phase.packed.first.now c.args.node 0) c.requires.node.0
-    (omega (
-      arith,
-      c.requires.node,
-      c.requires.current.size,
-      ap (λ (z : List ℕ). length z) c.loop-place.invariant.current,
-    ))
-
--- a look for each half-arc passed at most
-pub returns-clause-steps_none : goal.returns-clause-steps_none
-returns-clause-steps_none c =
-    let old = c.loop-place.invariant in let l = old.looking in let net = c.args.phase.packed.net.now in
-    let end : c.loop-place.place ≡ get_or c.args.phase.packed.first.now c.args.node 0 =
-    omega (arith, l.most, c.loop-place-test.false) in
-    let same : left net (cell_of c.args.phase.rank.now) (first_at c.args.phase.packed.halves.now)
-    (cell_of (set c.loop-place.current (c.args.node - 1) (get_or c.args.phase.packed.first.now c.args.node 0))) any
-    ≡ left net (cell_of c.args.phase.rank.now) (first_at c.args.phase.packed.halves.now)
-    (cell_of (set c.args.current.now (c.args.node - 1) (get_or c.args.phase.packed.first.now c.args.node 0))) any =
-    ap (λ (z : List ℕ). left net (cell_of c.args.phase.rank.now) (first_at c.args.phase.packed.halves.now)
-    (cell_of (set z (c.args.node - 1) (get_or c.args.phase.packed.first.now c.args.node 0))) any) old.current in
-    let at : left net (cell_of c.args.phase.rank.now) (first_at c.args.phase.packed.halves.now)
-    (cell_of (set c.args.current.now (c.args.node - 1) c.loop-place.place)) any
-    ≡ left net (cell_of c.args.phase.rank.now) (first_at c.args.phase.packed.halves.now)
-    (cell_of (set c.args.current.now (c.args.node - 1) (get_or c.args.phase.packed.first.now c.args.node 0))) any =
-    ap (λ (p : ℕ). left net (cell_of c.args.phase.rank.now) (first_at c.args.phase.packed.halves.now)
-    (cell_of (set c.args.current.now (c.args.node - 1) p)) any) end in
-    omega (arith, l.paid, same, at)

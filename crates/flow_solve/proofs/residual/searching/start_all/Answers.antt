@@ -1,9 +1,6 @@
 -- `start_all`: each start is seen at distance 0, once.
-use Rattle.std.proofs.Common.{◌-◌, ◌<◌, IsTrue, length, get_or, refl, ◌∙◌, sym, subst, inl, inr, below_more, arith}
-use Rattle.flow_net.specs.NodeSets.{one_of}
-use Rattle.flow_solve.specs.residual.Searches.{IsMarked}
-use Rattle.flow_solve.proofs.ResidualLemmas.Queues.{queue_none, near_none, grown_marked}
-use Rattle.flow_net.proofs.NodeLists.{one_of-at}
+use Rattle.std.proofs.Common.{refl, arith}
+use Rattle.flow_solve.proofs.ResidualLemmas.Queues.{queue_none, near_none}
 use Rattle.flow_solve.proofs.residual.searching.start_all.Goals as goal
 
 -- nothing is seen
@@ -23,27 +20,3 @@ loop-node-init c = record {
   count = λ until k. k;
   followed = refl;
 }
-
--- one more start
-pub loop-node-preserved : goal.loop-node-preserved
-loop-node-preserved c =
-    let old = c.loop-node.invariant in let now = c.start.ensures in let starts = c.args.starts.now in
-    let l : c.loop-node.node-index < length starts = omega arith in
-    record {
-      cells = omega (arith, old.cells);
-      search = now.search;
-      near = now.near;
-      begun = below_more (λ i. IsMarked c.start.new.dist (get_or starts i 0 - 1)) c.loop-node.node-index
-          (λ i m. grown_marked now.grown (get_or starts i 0 - 1) (old.begun i m))
-          now.here;
-      come = λ p inside m. elim (now.come p m) [
-        | inl was ↦ old.come p inside was
-        | inr new ↦ subst (λ v. IsTrue (one_of starts v)) (sym new) (one_of-at starts c.loop-node.node-index l)
-      ];
-      count = λ until k. now.grown.count until (old.count until k);
-      followed = now.followed ∙ old.followed;
-    }
-
--- all are
-pub returns-clause-begun : goal.returns-clause-begun
-returns-clause-begun c = λ i l. c.loop-node.invariant.begun i (omega (arith, c.loop-node-test.false))

@@ -1,6 +1,5 @@
 -- `lift`: the half-arcs that were looked at are paid.
-use Rattle.std.proofs.Common.{length, ◌+◌, ◌-◌}
-use Rattle.std.specs.Prelude.{◌≤◌}
+use Rattle.std.proofs.Common.{length, ◌+◌, ◌-◌, ◌≤◌}
 use Rattle.flow_net.specs.Flows.{Fits}
 use Rattle.flow_solve.specs.Steps.{PaysLooks}
 use Rattle.flow_solve.proofs.levels.waves.discharging.lift.Given as goal

@@ -1,6 +1,5 @@
 -- `pass`: a look and a push at each half-arc that was passed are paid.
-use Rattle.std.proofs.Common.{length, ◌+◌, ◌-◌, ◌*◌}
-use Rattle.std.specs.Prelude.{◌≤◌}
+use Rattle.std.proofs.Common.{length, ◌+◌, ◌-◌, ◌*◌, ◌≤◌}
 use Rattle.flow_solve.specs.levels.Waves.{IsWaving, StaysIn}
 use Rattle.flow_solve.specs.Steps.{PaysSteps}
 use Rattle.flow_solve.proofs.levels.waves.discharging.pass.Given as goal

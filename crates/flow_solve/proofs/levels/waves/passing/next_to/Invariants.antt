@@ -1,13 +1,12 @@
 -- `next_to`: no half-arc is passed twice.
-use Rattle.std.proofs.Common.{length, ◌-◌}
-use Rattle.std.specs.Prelude.{◌≤◌}
+use Rattle.std.proofs.Common.{length, ◌-◌, ◌≤◌}
 use Rattle.flow_solve.proofs.levels.waves.passing.next_to.Given as goal
 
-abbrev pub invariant-loop-at : goal.invariant-loop-at
-invariant-loop-at l = record {
-  onwards : l.fn.step ≤ l.at;
-  within : l.at ≤ length l.row.halves.now;
+abbrev pub invariant-loop-step : goal.invariant-loop-step
+invariant-loop-step l = record {
+  onwards : l.fn.step ≤ l.step;
+  within : l.step ≤ length l.row.halves.now;
 }
 
-abbrev pub decreases-loop-at : goal.decreases-loop-at
-decreases-loop-at l = length l.row.halves.now - l.at
+abbrev pub decreases-loop-step : goal.decreases-loop-step
+decreases-loop-step l = length l.row.halves.now - l.step

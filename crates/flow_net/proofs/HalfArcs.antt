@@ -15,18 +15,6 @@ use Rattle.flow_net.specs.Residual.{half_room, half_pushed, tail_of, head_of, re
 abbrev pub runs_along : ℕ → Bool
 runs_along h = eqb (h % 2) 0
 
-pub half-along : (i : ℕ) → 2 * i / 2 ≡ i
-half-along i = omega arith
-
-pub half-against : (i : ℕ) → (2 * i + 1) / 2 ≡ i
-half-against i = omega arith
-
-pub runs_along-along : (i : ℕ) → runs_along (2 * i) ≡ true
-runs_along-along i = let even : 2 * i % 2 ≡ 0 = omega arith in rw even refl
-
-pub runs_along-against : (i : ℕ) → runs_along (2 * i + 1) ≡ false
-runs_along-against i = let odd : (2 * i + 1) % 2 ≡ 1 = omega arith in rw odd refl
-
 turned_ends : (b c : Bool) (a : Arc) → c ≡ not b
     → (cond c a.src a.dst ≡ cond b a.dst a.src) × (cond c a.dst a.src ≡ cond b a.src a.dst)
 turned_ends true c a e = rw e (refl, refl)
@@ -78,22 +66,6 @@ pub residual-pushed : (net : Net) (xs : List ℕ) (h d : ℕ) → h / 2 < length
 residual-pushed net xs h d lt =
     let cap = (arc_at net (h / 2)).cap in let x = slice_index xs (h / 2) in let b = runs_along h in
     ap (λ y. cond b (cap - y) y) (get_or-set_same xs (h / 2) (cond b (x + d) (x - d)) 0 lt) ∙ room-pushed b cap x d
-
--- its twin has so much more
-pub residual-pushed_back : (net : Net) (xs : List ℕ) (h g d : ℕ) → Fits net xs → h / 2 < length net.arcs
-    → d ≤ residual net xs h → g / 2 ≡ h / 2 → runs_along g ≡ not (runs_along h)
-    → residual net (pushed xs h d) g ≡ residual net xs g + d
-residual-pushed_back net xs h g d fits lt enough same turned =
-    let cap = (arc_at net (h / 2)).cap in let x = slice_index xs (h / 2) in let b = runs_along h in
-    let Is : ℕ → Bool → Type 0 =
-    λ i c. cond c ((arc_at net i).cap - slice_index (pushed xs h d) i) (slice_index (pushed xs h d) i)
-    ≡ cond c ((arc_at net i).cap - slice_index xs i) (slice_index xs i) + d in
-    let in_flows : h / 2 < length xs = let count = fits.count in omega arith in
-    let here : Is (h / 2) (not b) =
-    ap (λ y. cond (not b) (cap - y) y) (get_or-set_same xs (h / 2) (cond b (x + d) (x - d)) 0 in_flows)
-    ∙ room-pushed_back b cap x d (fits.within (h / 2) lt) enough in
-    let At : ℕ → Type 0 = λ i. Is i (runs_along g) in let Turned : Bool → Type 0 = λ c. Is (h / 2) c in
-    subst At (sym same) (subst Turned (sym turned) here)
 
 -- the half-arcs of other arcs keep theirs
 pub residual-pushed_other : (net : Net) (xs : List ℕ) (h g d : ℕ) → g / 2 ≢ h / 2

@@ -30,12 +30,6 @@ is_naming net names nodes inverse =
       };
     }
 
--- the nodes of the names are nodes
-pub nodes_within : (net : Net) (names nodes : List ℕ) → AreInverse net.nodes names nodes → All (IsNode net) nodes
-nodes_within net names nodes inverse =
-    let count = inverse.nodes_count in
-    All-from_get_or (IsNode net) nodes 0 (λ i l. let at = inverse.of_name i (omega arith) in (at.0, at.1))
-
 -- and so are the names
 pub names_within : (net : Net) (names nodes : List ℕ) → AreInverse net.nodes names nodes → All (IsNode net) names
 names_within net names nodes inverse =

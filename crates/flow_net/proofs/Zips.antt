@@ -39,10 +39,6 @@ arc_found_in [] i l = absurd (omega arith)
 arc_found_in (a ∷ arcs) zero l = refl
 arc_found_in (a ∷ arcs) (suc i) l = arc_found_in arcs i (omega arith)
 
--- the arc at a place stands there
-pub arc_found : (net : Net) (i : ℕ) → i < length net.arcs → slice_get net.arcs i ≡ Some (arc_at net i)
-arc_found net i l = arc_found_in net.arcs i l
-
 -- the flow on each arc is at most its capacity
 pub zip_from_fits : (net : Net) (xs : List ℕ) → Fits net xs → AllZip (λ a x. x ≤ a.cap) net.arcs xs
 zip_from_fits net xs f = AllZip-from (λ a x. x ≤ a.cap) net.arcs xs f.count f.within

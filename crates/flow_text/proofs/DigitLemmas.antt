@@ -18,16 +18,9 @@ AreDigits field i = all_ascii_digits field ≡ all_ascii_digits (drop i field)
 abbrev pub Makes : List ℕ → ℕ → ℕ → Type 0
 Makes field i value = value_of field ≡ value * 10 ^ length (drop i field) + value_of (drop i field)
 
-pub Makes-start : (field : List ℕ) → Makes field 0 0
-Makes-start field = omega arith
-
 pub AreDigits-more : (field : List ℕ) (i : ℕ) → i < length field → is_ascii_digit (get_or field i 0) ≡ true
     → AreDigits field i → AreDigits field (i + 1)
 AreDigits-more field i h digit so = so ∙ rw (drop-cons field i 0 h, digit, add-one) refl
-
-pub not_digits : (field : List ℕ) (i : ℕ) → i < length field → is_ascii_digit (get_or field i 0) ≡ false
-    → AreDigits field i → all_ascii_digits field ≡ false
-not_digits field i h digit so = so ∙ rw (drop-cons field i 0 h, digit) refl
 
 step : (v d n w : ℕ) → v * 10 ^ suc n + (d * 10 ^ n + w) ≡ (v * 10 + d) * 10 ^ n + w
 step v d n w = rw (pow-suc 10 n) (grind arith)
@@ -46,16 +39,9 @@ pub Makes-all : (field : List ℕ) (i value : ℕ) → length field ≤ i → Ma
 unfolding value_of
 Makes-all field i value h so = so ∙ rw (drop_all i field h) (omega arith)
 
-pub number_of-not : (field : List ℕ) (limit : ℕ) → all_ascii_digits field ≡ false → number_of field limit ≡ NotDigits
-number_of-not field limit h = grind (arith, common_steps)
-
 pub number_of-value : (field : List ℕ) (limit : ℕ) → 0 < length field → all_ascii_digits field ≡ true
     → value_of field ≤ limit → number_of field limit ≡ Value (value_of field)
 number_of-value field limit some digits h = grind (arith, common_steps)
-
-pub number_of-above : (field : List ℕ) (limit : ℕ) → 0 < length field → all_ascii_digits field ≡ true
-    → limit < value_of field → number_of field limit ≡ Above
-number_of-above field limit some digits h = grind (arith, common_steps)
 
 -- a digit more is ten times as much
 pub fits-more : (i v d : ℕ) → d ≤ 9 → v < 10 ^ i → v * 10 + d < 10 ^ (i + 1)

@@ -7,7 +7,7 @@ use Rattle.std.specs.List.{count_by}
 use Rattle.std.proofs.lemmas.Bool.{cases_eq, ne_eqb}
 use Rattle.std.proofs.lemmas.List.{take-append-drop, get_or-drop, get_or-take}
 use Rattle.std.proofs.lemmas.List.Elements.{All-take}
-use Rattle.std.proofs.lemmas.List.Sums.{sum_by-cons, sum_by-append, count_by-le-length, count_by_more_no}
+use Rattle.std.proofs.lemmas.List.Sums.{sum_by-cons, sum_by-append, count_by_more_no}
 use Rattle.std.proofs.lemmas.List.Sums.{count_by_more_yes}
 use Rattle.flow_net.specs.declared.networks.Arc.{Arc}
 use Rattle.flow_net.specs.Nets.{Net, IsNode}
@@ -23,11 +23,6 @@ use Rattle.flow_net.proofs.NodeCounts.{even_sets, crossing_sum}
 use Rattle.flow_solve.specs.Forests.{AreDegrees, AreOpposite, IsEulerian}
 
 -- ---- degrees
-
--- before the first arc all degrees are 0
-pub no_degrees : (nodes : ℕ) (out into : List ℕ) → ((i : ℕ) → i < nodes → slice_index out i ≡ 0)
-    → ((i : ℕ) → i < nodes → slice_index into i ≡ 0) → AreDegrees nodes [] out into
-no_degrees nodes out into o i = record { leaving = o; entering = i }
 
 -- a self-loop leaves no set and enters none
 loop_stays : (a : Arc) (X : ℕ → Bool) → a.src ≡ a.dst → (leaves X a ≡ false) × (enters X a ≡ false)
@@ -108,14 +103,6 @@ module _ (nodes : ℕ) (arcs : List Arc) (i : ℕ) (a : Arc) (out into : List �
             (λ e. ap (enters (just (v + 1))) (sym at) ∙ j.0 (omega arith))
             (λ n. ap (enters (just (v + 1))) (sym at) ∙ j.1 (λ f. n (omega arith))));
       }
-
--- a degree is at most the number of arcs so far
-pub degree_bounded : (nodes : ℕ) (arcs : List Arc) (i : ℕ) (out into : List ℕ) (v : ℕ) → i ≤ length arcs → v < nodes
-    → AreDegrees nodes (take i arcs) out into → (slice_index out v ≤ i) × (slice_index into v ≤ i)
-degree_bounded nodes arcs i out into v l h d = (
-  omega (arith, d.leaving v h, count_by-le-length (leaves (just (v + 1))) (take i arcs), length-take i arcs),
-  omega (arith, d.entering v h, count_by-le-length (enters (just (v + 1))) (take i arcs), length-take i arcs),
-)
 
 -- ---- a node alone, and all but a node
 

@@ -9,7 +9,7 @@ use Rattle.flow_net.specs.declared.networks.Arc.{Arc}
 use Rattle.flow_net.specs.Nets.{Net, IsNode}
 use Rattle.flow_net.specs.Limits.{IsNet}
 use Rattle.flow_net.specs.NodeSets.{just}
-use Rattle.flow_net.specs.Flows.{flow_over, out_of, into, IsFeasible}
+use Rattle.flow_net.specs.Flows.{flow_over, IsFeasible}
 use Rattle.flow_net.specs.Cuts.{cap_over, leaves, IsCut}
 use Rattle.flow_net.specs.Arcs.{enters}
 use Rattle.flow_net.specs.Residual.{tail_of, head_of, residual, pushed, IsClosed}
@@ -22,7 +22,7 @@ use Rattle.flow_net.proofs.Complements.{count_by_agree, leaves_others, enters_ot
 use Rattle.flow_solve.specs.declared.residual.half_arcs.Direction.{Direction}
 use Rattle.flow_solve.specs.declared.residual.half_arcs.Direction.TheVariants.{Forwards, Backwards}
 use Rattle.flow_solve.specs.residual.HalfArcs.{near_end, far_end, IsClosedFor}
-use Rattle.flow_solve.specs.Forests.{IsReached, sends, IsRaised, parted, IsBelow}
+use Rattle.flow_solve.specs.Forests.{IsReached, IsRaised, parted, IsBelow}
 
 -- ---- sums over arcs by tests that agree
 
@@ -124,21 +124,6 @@ parted_reached Backwards net w r k done X n m d c e = (
 
 -- ---- from node to node
 
--- at the beginning the value is 0
-pub raised_none : (dir : Direction) (net : Net) (w : ℕ) (done : ℕ → Bool) (xs : List ℕ) → IsNode net w
-    → done w ≡ false → IsFeasible net done done xs → IsRaised dir net w done xs 0
-raised_none dir net w done xs n out f = record { feasible = feasible; sent = sent dir }
-  where
-    feasible : IsFeasible net (just w) done xs
-    feasible = record { fits = f.fits; conserved = λ v i j s t. f.conserved v i j t t }
-
-    same : into (just w) net.arcs xs ≡ out_of (just w) net.arcs xs
-    same = f.conserved w n.0 n.1 out out
-
-    sent : (d : Direction) → sends d net w xs 0
-    sent Forwards = omega (arith, same)
-    sent Backwards = omega (arith, same)
-
 -- the flow where more nodes are done
 pub balanced_more : (net : Net) (s done next : ℕ → Bool) (xs : List ℕ) → IsFeasible net s done xs
     → ((v : ℕ) → s v ≡ true → next v ≡ true) → ((v : ℕ) → done v ≡ true → next v ≡ true)
@@ -153,17 +138,6 @@ balanced_more net s done next xs f a b = record {
       | inl e ↦ absurd (false≢true (sym o ∙ h v e))
       | inr e ↦ e
     ]
-
--- the same flow, of the same nodes
-pub raised_same : (dir : Direction) (net : Net) (w : ℕ) (done next : ℕ → Bool) (xs : List ℕ) (k : ℕ)
-    → IsRaised dir net w done xs k → ((v : ℕ) → next v ≡ done v) → IsRaised dir net w next xs k
-raised_same dir net w done next xs k r e = record {
-  feasible = record {
-    fits = r.feasible.fits;
-    conserved = λ v i j s t. r.feasible.conserved v i j s (sym (e v) ∙ t);
-  };
-  sent = r.sent;
-}
 
 -- ---- a unit under way
 

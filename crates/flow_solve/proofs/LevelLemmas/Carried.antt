@@ -1,6 +1,6 @@
 -- Flow that is under way between two nodes, over one half-arc more at a time, and the flow once these are a source and
 -- a sink.
-use Rattle.std.proofs.Common.{◌≡◌, ◌≢◌, ℕ, ◌+◌, ◌*◌, ◌^◌, ◌≤◌, ◌<◌, List, length, get_or, refl, ◌∙◌, sym, subst}
+use Rattle.std.proofs.Common.{◌≡◌, ◌≢◌, ℕ, ◌+◌, ◌*◌, ◌^◌, ◌≤◌, ◌<◌, List, length, ◌∙◌, sym, subst}
 use Rattle.std.proofs.Common.{IsTrue, arith}
 use Rattle.flow_net.specs.Nets.{Net}
 use Rattle.flow_net.specs.Limits.{IsNet, AreTerminals}
@@ -8,7 +8,7 @@ use Rattle.flow_net.specs.NodeSets.{one_of, just}
 use Rattle.flow_net.specs.Flows.{Fits}
 use Rattle.flow_net.specs.Residual.{tail_of, head_of, residual, pushed}
 use Rattle.flow_net.proofs.HalfArcs.{no_loops_pushed}
-use Rattle.flow_net.proofs.NodeLists.{one_of-at, terminals_apart}
+use Rattle.flow_net.proofs.NodeLists.{terminals_apart}
 use Rattle.flow_net.proofs.Pushes.{net_pushed, fits_pushed, held_none, held_all, other_node}
 use Rattle.flow_solve.specs.declared.residual.half_arcs.Direction.{Direction}
 use Rattle.flow_solve.specs.declared.residual.half_arcs.Direction.TheVariants.{Forwards, Backwards}
@@ -19,9 +19,6 @@ use Rattle.flow_solve.specs.levels.Trees.{supplied_by, IsSupplied}
 use Rattle.flow_solve.proofs.Raises.{value_most, capacities_fit}
 use Rattle.flow_solve.proofs.ResidualLemmas.Crossings.{tail_twin, head_twin}
 use Rattle.flow_solve.proofs.ResidualLemmas.Routes.{sink_no_source}
-
-pub carried_nothing : (net : Net) (d u : ℕ) (xs : List ℕ) → Fits net xs → IsCarried net d u u xs xs
-carried_nothing net d u xs f = record { fits = f; moved = λ X. refl; no_loops = λ z. z }
 
 -- a push over a half-arc that is no self-loop
 pub carried_over : {net : Net} {d : ℕ} {xs : List ℕ} (h : ℕ) → Fits net xs → h < 2 * length net.arcs
@@ -50,11 +47,6 @@ carried_before a b = record {
   no_loops = λ z. b.no_loops (a.no_loops z);
 }
 
-pub supplied_nothing : (dir : Direction) (net : Net) (d u : ℕ) (xs : List ℕ) → Fits net xs
-    → IsSupplied dir net d u u xs xs
-supplied_nothing Forwards = carried_nothing
-supplied_nothing Backwards = carried_nothing
-
 -- a push over one half-arc more of a chain of parents
 pub supplied_more : (dir : Direction) {net : Net} {d : ℕ} (u : ℕ) {v : ℕ} (xs : List ℕ) {ys : List ℕ} (h : ℕ)
     → supplied_by dir h < 2 * length net.arcs → d ≤ residual net ys (supplied_by dir h) → tail_of net h ≡ v
@@ -69,9 +61,6 @@ supplied_more Forwards {net} {d} u {v} xs {ys} h l r e n f s =
     (subst (λ z. IsCarried net d z (head_of net (twin_of h)) ys (pushed ys (twin_of h) d)) t over))
 supplied_more Backwards {net} {d} u {v} xs {ys} h l r e n f s =
     carried_on (subst (λ z. IsCarried net d u z xs ys) (sym e) s) (carried_over h f l r n)
-
-pub one_of-place : (ws : List ℕ) (k v : ℕ) → k < length ws → get_or ws k 0 ≡ v → IsTrue (one_of ws v)
-one_of-place ws k v l e = subst (λ z. IsTrue (one_of ws z)) e (one_of-at ws k l)
 
 -- what is carried from a source to a sink is worth so much more
 pub flow_carried : (net : Net) (s t : List ℕ) (d k u w : ℕ) (xs ys : List ℕ) → AreTerminals net s t

@@ -243,7 +243,3 @@ module _ (net : Net) (rank place now next : ℕ → ℕ) (h : ℕ) (up : (v : �
   -- a look that fails passes one that falls, and a retreat one with a residual capacity
   pub pass_any : left net rank place next any < left net rank place now any
   pass_any = left_past any refl
-
-  pub pass_open : (xs : List ℕ) → 1 ≤ residual net xs h
-      → left net rank place next (is_open net xs) < left net rank place now (is_open net xs)
-  pass_open xs r = left_past (is_open net xs) (has_room net xs h r)

@@ -1,10 +1,9 @@
 -- Pushes that are still to be made along a path.
-use Rattle.std.proofs.Common.{◌≡◌, ℕ, ◌+◌, ◌*◌, ◌≤◌, ◌<◌, List, ◌∷◌, length, get_or, drop, drop-cons, add-one, refl}
-use Rattle.std.specs.List.{All, AllByRecursion}
-use Rattle.std.proofs.lemmas.List.Elements.{recursion_from_All}
+use Rattle.std.proofs.Common.{◌≡◌, ℕ, ◌+◌, ◌*◌, ◌<◌, List, ◌∷◌, length, get_or, drop, drop-cons, add-one}
+use Rattle.std.specs.List.{AllByRecursion}
 use Rattle.flow_net.specs.Nets.{Net}
 use Rattle.flow_net.specs.Flows.{Fits}
-use Rattle.flow_net.specs.Residual.{residual, pushed}
+use Rattle.flow_net.specs.Residual.{pushed}
 use Rattle.flow_net.specs.Paths.{HasRoom, IsApart, push_all}
 use Rattle.flow_net.proofs.Pushes.{fits_pushed}
 use Rattle.flow_net.proofs.AugmentingPaths.{room_after}
@@ -16,16 +15,6 @@ pub record IsAhead (net : Net) (start path : List ℕ) (d : ℕ) (xs rest : List
   pub apart : IsApart rest
   pub room : HasRoom net xs d rest
   pub ends : push_all xs rest d ≡ push_all start path d
-
-pub ahead_all : (net : Net) (xs path : List ℕ) (d : ℕ) → Fits net xs → All (λ h. h < 2 * length net.arcs) path
-    → IsApart path → All (λ h. d ≤ residual net xs h) path → IsAhead net xs path d xs (drop 0 path)
-ahead_all net xs path d w h a r = record {
-  fits = w;
-  halves = recursion_from_All (λ g. g < 2 * length net.arcs) path h;
-  apart = a;
-  room = recursion_from_All (λ g. d ≤ residual net xs g) path r;
-  ends = refl;
-}
 
 module _ {net : Net} {start path : List ℕ} {d : ℕ} (xs : List ℕ) where
   over_one : (h : ℕ) (rest : List ℕ) → IsAhead net start path d xs (h ∷ rest)

@@ -1,9 +1,7 @@
 -- The sums over the first arcs, by which a table is settled.
 use Rattle.std.proofs.Common.{◌≡◌, ℕ, zero, suc, ◌+◌, ◌-◌, ◌*◌, ◌≤◌, ◌<◌, Bool, true, false, cond, eqb, List, []}
-use Rattle.std.proofs.Common.{◌∷◌, length, get_or, set, take, replicate, refl, ◌∙◌, sym, ap, inl, inr, add-one}
-use Rattle.std.proofs.Common.{below_more, get_or-set_same, get_or-set_other, arith}
-use Rattle.std.proofs.lemmas.Bool.{cases_eq}
-use Rattle.std.proofs.lemmas.List.{get_or-replicate}
+use Rattle.std.proofs.Common.{◌∷◌, length, get_or, take, refl, ◌∙◌, sym, ap, add-one}
+use Rattle.std.proofs.Common.{below_more, arith}
 use Rattle.flow_net.specs.declared.limits.TheConstants.{GREATEST_CAPACITY}
 use Rattle.flow_net.specs.declared.networks.Arc.{Arc}
 use Rattle.flow_net.specs.Nets.{Net, arc_at}
@@ -12,36 +10,12 @@ use Rattle.flow_net.specs.Limits.{IsNet, AreTerminals}
 use Rattle.flow_net.specs.NodeSets.{one_of, just}
 use Rattle.flow_net.specs.Flows.{flow_over, Fits}
 use Rattle.flow_net.proofs.Zips.{arc_within}
-use Rattle.flow_solve.specs.declared.levels.waves.settling.TheConstants.{EVEN, HALF, INNER, SOURCE, SINK}
+use Rattle.flow_solve.specs.declared.levels.waves.settling.TheConstants.{EVEN, INNER, SOURCE, SINK}
 use Rattle.flow_solve.specs.Solving.{IsFlow}
 use Rattle.flow_solve.specs.levels.Settling.{pair_at, role_of, AreRoles, AreSums}
-use Rattle.flow_net.proofs.NodeLists.{one_of-here, one_of-other, terminals_apart}
+use Rattle.flow_net.proofs.NodeLists.{terminals_apart}
 
 -- ---- roles
-
--- one more terminal has its role
-pub cast_more : (terminals before roles : List ℕ) (role k p : ℕ) → k < length terminals → 1 ≤ get_or terminals k 0
-    → get_or terminals k 0 ≤ length roles
-    → get_or roles p 0 ≡ cond (one_of (take k terminals) (p + 1)) role (get_or before p 0)
-    → get_or (set roles (get_or terminals k 0 - 1) role) p 0
-    ≡ cond (one_of (take (k + 1) terminals) (p + 1)) role (get_or before p 0)
-cast_more terminals before roles role k p l low high e = elim (cases_eq p (get_or terminals k 0 - 1)) [
-  | inl at ↦
-      let node : p + 1 ≡ get_or terminals k 0 = omega arith in
-      let yes : one_of (take (k + 1) terminals) (p + 1) ≡ true =
-      ap (λ j. one_of (take j terminals) (p + 1)) (add-one k) ∙ ap (one_of (take (suc k) terminals)) node
-      ∙ one_of-here terminals k l in
-      let here : get_or (set roles (get_or terminals k 0 - 1) role) p 0 ≡ role =
-      ap (λ i. get_or (set roles (get_or terminals k 0 - 1) role) i 0) at
-      ∙ get_or-set_same roles (get_or terminals k 0 - 1) role 0 (omega arith) in
-      here ∙ sym (ap (λ b. cond b role (get_or before p 0)) yes)
-  | inr n ↦
-      let same : one_of (take (suc k) terminals) (p + 1) ≡ one_of (take k terminals) (p + 1) =
-      one_of-other terminals k (p + 1) l (omega arith) in
-      get_or-set_other roles (get_or terminals k 0 - 1) p role 0 n ∙ e
-      ∙ sym (ap (λ j. cond (one_of (take j terminals) (p + 1)) role (get_or before p 0)) (add-one k)
-      ∙ ap (λ b. cond b role (get_or before p 0)) same)
-]
 
 -- a node's role tells whether it is a source
 by_cases : (a b : Bool) → (a ≡ true → b ≡ false) → eqb (cond b SINK (cond a SOURCE INNER)) SOURCE ≡ a
@@ -144,24 +118,6 @@ sums_more {net} {s} {t} {xs} {roles} {a} {x} {i} {out} {inward} {o} {n} is_net t
           below_more (λ j. (arc_at net j).src ≡ (arc_at net j).dst → get_or xs j 0 ≡ 0) i old.loops
           (λ q. sym ex ∙ loop (src ∙ q ∙ sym dst));
     }
-
--- no arc yet
-pub sums_none : (net : Net) (s t xs balances : List ℕ) → length balances ≡ 2 * net.nodes
-    → ((v : ℕ) → 1 ≤ v → v ≤ net.nodes → pair_at balances (v - 1) ≡ EVEN) → AreSums net s t xs balances 0 0 0
-sums_none net s t xs balances size even = record {
-  size = size;
-  balanced = λ v low high inner. omega (arith, even v low high);
-  leaves = refl;
-  enters = refl;
-  leaves_most = omega arith;
-  enters_most = omega arith;
-  loops = λ j l. absurd (omega arith);
-}
-
--- cells that are all the same
-pub filled_even : (n k : ℕ) → 2 * k + 1 < n → pair_at (replicate n HALF) k ≡ EVEN
-filled_even n k l =
-    omega (arith, get_or-replicate n (2 * k) HALF 0 (omega arith), get_or-replicate n (2 * k + 1) HALF 0 (omega arith))
 
 -- all arcs, and even balances
 pub settled : {net : Net} {s t xs balances roles : List ℕ} {out inward k : ℕ} → Fits net xs → AreRoles net s t roles

@@ -3,13 +3,11 @@ use Rattle.std.proofs.Common.{◌≡◌, ℕ, zero, suc, ◌+◌, ◌-◌, ◌�
 use Rattle.std.proofs.Common.{length, get_or, refl, ◌∙◌, sym, ap, subst, inl, inr, arith}
 use Rattle.std.specs.Prelude.{Option, Some, None, IfNone}
 use Rattle.std.specs.List.{All}
-use Rattle.std.proofs.Math.Dec.{ltb}
 use Rattle.std.proofs.lemmas.Bool.{cases_eq, cases_lt, cases_Bool, lt-ltb, ltb-true}
 use Rattle.std.proofs.lemmas.Grind.{get_or_default_zero}
 use Rattle.flow_net.specs.Nets.{Net, IsNode}
 use Rattle.flow_net.specs.Limits.{IsNet}
 use Rattle.flow_net.specs.NodeSets.{one_of}
-use Rattle.flow_net.specs.MarkedNodes.{marked}
 use Rattle.flow_net.specs.Residual.{tail_of, head_of, residual}
 use Rattle.flow_net.proofs.Zips.{head_is_node}
 use Rattle.flow_solve.specs.declared.residual.searching.TheConstants.{FAR, WANTED}
@@ -49,21 +47,6 @@ unmarked_unseen dist v o l = elim (cases_Bool (seen dist v)) [
   | inl inside ↦ let at = marked_seen dist v inside in absurd (omega (arith, at.2))
   | inr out ↦ out
 ]
-
--- cells that mark the places with a distance mark what is seen
-pub cells_seen : (dist : List ℕ) (side : List Bool) → length side ≡ length dist
-    → ((i : ℕ) → i < length dist → get_or side i false ≡ ltb (get_or dist i 0) WANTED) → (v : ℕ)
-    → marked side v ≡ seen dist v
-cells_seen dist side size e zero = refl
-cells_seen dist side size e (suc p) = elim (cases_lt p (length dist)) [
-  | inl inside ↦ e p inside ∙ ap (λ d. ltb d WANTED) (sym (get_or_default_zero dist p FAR inside))
-  | inr out ↦ past side p (omega arith) ∙ sym (ap (λ d. ltb d WANTED) (get_or_last dist p FAR out))
-]
-  where
-    past : (xs : List Bool) (i : ℕ) → length xs ≤ i → get_or xs i false ≡ false
-    past [] i l = refl
-    past (x ∷ xs) zero l = absurd (omega arith)
-    past (x ∷ xs) (suc i) l = past xs i (omega arith)
 
 -- the starts are seen
 pub starts_seen : (net : Net) (flows : List ℕ) (dir : Direction) (starts dist via : List ℕ) → All (IsNode net) starts

@@ -1,8 +1,7 @@
 -- What a search from one kind of terminals shows when it is over: whether the flow is greatest, and the least side.
 use Rattle.std.proofs.Common.{◌≡◌, ℕ, ◌↔◌, Bool, true, false, not, List, take, sym, subst}
 use Rattle.std.proofs.Math.Path.{fun_ext}
-use Rattle.std.specs.List.{All}
-use Rattle.flow_net.specs.Nets.{Net, IsNode}
+use Rattle.flow_net.specs.Nets.{Net}
 use Rattle.flow_net.specs.Limits.{IsNet, AreTerminals}
 use Rattle.flow_net.specs.NodeSets.{one_of}
 use Rattle.flow_net.specs.MarkedNodes.{marked}
@@ -16,17 +15,6 @@ use Rattle.flow_solve.specs.residual.Searches.{seen, Misses, HasRoute}
 use Rattle.flow_solve.specs.Sides.{starts_of, until_of, IsLeastSide}
 use Rattle.flow_solve.proofs.SideLemmas.Outcomes.{forward_tight, forward_side, backward_tight, backward_side, answers}
 use Rattle.flow_solve.proofs.ResidualLemmas.Routes.{route_raises}
-
--- the terminals are nodes, whichever way a search goes
-pub starts_within : (dir : Direction) (net : Net) (s t : List ℕ) → AreTerminals net s t
-    → All (IsNode net) (starts_of dir s t)
-starts_within Forwards net s t a = a.sources_within
-starts_within Backwards net s t a = a.sinks_within
-
-pub until_within : (dir : Direction) (net : Net) (s t : List ℕ) → AreTerminals net s t
-    → All (IsNode net) (until_of dir s t)
-until_within Forwards net s t a = a.sinks_within
-until_within Backwards net s t a = a.sources_within
 
 -- what a search has seen that comes to none of the other terminals
 pub least_side : (dir : Direction) (net : Net) (s t xs dist : List ℕ) → IsNet net

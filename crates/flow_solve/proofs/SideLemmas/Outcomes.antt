@@ -1,5 +1,5 @@
 -- What a whole search shows: a greatest flow, a minimum cut, and the least side.
-use Rattle.std.proofs.Common.{◌≡◌, ℕ, ◌↔◌, Bool, true, false, not, List, refl, ◌∙◌, sym, ap}
+use Rattle.std.proofs.Common.{◌≡◌, ℕ, ◌↔◌, Bool, true, false, not, List, refl, ap}
 use Rattle.flow_net.specs.Nets.{Net}
 use Rattle.flow_net.specs.Limits.{IsNet}
 use Rattle.flow_net.specs.NodeSets.{one_of}
@@ -9,19 +9,8 @@ use Rattle.flow_net.specs.LeastSides.{IsInLeastSourceSide, IsInLeastSinkSide}
 use Rattle.flow_net.specs.Residual.{tail_of, head_of, IsClosed, IsReaching}
 use Rattle.flow_net.proofs.Cuts.{strong_duality, closed_greatest, closed_minimum, contrary}
 use Rattle.flow_net.proofs.Sides.{least_source_side, least_sink_side, outside_closed}
-use Rattle.flow_solve.specs.declared.residual.half_arcs.Direction.{Direction}
 use Rattle.flow_solve.specs.declared.residual.half_arcs.Direction.TheVariants.{Forwards, Backwards}
-use Rattle.flow_solve.specs.residual.HalfArcs.{near_end, far_end}
 use Rattle.flow_solve.specs.residual.Searches.{IsWhole}
-
--- of two tests that agree
-pub whole_same : (dir : Direction) (net : Net) (xs starts : List ℕ) (X Y : ℕ → Bool) → ((v : ℕ) → Y v ≡ X v)
-    → IsWhole dir net xs starts X → IsWhole dir net xs starts Y
-whole_same dir net xs starts X Y e w = record {
-  contains = λ v i. e v ∙ w.contains v i;
-  closed = λ h l n r. e (far_end dir net h) ∙ w.closed h l (sym (e (near_end dir net h)) ∙ n) r;
-  least = λ Z all c v i. w.least Z all c v (sym (e v) ∙ i);
-}
 
 -- a flow whose value is the capacity of a minimum cut
 pub record IsTight (net : Net) (s t : ℕ → Bool) (xs : List ℕ) (X : ℕ → Bool) : Type 0 where

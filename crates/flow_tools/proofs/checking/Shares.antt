@@ -168,18 +168,6 @@ pub record TakesUp (net : Net) (arc left rest : ℕ) (xs ys : List ℕ) : Type 0
   pub fits : Fits net ys
 
 module _ (net : Net) (places : List ArcPlace) (before : List ℕ) (line : FlowLine) (at : ℕ) where
-  -- before the first place
-  pub poured_none : Fits net before → ArePassed net places at (line_rank line) before
-      → IsPouring net places before line at line.flow before
-  poured_none f p = record {
-    fits = f;
-    at_most = omega arith;
-    more =
-        subst (λ n. HasMore net before line.src line.dst n before) (omega arith)
-        (more_none net before line.src line.dst);
-    passed = p;
-  }
-
   -- a place of a lesser pair
   pub poured_past : (left : ℕ) (xs : List ℕ) → at < length places
       → place_rank (get_or places at no_place) < line_rank line → IsPouring net places before line at left xs

@@ -40,19 +40,6 @@ unit_both_ways net =
     (map-map reversed unit_arc net.arcs ∙ sym (map-map unit_arc reversed net.arcs))
     ∙ ap (λ z. record { nodes = net.nodes; arcs = z }) (sym (map-append unit_arc net.arcs (map reversed net.arcs)))
 
--- terminals speak of nodes alone
-pub same_terminals : (net other : Net) (s t : List ℕ) → other.nodes ≡ net.nodes → AreTerminals net s t
-    → AreTerminals other s t
-same_terminals net other s t e h =
-    let Within : List ℕ → ℕ → Type 0 = λ vs n. All (λ v. (1 ≤ v) × (v ≤ n)) vs in
-    record {
-      some_source = h.some_source;
-      some_sink = h.some_sink;
-      sources_within = subst (Within s) (sym e) h.sources_within;
-      sinks_within = subst (Within t) (sym e) h.sinks_within;
-      distinct = h.distinct;
-    }
-
 -- of all sets, and of those with the sources inside and the sinks outside; b tells whether arcs count both ways
 whole_connectivity : (p : Instance) (b : Bool) (k : ℕ) → IsConnectivity (unit (cond b (both_ways p.net) p.net)) k
     → IsConnectivityOf p b false k

@@ -5,9 +5,6 @@ use Rattle.flow_net.specs.Nets.{Net}
 use Rattle.flow_net.specs.Residual.{Table}
 use Rattle.flow_solve.specs.Steps.{PaysLooks, PaysSteps}
 
-pub paid_none : (a : Table) (k : ℕ) → PaysSteps a k a k
-paid_none a k = record { never_lowered = omega arith; left = omega arith; steps = omega arith }
-
 pub paid_then : (a b c : Table) (k l m : ℕ) → PaysSteps a k b l → PaysSteps b l c m → PaysSteps a k c m
 paid_then a b c k l m one more = record {
   never_lowered = omega (arith, one.never_lowered, more.never_lowered);

@@ -78,10 +78,6 @@ pub record HasMarked (mark w : ℕ) (before after : List ℕ) : Type 0 where
 abbrev pub KeepsDone : List ℕ → List ℕ → Type 0
 KeepsDone before after = (v : ℕ) → done_in after v ≡ done_in before v
 
--- no cell holds a half-arc
-abbrev pub IsEmptied : Net → List ℕ → Type 0
-IsEmptied net rows = (p : ℕ) → p < length rows → 2 * length net.arcs ≤ slice_index rows p
-
 -- no cell holds this one
 abbrev pub IsMissing : ℕ → List ℕ → Type 0
 IsMissing h rows = (p : ℕ) → p < length rows → slice_index rows p ≢ h
@@ -130,6 +126,10 @@ pub record IsStand (ground : Ground) (rows state : List ℕ) : Type 0 where
 abbrev pub AreFree : Ground → (ℕ → Bool) → List ℕ → Type 0
 AreFree ground marks rows = (p : ℕ) → p < length rows → slice_index rows p < 2 * length ground.net.now.arcs
     → LeadsOn ground.direction (slice_index rows p) → IsFalse (marks (slice_index rows p / 2))
+
+-- arcs that are noted are unmarked
+abbrev pub AreUnmarked : (ℕ → Bool) → List ℕ → Type 0
+AreUnmarked marks cells = (i : ℕ) → IsTrue (done_in cells (i + 1)) → IsFalse (marks i)
 
 -- c forests are done, which have taken half-arcs
 pub record IsGrove (ground : Ground) (k c : ℕ) (rows : List ℕ) : Type 0 where

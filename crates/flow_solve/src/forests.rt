@@ -8,6 +8,10 @@
 //! left by the arcs that enter the other nodes: the forests grow in the network with each arc turned round as well,
 //! unless as many arcs leave each node as enter it.
 //!
+//! As long as forests come to all nodes by themselves no flow is wanted, and rows of pairs do, in which forests grow in
+//! least time. Where the first node has to be joined, they are parted if a search needs other rows, and the forest goes
+//! on as far as it has come.
+//!
 //! The flow is kept from node to node: one that has been joined needs no conservation, so the flow stays feasible, and
 //! at the next node its value is 0. Which way a forest grows, which node is joined next and how a path is found is
 //! hint: nothing is proved of it but that it stays within the cells. What is found is tested as it is used: each
@@ -21,8 +25,8 @@
 //! |---|---|
 //! | `2·m` | for each node its half-arcs, as [`rows`] says |
 //! | `n` | the marks: whether the forest has come to a node, and whether a search has seen it, as [`marks`] says |
-//! | `4·n + 1` | four hints for each node |
-//! | `n` | the nodes that the forest goes back to; the queue of a search |
+//! | `4·n + 1` | four hints for each node; while pairs are parted, notes of the arcs that no forest has taken |
+//! | `n` | the nodes that the forest goes back to; the queue of a search; while rows are filled, where they end |
 //! | `1` | spare |
 ghost use Rattle.std.specs.Prelude.{◌≡◌, ℕ, ◌+◌, ◌*◌, ◌≤◌, ◌<◌, ◌-◌, IfSome, IsTrue, if◌then◌else◌, length};
 ghost use Rattle.std.specs.List.{All};
@@ -31,8 +35,8 @@ ghost use Rattle.flow_net.specs.Flows.{Fits};
 ghost use Rattle.flow_net.specs.LeastCuts.{IsConnectivity};
 ghost use Rattle.flow_net.specs.Limits.{IsNet};
 ghost use Rattle.flow_solve.specs.Bounds.{work_cells};
-ghost use Rattle.flow_solve.specs.Forests.{AreAbove, IsEulerian, IsForest, IsGrove, IsReached, IsStand, PaysIfAny};
-ghost use Rattle.flow_solve.specs.Forests.{done_in};
+ghost use Rattle.flow_solve.specs.Forests.{AreAbove, HasGrown, IsEulerian, IsForest, IsGrove, IsReached, IsStand};
+ghost use Rattle.flow_solve.specs.Forests.{PaysIfAny, done_in};
 
 pub(crate) mod degrees;
 mod growing;
@@ -43,9 +47,9 @@ mod rows;
 use crate::residual::half_arcs::Direction;
 use degrees::{are_balanced, are_even, goes_both_ways, least_degree};
 use flow_net::{FlowTable, Network};
-use growing::{Front, begin, grow, is_whole, next_node, reach};
+use growing::{Front, NOWHERE, begin, grow, is_whole, keep_all, next_node, reach};
 use joining::{Budgeted, raise};
-use rows::{fill_rows, mix_rows};
+use rows::{fill_rows, mix_rows, part_pairs};
 
 /// Where forests grow.
 #[derive(Clone, Copy)]
@@ -100,47 +104,107 @@ fn join_others(
         front = next_node(ground, rows, state, hints, front);
         least = raise(ground, rows, state, hints, flow, front.node, least)?;
         front = reach(ground, state, hints, front);
-        front = grow(ground, rows, state, hints, front);
+        front = grow(ground, rows, state, hints, front, false);
     }
     Some(least)
 }
 
-/// Lets one more forest grow to all nodes, if it is needed. Answers the least number afterwards, which may be no
-/// greater than that of the forests before this one: then it wasn't needed. Answers nothing where looks and pushes are
-/// used up or a test fails.
-fn grow_forest(
+/// Begins a forest, and lets it grow as far as it comes by itself.
+fn begin_forest(
+    ground: Ground<'_>,
+    rows: &mut [u32],
+    state: &mut [u32],
+    hints: &mut [u32],
+    is_last: bool,
+) -> Front
+    requires stand { IsStand ground rows.old state.old }
+    ensures stand { IsStand ground.entry rows.new state.new }
+    ensures done { IsTrue (done_in state.new ground.entry.root) }
+    ensures forest { (k c : ℕ) → IsGrove ground.entry k c rows.old → IsForest ground.entry k c rows.new state.new }
+{
+    let front = begin(ground, state, hints);
+    grow(ground, rows, state, hints, front, is_last)
+}
+
+/// How far forests have come.
+#[derive(Clone, Copy)]
+struct Grown {
+    /// How many have come to all nodes.
+    pub count: u64,
+    /// How far one more has come.
+    pub front: Front,
+}
+
+/// Lets forests grow, up to so many, as long as they come to all nodes by themselves. If fewer do, one more has begun.
+fn grow_alone(
+    ground: Ground<'_>,
+    rows: &mut [u32],
+    state: &mut [u32],
+    hints: &mut [u32],
+    most: u64,
+) -> Grown
+    requires stand { IsStand ground rows.old state.old }
+    ensures stand { IsStand ground.entry rows.new state.new }
+    ensures grove { most ≤ result.count → (k : ℕ) → IsGrove ground.entry k most rows.new }
+    ensures done { result.count < most → IsTrue (done_in state.new ground.entry.root) }
+    ensures forest { result.count < most → (k : ℕ) → IsForest ground.entry k result.count rows.new state.new }
+{
+    let mut grown = Grown {
+        count: 0,
+        front: NOWHERE,
+    };
+    while grown.count < most {
+        let is_last = grown.count == most - 1;
+        grown.front = begin_forest(ground, rows, state, hints, is_last);
+        if !is_whole(ground.net.nodes(), state) {
+            return grown;
+        }
+        grown.count += 1;
+    }
+    grown
+}
+
+/// Lets a forest that has begun come to all nodes, if it is needed. Answers the least number afterwards, which may be
+/// no greater than that of the forests before this one: then it wasn't needed. Answers nothing where looks and pushes
+/// are used up or a test fails.
+fn complete(
     ground: Ground<'_>,
     rows: &mut [u32],
     state: &mut [u32],
     hints: &mut [u32],
     flow: &mut FlowTable,
-    count: u64,
+    grown: Grown,
     least: Budgeted,
 ) -> Option<Budgeted>
     requires fits { Fits ground.net.now flow.old.flows }
     requires unit { All (λ a. a.cap ≡ 1) ground.net.now.arcs }
     requires stand { IsStand ground rows.old state.old }
+    requires done { IsTrue (done_in state.old ground.root) }
+    requires forest { IsForest ground least.value grown.count rows.old state.old }
     requires reached { IsReached ground.net.now least.value }
     ensures fits { Fits ground.entry.net.now flow.new.flows }
     ensures stand { IfSome result (λ _. IsStand ground.entry rows.new state.new) }
-    ensures kept { IfSome result (λ r. IsGrove ground.entry least.value count rows.old
-        → IsGrove ground.entry r.value count rows.new) }
-    ensures grove { IfSome result (λ r. count < r.value → IsGrove ground.entry least.value count rows.old
-        → IsGrove ground.entry r.value (count + 1) rows.new) }
+    ensures kept { IfSome result (λ r. IsGrove ground.entry r.value grown.count rows.new) }
+    ensures grove { IfSome result (λ r. grown.count < r.value
+        → IsGrove ground.entry r.value (grown.count + 1) rows.new) }
     ensures reached { IfSome result (λ r. IsReached ground.entry.net.now r.value) }
     ensures fewer { IfSome result (λ r. r.value ≤ least.value) }
     ensures paid { PaysIfAny flow.old least.left flow.new result }
 {
-    let front = begin(ground, state, hints);
-    let front = grow(ground, rows, state, hints, front);
-    let least = join_others(ground, rows, state, hints, flow, front, count, least)?;
-    if least.value <= count {
-        return Some(least);
-    }
-    if !is_whole(ground.net.nodes(), state) {
+    let next = join_others(
+        ground,
+        rows,
+        state,
+        hints,
+        flow,
+        grown.front,
+        grown.count,
+        least,
+    )?;
+    if grown.count < next.value && !is_whole(ground.net.nodes(), state) {
         return None;
     }
-    Some(least)
+    Some(next)
 }
 
 /// How many forests show that a number is the least: one less where all sets have even numbers.
@@ -155,9 +219,69 @@ fn forests_for(least: u64, is_even: bool) -> u64
     }
 }
 
+/// Lets a forest that has begun come to all nodes, and then as many others as there have to be. `least` holds the least
+/// number so far and how many looks and pushes are left; the answer is the same afterwards, or nothing where they are
+/// used up or a test fails.
+fn complete_all(
+    ground: Ground<'_>,
+    rows: &mut [u32],
+    state: &mut [u32],
+    hints: &mut [u32],
+    flow: &mut FlowTable,
+    grown: Grown,
+    is_even: bool,
+    least: Budgeted,
+) -> Option<Budgeted>
+    requires fits { Fits ground.net.now flow.old.flows }
+    requires unit { All (λ a. a.cap ≡ 1) ground.net.now.arcs }
+    requires stand { IsStand ground rows.old state.old }
+    requires done { IsTrue (done_in state.old ground.root) }
+    requires forest { IsForest ground least.value grown.count rows.old state.old }
+    requires even { IsTrue is_even → IsEulerian ground.net.now }
+    requires reached { IsReached ground.net.now least.value }
+    ensures fits { Fits ground.entry.net.now flow.new.flows }
+    ensures above { IfSome result (λ r. AreAbove ground.entry r.value) }
+    ensures reached { IfSome result (λ r. IsReached ground.entry.net.now r.value) }
+    ensures fewer { IfSome result (λ r. r.value ≤ least.value) }
+    ensures paid { PaysIfAny flow.old least.left flow.new result }
+{
+    let mut grown = grown;
+    let mut least = complete(ground, rows, state, hints, flow, grown, least)?;
+    while grown.count < forests_for(least.value, is_even).saturating_sub(1) {
+        grown.count += 1;
+        grown.front = begin_forest(ground, rows, state, hints, false);
+        least = complete(ground, rows, state, hints, flow, grown, least)?;
+    }
+    Some(least)
+}
+
+/// In rows of pairs so many arcs at a node, or fewer, can be noted when the pairs are parted. In a network with more
+/// forests begin in single half-arcs.
+const MOST_NOTED: u64 = 64;
+
+/// Parts the pairs of rows where only single half-arcs tell the paths of a flow. Answers the front of the forest that
+/// has begun.
+fn part(
+    ground: Ground<'_>,
+    in_pairs: bool,
+    rows: &mut [u32],
+    state: &[u32],
+    hints: &mut [u32],
+    front: Front,
+) -> Front
+    requires stand { IsStand ground rows.old state.now }
+    ensures { HasGrown ground.entry rows.old state.now rows.new state.now }
+{
+    if in_pairs == ground.paired {
+        return front;
+    }
+    part_pairs(ground, rows, state, hints);
+    keep_all(ground.net.nodes(), state, hints, front)
+}
+
 /// Lets as many forests grow as there have to be. `least` holds the least number so far and how many looks and pushes
-/// are left; the answer is the same afterwards, or nothing where they are used up or a test fails. The first cells have
-/// the degrees, as a hint.
+/// are left; the answer is the same afterwards, or nothing where they are used up or a test fails. Forests grow in rows
+/// of pairs as long as they come to all nodes by themselves: there they take least time.
 fn run_pass(
     ground: Ground<'_>,
     rows: &mut [u32],
@@ -179,65 +303,21 @@ fn run_pass(
     ensures fewer { IfSome result (λ r. r.value ≤ least.value) }
     ensures paid { PaysIfAny flow.old least.left flow.new result }
 {
-    let n = ground.net.nodes() as usize;
-    let (state, hints) = cells.split_at_mut(n);
-    fill_rows(ground, rows, state, hints);
-    mix_rows(ground, rows, state, hints);
-    let mut least = least;
-    let mut count = 0;
-    while count < forests_for(least.value, is_even) {
-        least = grow_forest(ground, rows, state, hints, flow, count, least)?;
-        if least.value <= count {
-            return Some(least);
-        }
-        count += 1;
-    }
-    Some(least)
-}
-
-/// The same as `run_pass`, tried in rows of pairs first where there are half as many arcs again as the forests take.
-/// Mostly no node has to be joined by a flow there, and pairs take less time. Where one has to be, the forests begin
-/// anew.
-fn run_in_pairs(
-    ground: Ground<'_>,
-    rows: &mut [u32],
-    cells: &mut [u32],
-    flow: &mut FlowTable,
-    is_even: bool,
-    least: Budgeted,
-) -> Option<Budgeted>
-    requires fits { Fits ground.net.now flow.old.flows }
-    requires unit { All (λ a. a.cap ≡ 1) ground.net.now.arcs }
-    requires limits { IsNet ground.net.now }
-    requires root { IsNode ground.net.now ground.root }
-    requires cells { 2 * ground.net.now.nodes ≤ length cells.old }
-    requires even { IsTrue is_even → IsEulerian ground.net.now }
-    requires reached { IsReached ground.net.now least.value }
-    ensures fits { Fits ground.entry.net.now flow.new.flows }
-    ensures above { IfSome result (λ r. AreAbove ground.entry r.value) }
-    ensures reached { IfSome result (λ r. IsReached ground.entry.net.now r.value) }
-    ensures fewer { IfSome result (λ r. r.value ≤ least.value) }
-    ensures paid { PaysIfAny flow.old least.left flow.new result }
-{
-    let many = least.value.saturating_add(least.value.div_ceil(2));
-    if ground.paired || !has_more_arcs(ground.net, many) {
-        return run_pass(ground, rows, cells, flow, is_even, least);
-    }
-    let in_pairs = Ground {
-        paired: true,
+    let nodes = ground.net.nodes();
+    let (state, hints) = cells.split_at_mut(nodes as usize);
+    let first = Ground {
+        paired: ground.paired | !has_more_arcs(ground.net, MOST_NOTED),
         ..ground
     };
-    let first = Budgeted {
-        left: least.left / 2,
-        ..least
-    };
-    let found = run_pass(in_pairs, rows, cells, flow, is_even, first);
-    if found.is_some() {
-        return found;
+    fill_rows(first, rows, hints);
+    mix_rows(first, rows, state, hints);
+    let most = forests_for(least.value, is_even);
+    let mut grown = grow_alone(first, rows, state, hints, most);
+    if grown.count >= most {
+        return Some(least);
     }
-    // The cells get the degrees again.
-    let _ = least_degree(ground.net, cells);
-    run_pass(ground, rows, cells, flow, is_even, first)
+    grown.front = part(ground, first.paired, rows, state, hints, grown.front);
+    complete_all(ground, rows, state, hints, flow, grown, is_even, least)
 }
 
 /// A node that has the most arcs, by the numbers of those that leave each and of those that enter each.
@@ -303,13 +383,11 @@ pub fn connectivity_by_forests(
         value: least,
         left: budget,
     };
-    let forth = run_in_pairs(ground, rows, cells, flow, is_even, start)?;
+    let forth = run_pass(ground, rows, cells, flow, is_even, start)?;
     if is_balanced {
         return Some(forth.value);
     }
-    // The cells get the degrees again.
-    let _ = least_degree(net, cells);
     ground.direction = Direction::Forwards;
-    let back = run_in_pairs(ground, rows, cells, flow, false, forth)?;
+    let back = run_pass(ground, rows, cells, flow, false, forth)?;
     Some(back.value)
 }

@@ -38,7 +38,7 @@ bit_other cells b number l same c d = elim (cases_eq (c / 32) (b / 32)) [
 ]
 
 -- other marks stay where no bit but one is changed
-mark_other : (cells : List ℕ) (mark w number : ℕ) → 1 ≤ w → w ≤ length cells → mark < 2
+mark_other : (cells : List ℕ) (mark w number : ℕ) → 1 ≤ w → w ≤ 16 * length cells → mark < 2
     → ((i : ℕ) → i < 32 → i ≢ (2 * (w - 1) + mark) % 32
     → bit_at number i ≡ bit_at (get_or cells ((2 * (w - 1) + mark) / 32) 0) i)
     → (k v : ℕ) → k < 2 → ((v ≡ w) → k ≢ mark)
@@ -49,7 +49,7 @@ mark_other cells mark w number l m few same k (suc p) b d =
     (λ e. d (omega (arith, e)) (omega (arith, e)))
 
 -- a node gets a mark
-pub marked : (cells : List ℕ) (mark w : ℕ) → 1 ≤ w → w ≤ length cells → mark < 2
+pub marked : (cells : List ℕ) (mark w : ℕ) → 1 ≤ w → w ≤ 16 * length cells → mark < 2
     → HasMarked mark w cells (set cells ((2 * (w - 1) + mark) / 32)
     (bit_or (get_or cells ((2 * (w - 1) + mark) / 32) 0) (1 * 2 ^ ((2 * (w - 1) + mark) % 32) % 2 ^ bits w32)))
 marked cells mark w l m few =
@@ -68,7 +68,7 @@ abbrev pub cleared : List ℕ → ℕ → List ℕ
 cleared cells b =
     set cells (b / 32) (bit_and (get_or cells (b / 32) 0) (bit_not w32 (1 * 2 ^ (b % 32) % 2 ^ bits w32)))
 
-pub cleared_here : (cells : List ℕ) (mark w : ℕ) → 1 ≤ w → w ≤ length cells → mark < 2
+pub cleared_here : (cells : List ℕ) (mark w : ℕ) → 1 ≤ w → w ≤ 16 * length cells → mark < 2
     → marked_with mark (cleared cells (2 * (w - 1) + mark)) w ≡ false
 cleared_here cells mark w l m few =
     let b = 2 * (w - 1) + mark in
@@ -79,7 +79,7 @@ cleared_here cells mark w l m few =
     ∙ ne_eqb (bit_at number (b % 32)) 1
     (λ e. absurd (omega (arith, e, bit_at_clear_same w32 old (b % 32) (omega arith))))
 
-pub cleared_apart : (cells : List ℕ) (mark w : ℕ) → 1 ≤ w → w ≤ length cells → mark < 2 → (k v : ℕ) → k < 2
+pub cleared_apart : (cells : List ℕ) (mark w : ℕ) → 1 ≤ w → w ≤ 16 * length cells → mark < 2 → (k v : ℕ) → k < 2
     → k ≢ mark → marked_with k (cleared cells (2 * (w - 1) + mark)) v ≡ marked_with k cells v
 cleared_apart cells mark w l m few k v n d =
     let b = 2 * (w - 1) + mark in

@@ -2,7 +2,8 @@
 //!
 //! It passes over half-arcs by the hints of where they lead. Before it takes one it reads the arc itself: whether it
 //! begins at the node, which way it leads and where to. In a row those that forests have taken stand first: one more
-//! changes places with the first that isn't taken. So no forest goes over them again.
+//! changes places with the first that isn't taken. So no forest goes over them again. In the last forest that isn't
+//! done, and where pairs have been parted, those that are taken stand among the others.
 ghost use Rattle.std.specs.Prelude.{◌≡◌, ◌↔◌, ℕ, ◌+◌, ◌-◌, ◌*◌, ◌<◌, ◌≤◌, IsTrue, length};
 ghost use Rattle.std.specs.Prelude.{slice_index};
 ghost use Rattle.flow_net.specs.Nets.{IsNode};
@@ -18,7 +19,6 @@ use crate::forests::rows::{
 };
 use crate::residual::cells::{get, put};
 use crate::residual::half_arcs::{head, tail};
-use std::ops::Range;
 
 /// How far a forest has come.
 #[derive(Clone, Copy)]
@@ -30,6 +30,13 @@ pub(crate) struct Front {
     /// The node from which it grows next.
     pub node: u32,
 }
+
+/// The front of a forest that hasn't begun.
+pub(crate) const NOWHERE: Front = Front {
+    count: 0,
+    near: 0,
+    node: 0,
+};
 
 /// Takes the half-arc in a cell, and comes to the node behind it.
 fn take(ground: Ground<'_>, rows: &mut [u32], state: &mut [u32], at: usize, behind: u32)
@@ -47,6 +54,57 @@ fn take(ground: Ground<'_>, rows: &mut [u32], state: &mut [u32], at: usize, behi
     set_done(state, behind);
 }
 
+/// Whether a half-arc leads on, and does so from one node to another.
+fn leads_between(ground: Ground<'_>, half: u32, node: u32, behind: u32) -> bool
+    ensures half { IsTrue result → half < 2 * length ground.entry.net.now.arcs }
+    ensures leads { IsTrue result → LeadsOn ground.entry.direction half }
+    ensures node { IsTrue result → tail_of ground.entry.net.now half ≡ node }
+    ensures behind { IsTrue result → head_of ground.entry.net.now half ≡ behind }
+    ensures exists { IsTrue result → IsNode ground.entry.net.now behind }
+{
+    half < 2 * ground.net.len()
+        && leads_on(ground.direction, half)
+        && tail(ground.net, half) == node
+        && head(ground.net, half) == behind
+}
+
+/// The entries of a node's row over which the forest hasn't gone, as hints.
+#[derive(Clone, Copy)]
+struct Row {
+    /// Up to which entry the row is taken.
+    pub next: u32,
+    /// At which entry the forest goes on.
+    pub from: u32,
+    /// The first entry behind the row.
+    pub end: u32,
+}
+
+/// The row of a node, or an empty one if the node has no hints.
+fn row_of(hints: &[u32], node: u32) -> Row {
+    let at = record(node);
+    if at + RECORD >= hints.len() {
+        return Row {
+            next: 0,
+            from: 0,
+            end: 0,
+        };
+    }
+    let next = hints[at + NEXT];
+    Row {
+        next,
+        from: next.max(hints[at + PLACE]),
+        end: hints[at + RECORD + FIRST],
+    }
+}
+
+/// An entry that leads on to a node which the forest hasn't come to, as a hint.
+#[derive(Clone, Copy)]
+struct Lead {
+    pub entry: u32,
+    /// The node behind it.
+    pub behind: u32,
+}
+
 /// Takes the half-arc of an entry, if it isn't taken, leads on, and leads from a node to the one behind it. Answers
 /// whether it does. The cell of the node behind is told by the hint, so that nothing waits for the arc to be read.
 fn take_entry(
@@ -54,69 +112,104 @@ fn take_entry(
     rows: &mut [u32],
     state: &mut [u32],
     node: u32,
-    behind: u32,
-    entry: u32,
+    lead: Lead,
 ) -> bool
     requires stand { IsStand ground rows.old state.old }
     requires done { IsTrue (done_in state.old node) }
     ensures { HasGrown ground.entry rows.old state.old rows.new state.new }
 {
-    let at = spot_of(ground, entry);
-    if at >= rows.len() {
+    let at = spot_of(ground, lead.entry);
+    if at >= rows.len() || !leads_between(ground, rows[at], node, lead.behind) {
         return false;
     }
-    let half = rows[at];
-    if half >= 2 * ground.net.len() || !leads_on(ground.direction, half) {
-        return false;
-    }
-    if tail(ground.net, half) != node || head(ground.net, half) != behind {
-        return false;
-    }
-    take(ground, rows, state, at, behind);
+    take(ground, rows, state, at, lead.behind);
     true
 }
 
-/// The node that the half-arc of an entry leads to, taken or not, as a hint; 0 if it doesn't lead on.
-fn node_behind(ground: Ground<'_>, rows: &[u32], entry: u32) -> u32 {
-    let at = spot_of(ground, entry);
-    if ground.paired {
-        return NONE - get(rows, at + 1);
-    }
-    let cell = get(rows, at);
-    // A half-arc that is taken is even, or odd, as it was.
-    if !leads_on(ground.direction, cell) {
-        return 0;
-    }
-    let half = half_in(cell);
-    if half >= 2 * ground.net.len() {
-        return 0;
-    }
-    head(ground.net, half)
-}
-
 /// Whether it is a node and the forest hasn't come to it.
+#[inline(always)]
 fn is_left(state: &[u32], node: u32) -> bool {
     node != 0 && node as usize <= state.len() && !is_done(state, node)
 }
 
-/// The first of some entries that leads on to a node which the forest hasn't come to, if there is one.
-fn next_entry(ground: Ground<'_>, rows: &[u32], state: &[u32], entries: Range<u32>) -> Option<u32> {
-    for entry in entries {
-        if is_left(state, node_behind(ground, rows, entry)) {
-            return Some(entry);
+/// The first of some entries, pairs, that leads on to a node which the forest hasn't come to, if there is one.
+fn next_pair(rows: &[u32], state: &[u32], from: u32, end: u32) -> Option<Lead> {
+    if 2 * end as usize > rows.len() {
+        return None;
+    }
+    for entry in from..end {
+        let behind = NONE - rows[2 * entry as usize + 1];
+        if is_left(state, behind) {
+            return Some(Lead { entry, behind });
         }
     }
     None
 }
 
+/// The first of some entries, single cells, that leads on to a node which the forest hasn't come to, if there is one.
+/// Those that are taken count where `all` is true.
+fn next_cell(
+    ground: Ground<'_>,
+    rows: &[u32],
+    state: &[u32],
+    from: u32,
+    end: u32,
+    all: bool,
+) -> Option<Lead> {
+    if end as usize > rows.len() {
+        return None;
+    }
+    for entry in from..end {
+        let cell = rows[entry as usize];
+        let half = if all { half_in(cell) } else { cell };
+        if half < 2 * ground.net.len() && leads_on(ground.direction, half) {
+            let behind = head(ground.net, half);
+            if is_left(state, behind) {
+                return Some(Lead { entry, behind });
+            }
+        }
+    }
+    None
+}
+
+/// The first of some entries that leads on to a node which the forest hasn't come to, if there is one: of all where
+/// `all` is true, and else of those that aren't taken, or of all if the taken ones stand before them.
+#[inline(always)]
+fn next_lead(
+    ground: Ground<'_>,
+    rows: &[u32],
+    state: &[u32],
+    from: u32,
+    end: u32,
+    all: bool,
+) -> Option<Lead> {
+    if ground.paired {
+        next_pair(rows, state, from, end)
+    } else {
+        next_cell(ground, rows, state, from, end, all)
+    }
+}
+
+/// Keeps up to which entry the row of a node is taken, and at which the forest goes on.
+fn keep_row(hints: &mut [u32], node: u32, next: u32, place: u32) {
+    let at = record(node);
+    if at + PLACE < hints.len() {
+        hints[at + NEXT] = next;
+        hints[at + PLACE] = place;
+    }
+}
+
 /// Goes on from a node over the next half-arc that isn't taken and leads to a node that the forest hasn't come to.
-/// Answers that node, or none.
+/// Answers that node, or none. If the forest isn't the last one, that half-arc changes places with the first that isn't
+/// taken.
+#[inline(always)]
 fn go_on(
     ground: Ground<'_>,
     rows: &mut [u32],
     state: &mut [u32],
     hints: &mut [u32],
     node: u32,
+    is_last: bool,
 ) -> Option<u32>
     requires stand { IsStand ground rows.old state.old }
     ensures { HasGrown ground.entry rows.old state.old rows.new state.new }
@@ -124,21 +217,22 @@ fn go_on(
     if node == 0 || node > ground.net.nodes() || !is_done(state, node) {
         return None;
     }
-    let at = record(node);
-    let next = get(hints, at + NEXT);
-    let from = next.max(get(hints, at + PLACE));
-    let Some(entry) = next_entry(ground, rows, state, from..get(hints, at + RECORD + FIRST)) else {
-        put(hints, at + PLACE, 0);
+    let row = row_of(hints, node);
+    let Some(lead) = next_lead(ground, rows, state, row.from, row.end, false) else {
+        keep_row(hints, node, row.next, 0);
         return None;
     };
-    let behind = node_behind(ground, rows, entry);
-    if !take_entry(ground, rows, state, node, behind, entry) {
+    if !take_entry(ground, rows, state, node, lead) {
         return None;
     }
-    exchange_entries(ground, rows, state, entry, next);
-    put(hints, at + NEXT, next.wrapping_add(1));
-    put(hints, at + PLACE, entry.wrapping_add(1));
-    Some(behind)
+    let place = lead.entry.wrapping_add(1);
+    if is_last {
+        keep_row(hints, node, row.next, place);
+        return Some(lead.behind);
+    }
+    exchange_entries(ground, rows, state, lead.entry, row.next);
+    keep_row(hints, node, row.next.wrapping_add(1), place);
+    Some(lead.behind)
 }
 
 /// The front once the forest has come to a node.
@@ -163,6 +257,7 @@ pub(crate) fn grow(
     state: &mut [u32],
     hints: &mut [u32],
     front: Front,
+    is_last: bool,
 ) -> Front
     requires stand { IsStand ground rows.old state.old }
     ensures grown { HasGrown ground.entry rows.old state.old rows.new state.new }
@@ -173,7 +268,7 @@ pub(crate) fn grow(
     let mut depth = 0u32;
     while front.count < nodes {
         let node = front.node;
-        if let Some(next) = go_on(ground, rows, state, hints, node) {
+        if let Some(next) = go_on(ground, rows, state, hints, node, is_last) {
             put(hints, queue_at(nodes, depth), node);
             depth += 1;
             front = come_to(nodes, hints, front, next);
@@ -196,12 +291,7 @@ pub(crate) fn begin(ground: Ground<'_>, state: &mut [u32], hints: &mut [u32]) ->
 {
     unmark_all(state);
     set_done(state, ground.root);
-    let none = Front {
-        count: 0,
-        near: 0,
-        node: 0,
-    };
-    come_to(ground.net.nodes(), hints, none, ground.root)
+    come_to(ground.net.nodes(), hints, NOWHERE, ground.root)
 }
 
 /// A forest that comes to a node without an arc.
@@ -216,6 +306,21 @@ pub(crate) fn reach(ground: Ground<'_>, state: &mut [u32], hints: &mut [u32], fr
     come_to(ground.net.nodes(), hints, front, front.node)
 }
 
+/// The front with all nodes kept that the forest has come to.
+pub(crate) fn keep_all(nodes: u32, state: &[u32], hints: &mut [u32], front: Front) -> Front
+    requires { length state.now ≡ nodes }
+    ensures { result.count ≡ front.count }
+{
+    let mut near = 0u32;
+    for place in 0..nodes {
+        if is_done(state, place + 1) {
+            put(hints, RECORD * near as usize + NEAR, place + 1);
+            near = near.saturating_add(1);
+        }
+    }
+    Front { near, ..front }
+}
+
 /// The next node that a half-arc of a node leads to and that the forest hasn't come to, if there is one.
 fn neighbour(
     ground: Ground<'_>,
@@ -226,9 +331,10 @@ fn neighbour(
 ) -> Option<u32> {
     let at = record(node);
     let from = get(hints, at + FIRST).max(get(hints, at + PLACE));
-    let entry = next_entry(ground, rows, state, from..get(hints, at + RECORD + FIRST))?;
-    put(hints, at + PLACE, entry);
-    Some(node_behind(ground, rows, entry))
+    let end = get(hints, at + RECORD + FIRST);
+    let lead = next_lead(ground, rows, state, from, end, true)?;
+    put(hints, at + PLACE, lead.entry);
+    Some(lead.behind)
 }
 
 /// The first node that the forest hasn't come to.

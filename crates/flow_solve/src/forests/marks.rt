@@ -1,6 +1,6 @@
 //! Which nodes a forest has come to, and which a search has seen: two bits for each node, one after the other in the
 //! cells, so that the marks of a million nodes stay in the cache of a processor.
-ghost use Rattle.std.specs.Prelude.{◌≡◌, ℕ, ◌+◌, ◌-◌, ◌*◌, ◌≤◌, ◌<◌, IsFalse, length};
+ghost use Rattle.std.specs.Prelude.{◌≡◌, ℕ, ◌+◌, ◌-◌, ◌*◌, ◌^◌, ◌≤◌, ◌<◌, ◌⊎◌, IsFalse, IsTrue, length};
 ghost use Rattle.flow_solve.specs.Forests.{HasMarked, KeepsDone, done_in, marked_with, seen_in};
 
 /// The bit of a node that the forest has come to.
@@ -11,6 +11,9 @@ pub(crate) const SEEN: u32 = 1;
 
 /// How many bits a cell has.
 const BITS: usize = 32;
+
+/// Of how many nodes a cell has the marks.
+pub(crate) const NODES: usize = 16;
 
 /// The bit that is a node's mark.
 #[inline(always)]
@@ -26,7 +29,7 @@ fn bit_of(mark: u32, node: u32) -> usize
 #[inline(always)]
 fn is_marked(state: &[u32], mark: u32, node: u32) -> bool
     requires mark { mark < 2 }
-    requires node { (1 ≤ node) × (node ≤ length state.now) }
+    requires node { (1 ≤ node) × (node ≤ 16 * length state.now) }
     ensures { result ≡ marked_with mark state.now node }
 {
     let bit = bit_of(mark, node);
@@ -37,7 +40,7 @@ fn is_marked(state: &[u32], mark: u32, node: u32) -> bool
 #[inline(always)]
 fn set_mark(state: &mut [u32], mark: u32, node: u32)
     requires mark { mark < 2 }
-    requires node { (1 ≤ node) × (node ≤ length state.old) }
+    requires node { (1 ≤ node) × (node ≤ 16 * length state.old) }
     ensures { HasMarked mark node state.old state.new }
 {
     let bit = bit_of(mark, node);
@@ -47,7 +50,7 @@ fn set_mark(state: &mut [u32], mark: u32, node: u32)
 /// Whether the forest has come to a node.
 #[inline(always)]
 pub(crate) fn is_done(state: &[u32], node: u32) -> bool
-    requires { (1 ≤ node) × (node ≤ length state.now) }
+    requires { (1 ≤ node) × (node ≤ 16 * length state.now) }
     ensures { result ≡ done_in state.now node }
 {
     is_marked(state, DONE, node)
@@ -56,7 +59,7 @@ pub(crate) fn is_done(state: &[u32], node: u32) -> bool
 /// Whether a search has seen a node that the forest hasn't come to.
 #[inline(always)]
 pub(crate) fn is_seen(state: &[u32], node: u32) -> bool
-    requires { (1 ≤ node) × (node ≤ length state.now) }
+    requires { (1 ≤ node) × (node ≤ 16 * length state.now) }
     ensures { result ≡ seen_in state.now node }
 {
     is_marked(state, SEEN, node) && !is_marked(state, DONE, node)
@@ -65,7 +68,7 @@ pub(crate) fn is_seen(state: &[u32], node: u32) -> bool
 /// The forest comes to a node.
 #[inline(always)]
 pub(crate) fn set_done(state: &mut [u32], node: u32)
-    requires { (1 ≤ node) × (node ≤ length state.old) }
+    requires { (1 ≤ node) × (node ≤ 16 * length state.old) }
     ensures { HasMarked DONE node state.old state.new }
 {
     set_mark(state, DONE, node);
@@ -74,10 +77,28 @@ pub(crate) fn set_done(state: &mut [u32], node: u32)
 /// A search sees a node.
 #[inline(always)]
 pub(crate) fn set_seen(state: &mut [u32], node: u32)
-    requires { (1 ≤ node) × (node ≤ length state.old) }
+    requires { (1 ≤ node) × (node ≤ 16 * length state.old) }
     ensures { HasMarked SEEN node state.old state.new }
 {
     set_mark(state, SEEN, node);
+}
+
+/// Notes an arc in cells that hold such marks, one for each arc, if there is room for it.
+pub(crate) fn note(cells: &mut [u32], arc: u32)
+    requires { arc < 2 ^ 31 }
+    ensures { (i : ℕ) → IsTrue (done_in cells.new (i + 1)) → (i ≡ arc) ⊎ IsTrue (done_in cells.old (i + 1)) }
+{
+    if arc as usize / NODES < cells.len() {
+        set_mark(cells, DONE, arc + 1);
+    }
+}
+
+/// Whether an arc is noted.
+pub(crate) fn is_noted(cells: &[u32], arc: u32) -> bool
+    requires { arc < 2 ^ 31 }
+    ensures { IsTrue result → IsTrue (done_in cells.now (arc + 1)) }
+{
+    arc as usize / NODES < cells.len() && is_marked(cells, DONE, arc + 1)
 }
 
 /// Makes a node unseen, if it exists.

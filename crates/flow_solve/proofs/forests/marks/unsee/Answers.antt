@@ -11,7 +11,8 @@ returns-clause-done c =
 
 pub returns-clause-unseen : goal.returns-clause-unseen
 returns-clause-unseen c =
-    rw c.bit_of-bit.ensures (λ l m. none _ _ (cleared_here c.args.state.now SEEN c.args.node l m (omega arith)))
+    rw c.bit_of-bit.ensures (λ l m. none _ _
+    (cleared_here c.args.state.now SEEN c.args.node l (omega (arith, m)) (omega arith)))
   where
     none : (a b : Bool) → a ≡ false → (a && b) ≡ false
     none a b e = grind arith

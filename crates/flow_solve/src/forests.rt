@@ -67,48 +67,6 @@ pub(crate) struct Ground<'a> {
     pub beside: bool,
 }
 
-/// Joins the nodes that a forest hasn't come to, one after the other, and lets the forest grow on from each, as long as
-/// the least number is greater than that of the forests before it. Answers the least number afterwards, or nothing
-/// where looks and pushes are used up or a test fails.
-fn join_others(
-    ground: Ground<'_>,
-    rows: &mut [u32],
-    state: &mut [u32],
-    hints: &mut [u32],
-    flow: &mut FlowTable,
-    front: Front,
-    count: u64,
-    least: Budgeted,
-) -> Option<Budgeted>
-    requires fits { Fits ground.net.now flow.old.flows }
-    requires unit { All (λ a. a.cap ≡ 1) ground.net.now.arcs }
-    requires stand { IsStand ground rows.old state.old }
-    requires done { IsTrue (done_in state.old ground.root) }
-    requires reached { IsReached ground.net.now least.value }
-    ensures fits { Fits ground.entry.net.now flow.new.flows }
-    ensures stand { IfSome result (λ _. IsStand ground.entry rows.new state.new) }
-    ensures forest { IfSome result (λ r. (c : ℕ) → IsForest ground.entry least.value c rows.old state.old
-        → IsForest ground.entry r.value c rows.new state.new) }
-    ensures reached { IfSome result (λ r. IsReached ground.entry.net.now r.value) }
-    ensures fewer { IfSome result (λ r. r.value ≤ least.value) }
-    ensures paid { PaysIfAny flow.old least.left flow.new result }
-{
-    let nodes = ground.net.nodes();
-    if front.count >= nodes {
-        return Some(least);
-    }
-    flow.clear();
-    let mut front = front;
-    let mut least = least;
-    while front.count < nodes && least.value > count {
-        front = next_node(ground, rows, state, hints, front);
-        least = raise(ground, rows, state, hints, flow, front.node, least)?;
-        front = reach(ground, state, hints, front);
-        front = grow(ground, rows, state, hints, front, false);
-    }
-    Some(least)
-}
-
 /// Begins a forest, and lets it grow as far as it comes by itself.
 fn begin_forest(
     ground: Ground<'_>,
@@ -164,9 +122,9 @@ fn grow_alone(
     grown
 }
 
-/// Lets a forest that has begun come to all nodes, if it is needed. Answers the least number afterwards, which may be
-/// no greater than that of the forests before this one: then it wasn't needed. Answers nothing where looks and pushes
-/// are used up or a test fails.
+/// Joins the nodes that a forest hasn't come to, one after the other, and lets the forest grow on from each, as long as
+/// the least number is greater than that of the forests before it. Answers the least number afterwards: if it is
+/// greater, the forest has come to all nodes. Answers nothing where looks and pushes are used up or a test fails.
 fn complete(
     ground: Ground<'_>,
     rows: &mut [u32],
@@ -191,20 +149,20 @@ fn complete(
     ensures fewer { IfSome result (λ r. r.value ≤ least.value) }
     ensures paid { PaysIfAny flow.old least.left flow.new result }
 {
-    let next = join_others(
-        ground,
-        rows,
-        state,
-        hints,
-        flow,
-        grown.front,
-        grown.count,
-        least,
-    )?;
-    if grown.count < next.value && !is_whole(ground.net.nodes(), state) {
+    let nodes = ground.net.nodes();
+    flow.clear();
+    let Grown { count, mut front } = grown;
+    let mut least = least;
+    while front.count < nodes && least.value > count {
+        front = next_node(ground, rows, state, hints, front);
+        least = raise(ground, rows, state, hints, flow, front.node, least)?;
+        front = reach(ground, state, hints, front);
+        front = grow(ground, rows, state, hints, front, false);
+    }
+    if least.value > count && !is_whole(nodes, state) {
         return None;
     }
-    Some(next)
+    Some(least)
 }
 
 /// How many forests show that a number is the least: one less where all sets have even numbers.

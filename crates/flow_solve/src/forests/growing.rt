@@ -68,35 +68,6 @@ fn leads_between(ground: Ground<'_>, half: u32, node: u32, behind: u32) -> bool
         && head(ground.net, half) == behind
 }
 
-/// The entries of a node's row over which the forest hasn't gone, as hints.
-#[derive(Clone, Copy)]
-struct Row {
-    /// Up to which entry the row is taken.
-    pub next: u32,
-    /// At which entry the forest goes on.
-    pub from: u32,
-    /// The first entry behind the row.
-    pub end: u32,
-}
-
-/// The row of a node, or an empty one if the node has no hints.
-fn row_of(hints: &[u32], node: u32) -> Row {
-    let at = record(node);
-    if at + RECORD >= hints.len() {
-        return Row {
-            next: 0,
-            from: 0,
-            end: 0,
-        };
-    }
-    let next = hints[at + NEXT];
-    Row {
-        next,
-        from: next.max(hints[at + PLACE]),
-        end: hints[at + RECORD + FIRST],
-    }
-}
-
 /// An entry that leads on to a node which the forest hasn't come to, as a hint.
 #[derive(Clone, Copy)]
 struct Lead {
@@ -190,15 +161,6 @@ fn next_lead(
     }
 }
 
-/// Keeps up to which entry the row of a node is taken, and at which the forest goes on.
-fn keep_row(hints: &mut [u32], node: u32, next: u32, place: u32) {
-    let at = record(node);
-    if at + PLACE < hints.len() {
-        hints[at + NEXT] = next;
-        hints[at + PLACE] = place;
-    }
-}
-
 /// Goes on from a node over the next half-arc that isn't taken and leads to a node that the forest hasn't come to.
 /// Answers that node, or none. If the forest isn't the last one, that half-arc changes places with the first that isn't
 /// taken.
@@ -217,21 +179,22 @@ fn go_on(
     if node == 0 || node > ground.net.nodes() || !is_done(state, node) {
         return None;
     }
-    let row = row_of(hints, node);
-    let Some(lead) = next_lead(ground, rows, state, row.from, row.end, false) else {
-        keep_row(hints, node, row.next, 0);
+    let at = record(node);
+    let next = get(hints, at + NEXT);
+    let from = next.max(get(hints, at + PLACE));
+    let end = get(hints, at + RECORD + FIRST);
+    let Some(lead) = next_lead(ground, rows, state, from, end, false) else {
+        put(hints, at + PLACE, 0);
         return None;
     };
     if !take_entry(ground, rows, state, node, lead) {
         return None;
     }
-    let place = lead.entry.wrapping_add(1);
-    if is_last {
-        keep_row(hints, node, row.next, place);
-        return Some(lead.behind);
+    put(hints, at + PLACE, lead.entry.wrapping_add(1));
+    if !is_last {
+        exchange_entries(ground, rows, state, lead.entry, next);
+        put(hints, at + NEXT, next.wrapping_add(1));
     }
-    exchange_entries(ground, rows, state, lead.entry, row.next);
-    keep_row(hints, node, row.next.wrapping_add(1), place);
     Some(lead.behind)
 }
 

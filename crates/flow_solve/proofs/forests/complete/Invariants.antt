@@ -1,9 +1,9 @@
--- `join_others`: the forest has come to more nodes, the flow is balanced at the others, and its steps are paid.
-use Rattle.std.proofs.Common.{◌≡◌, ℕ, ◌-◌, ◌≤◌, true}
+-- `complete`: the forest has come to more nodes, the flow is balanced at the others, and its steps are paid.
+use Rattle.std.proofs.Common.{◌≡◌, ◌-◌, ◌≤◌, true}
 use Rattle.flow_net.specs.Flows.{Fits, IsFeasible}
 use Rattle.flow_solve.specs.Forests.{IsForest, IsReached, IsStand, done_in}
 use Rattle.flow_solve.specs.Steps.{PaysSteps}
-use Rattle.flow_solve.proofs.forests.join_others.Given as goal
+use Rattle.flow_solve.proofs.forests.complete.Given as goal
 
 abbrev pub invariant-loop-front : goal.invariant-loop-front
 invariant-loop-front l = record {
@@ -13,8 +13,7 @@ invariant-loop-front l = record {
   balanced : IsFeasible l.ground.net.now (done_in l.state) (done_in l.state) l.flow.flows;
   reached : IsReached l.ground.net.now l.least.value;
   fewer : l.least.value ≤ l.fn.least.value;
-  forest : (c : ℕ) → IsForest l.ground l.fn.least.value c l.fn.rows l.fn.state
-      → IsForest l.ground l.least.value c l.rows l.state;
+  forest : IsForest l.ground l.least.value l.count l.rows l.state;
   paid : PaysSteps l.fn.flow l.fn.least.left l.flow l.least.left;
 }
 

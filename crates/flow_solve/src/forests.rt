@@ -239,7 +239,8 @@ fn part(
 
 /// Lets as many forests grow as there have to be. `least` holds the least number so far and how many looks and pushes
 /// are left; the answer is the same afterwards, or nothing where they are used up or a test fails. Forests grow in rows
-/// of pairs as long as they come to all nodes by themselves: there they take least time.
+/// of pairs as long as they come to all nodes by themselves: there they take least time. Before the first pass the
+/// first cells have the degrees, as a hint.
 fn run_pass(
     ground: Ground<'_>,
     rows: &mut [u32],
@@ -267,7 +268,7 @@ fn run_pass(
         paired: ground.paired | !has_more_arcs(ground.net, MOST_NOTED),
         ..ground
     };
-    fill_rows(first, rows, hints);
+    fill_rows(first, rows, state, hints);
     mix_rows(first, rows, state, hints);
     let most = forests_for(least.value, is_even);
     let mut grown = grow_alone(first, rows, state, hints, most);

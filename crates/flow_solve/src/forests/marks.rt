@@ -1,5 +1,5 @@
 //! Which nodes a forest has come to, and which a search has seen: two bits for each node, one after the other in the
-//! cells, so that the marks of a million nodes stay in the cache of a processor.
+//! cells, so that the marks of a million nodes stay in the cache of a processor. Arcs are noted by such marks too.
 ghost use Rattle.std.specs.Prelude.{◌≡◌, ℕ, ◌+◌, ◌-◌, ◌*◌, ◌^◌, ◌≤◌, ◌<◌, ◌⊎◌, IsFalse, IsTrue, length};
 ghost use Rattle.flow_solve.specs.Forests.{HasMarked, KeepsDone, done_in, marked_with, seen_in};
 
@@ -13,7 +13,7 @@ pub(crate) const SEEN: u32 = 1;
 const BITS: usize = 32;
 
 /// Of how many nodes a cell has the marks.
-pub(crate) const NODES: usize = 16;
+const NODES: usize = 16;
 
 /// The bit that is a node's mark.
 #[inline(always)]

@@ -9,8 +9,8 @@
 //! unless as many arcs leave each node as enter it.
 //!
 //! As long as forests come to all nodes by themselves no flow is wanted, and rows of pairs do, in which forests grow in
-//! least time. Where the first node has to be joined, they are parted if a search needs other rows, and the forest goes
-//! on as far as it has come.
+//! least time. Where the first node has to be joined, the rows are filled anew if a search needs others, and the forest
+//! goes on as far as it has come.
 //!
 //! The flow is kept from node to node: one that has been joined needs no conservation, so the flow stays feasible, and
 //! at the next node its value is 0. Which way a forest grows, which node is joined next and how a path is found is
@@ -23,9 +23,9 @@
 //!
 //! | Cells | What they hold |
 //! |---|---|
-//! | `2·m` | for each node its half-arcs, as [`rows`] says |
-//! | `n` | the marks: whether the forest has come to a node, and whether a search has seen it, as [`marks`] says |
-//! | `4·n + 1` | four hints for each node; while pairs are parted, notes of the arcs that no forest has taken |
+//! | `2·m` | for each arc whether a forest has taken it, and for each node its half-arcs, as [`rows`] says |
+//! | `n` | marks of the nodes that the forest has come to, and of those that a search has seen, as [`marks`] says |
+//! | `4·n + 1` | four hints for each node |
 //! | `n` | the nodes that the forest goes back to; the queue of a search; while rows are filled, where they end |
 //! | `1` | spare |
 ghost use Rattle.std.specs.Prelude.{◌≡◌, ℕ, ◌+◌, ◌*◌, ◌≤◌, ◌<◌, ◌-◌, IfSome, IsTrue, if◌then◌else◌, length};
@@ -35,8 +35,8 @@ ghost use Rattle.flow_net.specs.Flows.{Fits};
 ghost use Rattle.flow_net.specs.LeastCuts.{IsConnectivity};
 ghost use Rattle.flow_net.specs.Limits.{IsNet};
 ghost use Rattle.flow_solve.specs.Bounds.{work_cells};
-ghost use Rattle.flow_solve.specs.Forests.{AreAbove, HasGrown, IsEulerian, IsForest, IsGrove, IsReached, IsStand};
-ghost use Rattle.flow_solve.specs.Forests.{PaysIfAny, done_in};
+ghost use Rattle.flow_solve.specs.Forests.{AreAbove, IsEulerian, IsForest, IsGrove, IsReached, IsStand};
+ghost use Rattle.flow_solve.specs.Forests.{KeepsTaken, PaysIfAny, marked_in};
 
 pub(crate) mod degrees;
 mod growing;
@@ -47,9 +47,10 @@ mod rows;
 use crate::residual::half_arcs::Direction;
 use degrees::{are_balanced, are_even, goes_both_ways, least_degree};
 use flow_net::{FlowTable, Network};
-use growing::{Front, NOWHERE, begin, grow, is_whole, keep_all, next_node, reach};
+use growing::{Front, begin, grow, is_whole, next_node, reach};
 use joining::{Budgeted, raise};
-use rows::{fill_rows, mix_rows, part_pairs};
+use marks::unmark_all;
+use rows::fill_rows;
 
 /// Where forests grow.
 #[derive(Clone, Copy)]
@@ -71,55 +72,18 @@ pub(crate) struct Ground<'a> {
 fn begin_forest(
     ground: Ground<'_>,
     rows: &mut [u32],
-    state: &mut [u32],
+    done: &mut [u32],
     hints: &mut [u32],
     is_last: bool,
 ) -> Front
-    requires stand { IsStand ground rows.old state.old }
-    ensures stand { IsStand ground.entry rows.new state.new }
-    ensures done { IsTrue (done_in state.new ground.entry.root) }
-    ensures forest { (k c : ℕ) → IsGrove ground.entry k c rows.old → IsForest ground.entry k c rows.new state.new }
+    requires stand { IsStand ground done.old }
+    ensures stand { IsStand ground.entry done.new }
+    ensures done { IsTrue (marked_in done.new ground.entry.root) }
+    ensures forest { (k c : ℕ) → c ≤ k → IsGrove ground.entry k c rows.old
+        → IsForest ground.entry k c rows.new done.new }
 {
-    let front = begin(ground, state, hints);
-    grow(ground, rows, state, hints, front, is_last)
-}
-
-/// How far forests have come.
-#[derive(Clone, Copy)]
-struct Grown {
-    /// How many have come to all nodes.
-    pub count: u64,
-    /// How far one more has come.
-    pub front: Front,
-}
-
-/// Lets forests grow, up to so many, as long as they come to all nodes by themselves. If fewer do, one more has begun.
-fn grow_alone(
-    ground: Ground<'_>,
-    rows: &mut [u32],
-    state: &mut [u32],
-    hints: &mut [u32],
-    most: u64,
-) -> Grown
-    requires stand { IsStand ground rows.old state.old }
-    ensures stand { IsStand ground.entry rows.new state.new }
-    ensures grove { most ≤ result.count → (k : ℕ) → IsGrove ground.entry k most rows.new }
-    ensures done { result.count < most → IsTrue (done_in state.new ground.entry.root) }
-    ensures forest { result.count < most → (k : ℕ) → IsForest ground.entry k result.count rows.new state.new }
-{
-    let mut grown = Grown {
-        count: 0,
-        front: NOWHERE,
-    };
-    while grown.count < most {
-        let is_last = grown.count == most - 1;
-        grown.front = begin_forest(ground, rows, state, hints, is_last);
-        if !is_whole(ground.net.nodes(), state) {
-            return grown;
-        }
-        grown.count += 1;
-    }
-    grown
+    let front = begin(ground, done, hints);
+    grow(ground, rows, done, hints, front, is_last)
 }
 
 /// Joins the nodes that a forest hasn't come to, one after the other, and lets the forest grow on from each, as long as
@@ -128,38 +92,38 @@ fn grow_alone(
 fn complete(
     ground: Ground<'_>,
     rows: &mut [u32],
-    state: &mut [u32],
+    done: &mut [u32],
+    seen: &mut [u32],
     hints: &mut [u32],
     flow: &mut FlowTable,
-    grown: Grown,
-    least: Budgeted,
+    count: u64,
+    begun: Front,
+    known: Budgeted,
 ) -> Option<Budgeted>
     requires fits { Fits ground.net.now flow.old.flows }
     requires unit { All (λ a. a.cap ≡ 1) ground.net.now.arcs }
-    requires stand { IsStand ground rows.old state.old }
-    requires done { IsTrue (done_in state.old ground.root) }
-    requires forest { IsForest ground least.value grown.count rows.old state.old }
-    requires reached { IsReached ground.net.now least.value }
+    requires stand { IsStand ground done.old }
+    requires size { ground.net.now.nodes ≤ 32 * length seen.old }
+    requires done { IsTrue (marked_in done.old ground.root) }
+    requires forest { IsForest ground known.value count rows.old done.old }
+    requires reached { IsReached ground.net.now known.value }
     ensures fits { Fits ground.entry.net.now flow.new.flows }
-    ensures stand { IfSome result (λ _. IsStand ground.entry rows.new state.new) }
-    ensures kept { IfSome result (λ r. IsGrove ground.entry r.value grown.count rows.new) }
-    ensures grove { IfSome result (λ r. grown.count < r.value
-        → IsGrove ground.entry r.value (grown.count + 1) rows.new) }
+    ensures grove { IfSome result (λ r. IsGrove ground.entry r.value (count + 1) rows.new) }
     ensures reached { IfSome result (λ r. IsReached ground.entry.net.now r.value) }
-    ensures fewer { IfSome result (λ r. r.value ≤ least.value) }
-    ensures paid { PaysIfAny flow.old least.left flow.new result }
+    ensures fewer { IfSome result (λ r. r.value ≤ known.value) }
+    ensures paid { PaysIfAny flow.old known.left flow.new result }
 {
     let nodes = ground.net.nodes();
     flow.clear();
-    let Grown { count, mut front } = grown;
-    let mut least = least;
+    let mut front = begun;
+    let mut least = known;
     while front.count < nodes && least.value > count {
-        front = next_node(ground, rows, state, hints, front);
-        least = raise(ground, rows, state, hints, flow, front.node, least)?;
-        front = reach(ground, state, hints, front);
-        front = grow(ground, rows, state, hints, front, false);
+        front = next_node(ground, rows, done, hints, front);
+        least = raise(ground, rows, done, seen, hints, flow, front.node, least)?;
+        front = reach(ground, done, hints, front);
+        front = grow(ground, rows, done, hints, front, false);
     }
-    if least.value > count && !is_whole(nodes, state) {
+    if least.value > count && !is_whole(nodes, done) {
         return None;
     }
     Some(least)
@@ -177,67 +141,17 @@ fn forests_for(least: u64, is_even: bool) -> u64
     }
 }
 
-/// Lets a forest that has begun come to all nodes, and then as many others as there have to be. `least` holds the least
-/// number so far and how many looks and pushes are left; the answer is the same afterwards, or nothing where they are
-/// used up or a test fails.
-fn complete_all(
-    ground: Ground<'_>,
-    rows: &mut [u32],
-    state: &mut [u32],
-    hints: &mut [u32],
-    flow: &mut FlowTable,
-    grown: Grown,
-    is_even: bool,
-    least: Budgeted,
-) -> Option<Budgeted>
-    requires fits { Fits ground.net.now flow.old.flows }
-    requires unit { All (λ a. a.cap ≡ 1) ground.net.now.arcs }
-    requires stand { IsStand ground rows.old state.old }
-    requires done { IsTrue (done_in state.old ground.root) }
-    requires forest { IsForest ground least.value grown.count rows.old state.old }
-    requires even { IsTrue is_even → IsEulerian ground.net.now }
-    requires reached { IsReached ground.net.now least.value }
-    ensures fits { Fits ground.entry.net.now flow.new.flows }
-    ensures above { IfSome result (λ r. AreAbove ground.entry r.value) }
-    ensures reached { IfSome result (λ r. IsReached ground.entry.net.now r.value) }
-    ensures fewer { IfSome result (λ r. r.value ≤ least.value) }
-    ensures paid { PaysIfAny flow.old least.left flow.new result }
+/// Fills the rows anew, unless they are as searches need them.
+fn fill_again(ground: Ground<'_>, is_paired: bool, rows: &mut [u32], hints: &mut [u32])
+    ensures { KeepsTaken rows.old rows.new }
 {
-    let mut grown = grown;
-    let mut least = complete(ground, rows, state, hints, flow, grown, least)?;
-    while grown.count < forests_for(least.value, is_even).saturating_sub(1) {
-        grown.count += 1;
-        grown.front = begin_forest(ground, rows, state, hints, false);
-        least = complete(ground, rows, state, hints, flow, grown, least)?;
+    if is_paired == ground.paired {
+        return;
     }
-    Some(least)
+    fill_rows(ground, rows, &[], hints);
 }
 
-/// In rows of pairs so many arcs at a node, or fewer, can be noted when the pairs are parted. In a network with more
-/// forests begin in single half-arcs.
-const MOST_NOTED: u64 = 64;
-
-/// Parts the pairs of rows where only single half-arcs tell the paths of a flow. Answers the front of the forest that
-/// has begun.
-fn part(
-    ground: Ground<'_>,
-    in_pairs: bool,
-    rows: &mut [u32],
-    state: &[u32],
-    hints: &mut [u32],
-    front: Front,
-) -> Front
-    requires stand { IsStand ground rows.old state.now }
-    ensures { HasGrown ground.entry rows.old state.now rows.new state.now }
-{
-    if in_pairs == ground.paired {
-        return front;
-    }
-    part_pairs(ground, rows, state, hints);
-    keep_all(ground.net.nodes(), state, hints, front)
-}
-
-/// Lets as many forests grow as there have to be. `least` holds the least number so far and how many looks and pushes
+/// Lets as many forests grow as there have to be. `known` holds the least number so far and how many looks and pushes
 /// are left; the answer is the same afterwards, or nothing where they are used up or a test fails. Forests grow in rows
 /// of pairs as long as they come to all nodes by themselves: there they take least time. Before the first pass the
 /// first cells have the degrees, as a hint.
@@ -247,7 +161,7 @@ fn run_pass(
     cells: &mut [u32],
     flow: &mut FlowTable,
     is_even: bool,
-    least: Budgeted,
+    known: Budgeted,
 ) -> Option<Budgeted>
     requires fits { Fits ground.net.now flow.old.flows }
     requires unit { All (λ a. a.cap ≡ 1) ground.net.now.arcs }
@@ -255,28 +169,34 @@ fn run_pass(
     requires root { IsNode ground.net.now ground.root }
     requires cells { ground.net.now.nodes ≤ length cells.old }
     requires even { IsTrue is_even → IsEulerian ground.net.now }
-    requires reached { IsReached ground.net.now least.value }
+    requires reached { IsReached ground.net.now known.value }
     ensures fits { Fits ground.entry.net.now flow.new.flows }
     ensures above { IfSome result (λ r. AreAbove ground.entry r.value) }
     ensures reached { IfSome result (λ r. IsReached ground.entry.net.now r.value) }
-    ensures fewer { IfSome result (λ r. r.value ≤ least.value) }
-    ensures paid { PaysIfAny flow.old least.left flow.new result }
+    ensures fewer { IfSome result (λ r. r.value ≤ known.value) }
+    ensures paid { PaysIfAny flow.old known.left flow.new result }
 {
     let nodes = ground.net.nodes();
-    let (state, hints) = cells.split_at_mut(nodes as usize);
-    let first = Ground {
-        paired: ground.paired | !has_more_arcs(ground.net, MOST_NOTED),
-        ..ground
-    };
-    fill_rows(first, rows, state, hints);
-    mix_rows(first, rows, state, hints);
-    let most = forests_for(least.value, is_even);
-    let mut grown = grow_alone(first, rows, state, hints, most);
-    if grown.count >= most {
-        return Some(least);
+    let (marks, hints) = cells.split_at_mut(nodes as usize);
+    let mut paired = true;
+    rows.fill(0);
+    fill_rows(Ground { paired, ..ground }, rows, marks, hints);
+    let (done, seen) = marks.split_at_mut(nodes as usize / 2);
+    unmark_all(seen);
+    let mut least = known;
+    let mut count = 0;
+    while count < forests_for(least.value, is_even) {
+        let is_last = count + 1 == forests_for(least.value, is_even);
+        let now = Ground { paired, ..ground };
+        let front = begin_forest(now, rows, done, hints, is_last);
+        if !is_whole(nodes, done) {
+            fill_again(ground, paired, rows, hints);
+            paired = ground.paired;
+            least = complete(ground, rows, done, seen, hints, flow, count, front, least)?;
+        }
+        count += 1;
     }
-    grown.front = part(ground, first.paired, rows, state, hints, grown.front);
-    complete_all(ground, rows, state, hints, flow, grown, is_even, least)
+    Some(least)
 }
 
 /// A node that has the most arcs, by the numbers of those that leave each and of those that enter each.

@@ -79,8 +79,7 @@ fn least_around<M: Method>(
 }
 
 /// The connectivity, in cells that are all its own: by disjoint forests from one root, within the steps of one solve,
-/// or else by a solve for each node. Of two nodes, a set that counts holds one alone, so the least degree is the
-/// answer.
+/// or else by a solve for each node. Of two nodes these alone may take all steps, so the forests get none.
 fn least_cut<M: Method>(net: &Network, flow: &mut FlowTable, cells: &mut [u32]) -> u64
     requires fits { Fits net.now flow.old.flows }
     requires unit { All (λ a. a.cap ≡ 1) net.now.arcs }
@@ -90,10 +89,11 @@ fn least_cut<M: Method>(net: &Network, flow: &mut FlowTable, cells: &mut [u32]) 
     ensures steps { flow.new.steps ≤ flow.old.steps + 2 * (net.now.nodes - 1) * M.steps_bound net.now }
     ensures still_fits { Fits net.now flow.new.flows }
 {
-    if net.nodes() == 2 {
-        return least_degree(net, cells);
-    }
-    let spare = M::spare_steps(net);
+    let spare = if net.nodes() > 2 {
+        M::spare_steps(net)
+    } else {
+        0
+    };
     if let Some(connectivity) = connectivity_by_forests(net, flow, cells, spare) {
         return connectivity;
     }

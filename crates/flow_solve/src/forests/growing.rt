@@ -1,21 +1,20 @@
 //! A forest that grows in depth, and the nodes that it comes to.
 //!
-//! It passes over half-arcs by the hints of where they lead. Before it takes one it reads the arc itself: whether it
-//! begins at the node, which way it leads and where to. In a row those that forests have taken stand first: one more
-//! changes places with the first that isn't taken. So no forest goes over them again. In the last forest that isn't
-//! done, and where pairs have been parted, those that are taken stand among the others.
-ghost use Rattle.std.specs.Prelude.{◌≡◌, ◌↔◌, ℕ, ◌+◌, ◌-◌, ◌*◌, ◌<◌, ◌≤◌, IsTrue, length};
-ghost use Rattle.std.specs.Prelude.{slice_index};
+//! It passes over half-arcs by the hints of where they lead. Before it takes one it reads the arc itself: whether no
+//! forest has taken it, whether the half-arc leaves the node, which way it leads and where to. In a row those that are
+//! taken stand first: one more changes places with the first that isn't. So no forest goes over them again. Those that
+//! the last forest takes stay where they are, and when rows are filled anew, those taken before are put among the
+//! others.
+ghost use Rattle.std.specs.Prelude.{◌≡◌, ◌↔◌, ℕ, ◌+◌, ◌-◌, ◌*◌, ◌/◌, ◌<◌, ◌≤◌, IsFalse, IsTrue, length};
 ghost use Rattle.flow_net.specs.Nets.{IsNode};
 ghost use Rattle.flow_net.specs.Residual.{head_of, tail_of};
-ghost use Rattle.flow_solve.specs.Forests.{HasGrown, HasMarked, IsStand, LeadsOn, done_in};
-ghost use Rattle.flow_solve.specs.declared.forests.marks.TheConstants.{DONE};
+ghost use Rattle.flow_solve.specs.Forests.{HasGrown, HasMarked, IsStand, LeadsOn, marked_in, taken_in};
 
 use crate::forests::Ground;
-use crate::forests::marks::{is_done, set_done, unmark_all};
+use crate::forests::marks::{is_left, is_marked, mark, unmark_all};
 use crate::forests::rows::{
-    FIRST, NEAR, NEXT, NONE, PLACE, RECORD, TAKEN, exchange_entries, half_in, leads_on, queue_at,
-    record, spot_of,
+    FIRST, NEAR, NEXT, PLACE, RECORD, TAKEN, exchange_entries, hint_at, is_taken, leads_on,
+    queue_at, record, spot_of,
 };
 use crate::residual::cells::{get, put};
 use crate::residual::half_arcs::{head, tail};
@@ -31,27 +30,20 @@ pub(crate) struct Front {
     pub node: u32,
 }
 
-/// The front of a forest that hasn't begun.
-pub(crate) const NOWHERE: Front = Front {
-    count: 0,
-    near: 0,
-    node: 0,
-};
-
-/// Takes the half-arc in a cell, and comes to the node behind it.
-fn take(ground: Ground<'_>, rows: &mut [u32], state: &mut [u32], at: usize, behind: u32)
-    requires stand { IsStand ground rows.old state.old }
-    requires at { at < length rows.old }
-    requires half { slice_index rows.old at < 2 * length ground.net.now.arcs }
-    requires leads { LeadsOn ground.direction (slice_index rows.old at) }
-    requires done { IsTrue (done_in state.old (tail_of ground.net.now (slice_index rows.old at))) }
-    requires behind { behind ≡ head_of ground.net.now (slice_index rows.old at) }
+/// Takes a half-arc, and comes to the node behind it.
+fn take(ground: Ground<'_>, rows: &mut [u32], done: &mut [u32], half: u32, behind: u32)
+    requires stand { IsStand ground done.old }
+    requires cell { half / 2 < length rows.old }
+    requires free { IsFalse (taken_in rows.old (half / 2)) }
+    requires half { half < 2 * length ground.net.now.arcs }
+    requires leads { LeadsOn ground.direction half }
+    requires done { IsTrue (marked_in done.old (tail_of ground.net.now half)) }
+    requires behind { behind ≡ head_of ground.net.now half }
     requires node { IsNode ground.net.now behind }
-    ensures { HasGrown ground.entry rows.old state.old rows.new state.new }
+    ensures { HasGrown ground.entry rows.old done.old rows.new done.new }
 {
-    let half = rows[at];
-    rows[at] = half + TAKEN;
-    set_done(state, behind);
+    rows[half as usize / 2] += TAKEN;
+    mark(done, behind);
 }
 
 /// Whether a half-arc leads on, and does so from one node to another.
@@ -76,41 +68,29 @@ struct Lead {
     pub behind: u32,
 }
 
-/// Takes the half-arc of an entry, if it isn't taken, leads on, and leads from a node to the one behind it. Answers
-/// whether it does. The cell of the node behind is told by the hint, so that nothing waits for the arc to be read.
-fn take_entry(
-    ground: Ground<'_>,
-    rows: &mut [u32],
-    state: &mut [u32],
-    node: u32,
-    lead: Lead,
-) -> bool
-    requires stand { IsStand ground rows.old state.old }
-    requires done { IsTrue (done_in state.old node) }
-    ensures { HasGrown ground.entry rows.old state.old rows.new state.new }
+/// Takes the half-arc of an entry, if no forest has taken its arc, it leads on, and leads from a node to the one behind
+/// it. Answers whether it does. The node behind is told by the hint, so that nothing waits for the arc to be read.
+fn take_entry(ground: Ground<'_>, rows: &mut [u32], done: &mut [u32], node: u32, lead: Lead) -> bool
+    requires stand { IsStand ground done.old }
+    requires done { IsTrue (marked_in done.old node) }
+    ensures { HasGrown ground.entry rows.old done.old rows.new done.new }
 {
-    let at = spot_of(ground, lead.entry);
-    if at >= rows.len() || !leads_between(ground, rows[at], node, lead.behind) {
+    let half = hint_at(rows, spot_of(ground, lead.entry));
+    if !leads_between(ground, half, node, lead.behind) || is_taken(rows, half / 2) {
         return false;
     }
-    take(ground, rows, state, at, lead.behind);
+    take(ground, rows, done, half, lead.behind);
     true
 }
 
-/// Whether it is a node and the forest hasn't come to it.
-#[inline(always)]
-fn is_left(state: &[u32], node: u32) -> bool {
-    node != 0 && node as usize <= state.len() && !is_done(state, node)
-}
-
 /// The first of some entries, pairs, that leads on to a node which the forest hasn't come to, if there is one.
-fn next_pair(rows: &[u32], state: &[u32], from: u32, end: u32) -> Option<Lead> {
+fn next_pair(rows: &[u32], done: &[u32], from: u32, end: u32) -> Option<Lead> {
     if 2 * end as usize > rows.len() {
         return None;
     }
     for entry in from..end {
-        let behind = NONE - rows[2 * entry as usize + 1];
-        if is_left(state, behind) {
+        let behind = rows[2 * entry as usize + 1] % TAKEN;
+        if is_left(done, behind) {
             return Some(Lead { entry, behind });
         }
     }
@@ -122,7 +102,7 @@ fn next_pair(rows: &[u32], state: &[u32], from: u32, end: u32) -> Option<Lead> {
 fn next_cell(
     ground: Ground<'_>,
     rows: &[u32],
-    state: &[u32],
+    done: &[u32],
     from: u32,
     end: u32,
     all: bool,
@@ -131,11 +111,10 @@ fn next_cell(
         return None;
     }
     for entry in from..end {
-        let cell = rows[entry as usize];
-        let half = if all { half_in(cell) } else { cell };
+        let half = rows[entry as usize] % TAKEN;
         if half < 2 * ground.net.len() && leads_on(ground.direction, half) {
             let behind = head(ground.net, half);
-            if is_left(state, behind) {
+            if is_left(done, behind) && (all || !is_taken(rows, half / 2)) {
                 return Some(Lead { entry, behind });
             }
         }
@@ -149,15 +128,15 @@ fn next_cell(
 fn next_lead(
     ground: Ground<'_>,
     rows: &[u32],
-    state: &[u32],
+    done: &[u32],
     from: u32,
     end: u32,
     all: bool,
 ) -> Option<Lead> {
     if ground.paired {
-        next_pair(rows, state, from, end)
+        next_pair(rows, done, from, end)
     } else {
-        next_cell(ground, rows, state, from, end, all)
+        next_cell(ground, rows, done, from, end, all)
     }
 }
 
@@ -168,31 +147,31 @@ fn next_lead(
 fn go_on(
     ground: Ground<'_>,
     rows: &mut [u32],
-    state: &mut [u32],
+    done: &mut [u32],
     hints: &mut [u32],
     node: u32,
     is_last: bool,
 ) -> Option<u32>
-    requires stand { IsStand ground rows.old state.old }
-    ensures { HasGrown ground.entry rows.old state.old rows.new state.new }
+    requires stand { IsStand ground done.old }
+    ensures { HasGrown ground.entry rows.old done.old rows.new done.new }
 {
-    if node == 0 || node > ground.net.nodes() || !is_done(state, node) {
+    if node == 0 || !is_marked(done, node) {
         return None;
     }
     let at = record(node);
     let next = get(hints, at + NEXT);
     let from = next.max(get(hints, at + PLACE));
     let end = get(hints, at + RECORD + FIRST);
-    let Some(lead) = next_lead(ground, rows, state, from, end, false) else {
+    let Some(lead) = next_lead(ground, rows, done, from, end, false) else {
         put(hints, at + PLACE, 0);
         return None;
     };
-    if !take_entry(ground, rows, state, node, lead) {
+    if !take_entry(ground, rows, done, node, lead) {
         return None;
     }
     put(hints, at + PLACE, lead.entry.wrapping_add(1));
     if !is_last {
-        exchange_entries(ground, rows, state, lead.entry, next);
+        exchange_entries(ground, rows, lead.entry, next);
         put(hints, at + NEXT, next.wrapping_add(1));
     }
     Some(lead.behind)
@@ -217,13 +196,13 @@ fn come_to(nodes: u32, hints: &mut [u32], front: Front, node: u32) -> Front
 pub(crate) fn grow(
     ground: Ground<'_>,
     rows: &mut [u32],
-    state: &mut [u32],
+    done: &mut [u32],
     hints: &mut [u32],
     front: Front,
     is_last: bool,
 ) -> Front
-    requires stand { IsStand ground rows.old state.old }
-    ensures grown { HasGrown ground.entry rows.old state.old rows.new state.new }
+    requires stand { IsStand ground done.old }
+    ensures grown { HasGrown ground.entry rows.old done.old rows.new done.new }
     ensures count { front.count ≤ result.count }
 {
     let nodes = ground.net.nodes();
@@ -231,7 +210,7 @@ pub(crate) fn grow(
     let mut depth = 0u32;
     while front.count < nodes {
         let node = front.node;
-        if let Some(next) = go_on(ground, rows, state, hints, node, is_last) {
+        if let Some(next) = go_on(ground, rows, done, hints, node, is_last) {
             put(hints, queue_at(nodes, depth), node);
             depth += 1;
             front = come_to(nodes, hints, front, next);
@@ -246,67 +225,55 @@ pub(crate) fn grow(
 }
 
 /// A forest that has come to its root.
-pub(crate) fn begin(ground: Ground<'_>, state: &mut [u32], hints: &mut [u32]) -> Front
-    requires size { length state.old ≡ ground.net.now.nodes }
+pub(crate) fn begin(ground: Ground<'_>, done: &mut [u32], hints: &mut [u32]) -> Front
+    requires size { ground.net.now.nodes ≤ 32 * length done.old }
     requires root { IsNode ground.net.now ground.root }
-    ensures root { IsTrue (done_in state.new ground.entry.root) }
-    ensures only { (v : ℕ) → IsTrue (done_in state.new v) → v ≡ ground.entry.root }
+    ensures root { IsTrue (marked_in done.new ground.entry.root) }
+    ensures only { (v : ℕ) → IsTrue (marked_in done.new v) → v ≡ ground.entry.root }
 {
-    unmark_all(state);
-    set_done(state, ground.root);
-    come_to(ground.net.nodes(), hints, NOWHERE, ground.root)
+    unmark_all(done);
+    mark(done, ground.root);
+    let nowhere = Front {
+        count: 0,
+        near: 0,
+        node: 0,
+    };
+    come_to(ground.net.nodes(), hints, nowhere, ground.root)
 }
 
 /// A forest that comes to a node without an arc.
-pub(crate) fn reach(ground: Ground<'_>, state: &mut [u32], hints: &mut [u32], front: Front) -> Front
-    requires size { length state.old ≡ ground.net.now.nodes }
+pub(crate) fn reach(ground: Ground<'_>, done: &mut [u32], hints: &mut [u32], front: Front) -> Front
+    requires size { ground.net.now.nodes ≤ 32 * length done.old }
     requires node { IsNode ground.net.now front.node }
     requires count { front.count < ground.net.now.nodes }
-    ensures reached { HasMarked DONE front.node state.old state.new }
+    ensures reached { HasMarked front.node done.old done.new }
     ensures count { result.count ≡ front.count + 1 }
 {
-    set_done(state, front.node);
+    mark(done, front.node);
     come_to(ground.net.nodes(), hints, front, front.node)
-}
-
-/// The front with all nodes kept that the forest has come to.
-pub(crate) fn keep_all(nodes: u32, state: &[u32], hints: &mut [u32], front: Front) -> Front
-    requires { length state.now ≡ nodes }
-    ensures { result.count ≡ front.count }
-{
-    let mut near = 0u32;
-    for place in 0..nodes {
-        if is_done(state, place + 1) {
-            put(hints, RECORD * near as usize + NEAR, place + 1);
-            near = near.saturating_add(1);
-        }
-    }
-    Front { near, ..front }
 }
 
 /// The next node that a half-arc of a node leads to and that the forest hasn't come to, if there is one.
 fn neighbour(
     ground: Ground<'_>,
     rows: &[u32],
-    state: &[u32],
+    done: &[u32],
     hints: &mut [u32],
     node: u32,
 ) -> Option<u32> {
     let at = record(node);
     let from = get(hints, at + FIRST).max(get(hints, at + PLACE));
     let end = get(hints, at + RECORD + FIRST);
-    let lead = next_lead(ground, rows, state, from, end, true)?;
+    let lead = next_lead(ground, rows, done, from, end, true)?;
     put(hints, at + PLACE, lead.entry);
     Some(lead.behind)
 }
 
 /// The first node that the forest hasn't come to.
-fn first_left(nodes: u32, state: &[u32]) -> u32
-    requires { length state.now ≡ nodes }
-{
+fn first_left(nodes: u32, done: &[u32]) -> u32 {
     for place in 0..nodes {
         let node = place + 1;
-        if !is_done(state, node) {
+        if !is_marked(done, node) {
             return node;
         }
     }
@@ -318,33 +285,31 @@ fn first_left(nodes: u32, state: &[u32]) -> u32
 pub(crate) fn next_node(
     ground: Ground<'_>,
     rows: &[u32],
-    state: &[u32],
+    done: &[u32],
     hints: &mut [u32],
     front: Front,
 ) -> Front
-    requires size { length state.now ≡ ground.net.now.nodes }
     ensures { result.count ≡ front.count }
 {
     let mut next = front;
     while next.near > 0 {
         let last = get(hints, RECORD * (next.near as usize - 1) + NEAR);
-        if let Some(node) = neighbour(ground, rows, state, hints, last) {
+        if let Some(node) = neighbour(ground, rows, done, hints, last) {
             next.node = node;
             return next;
         }
         next.near -= 1;
     }
-    next.node = first_left(ground.net.nodes(), state);
+    next.node = first_left(ground.net.nodes(), done);
     next
 }
 
 /// Whether the forest has come to all nodes.
-pub(crate) fn is_whole(nodes: u32, state: &[u32]) -> bool
-    requires { length state.now ≡ nodes }
-    ensures { IsTrue result → (v : ℕ) → 1 ≤ v → v ≤ nodes → IsTrue (done_in state.now v) }
+pub(crate) fn is_whole(nodes: u32, done: &[u32]) -> bool
+    ensures { IsTrue result → (v : ℕ) → 1 ≤ v → v ≤ nodes → IsTrue (marked_in done.now v) }
 {
     for place in 0..nodes {
-        if !is_done(state, place + 1) {
+        if !is_marked(done, place + 1) {
             return false;
         }
     }

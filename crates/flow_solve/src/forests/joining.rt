@@ -6,13 +6,13 @@ ghost use Rattle.flow_net.specs.Nets.{IsNode};
 ghost use Rattle.flow_net.specs.Limits.{IsNet};
 ghost use Rattle.flow_net.specs.Flows.{Fits, IsFeasible};
 ghost use Rattle.flow_solve.specs.residual.HalfArcs.{IsClosedFor};
-ghost use Rattle.flow_solve.specs.Forests.{IsBelow, IsPassed, IsRaised, IsReached, KeepsDone, Pays, PaysIfAny};
-ghost use Rattle.flow_solve.specs.Forests.{done_in, seen_in};
+ghost use Rattle.flow_solve.specs.Forests.{IsBelow, IsPassed, IsRaised, IsReached, Pays, PaysIfAny};
+ghost use Rattle.flow_solve.specs.Forests.{marked_in, seen_in};
 ghost use Rattle.flow_solve.specs.Steps.{OnlyLooks, PaysLooks};
 
 use crate::forests::Ground;
-use crate::forests::marks::{is_done, is_seen, set_seen, unsee};
-use crate::forests::rows::{FIRST, NONE, PLACE, RECORD, half_in, queue_at, record, spot_of};
+use crate::forests::marks::{is_left, is_marked, mark, unmark};
+use crate::forests::rows::{FIRST, PLACE, RECORD, hint_at, queue_at, record, spot_of};
 use crate::residual::cells::{get, put};
 use crate::residual::half_arcs::{cross, far, head, near};
 use flow_net::{FlowTable, Network};
@@ -48,17 +48,16 @@ struct Search {
 #[inline(always)]
 fn search_over(
     ground: Ground<'_>,
-    state: &mut [u32],
+    done: &[u32],
+    seen: &mut [u32],
     hints: &mut [u32],
     flow: &mut FlowTable,
     search: Search,
     half: u32,
 ) -> Search
-    requires limits { IsNet ground.net.now }
     requires fits { Fits ground.net.now flow.old.flows }
-    requires size { length state.old ≡ ground.net.now.nodes }
+    requires size { ground.net.now.nodes ≤ 32 * length seen.old }
     requires half { half < 2 * length ground.net.now.arcs }
-    ensures done { KeepsDone state.old state.new }
     ensures next { result.at ≡ search.at }
     ensures looks { PaysLooks flow.old search.left flow.new result.left }
 {
@@ -74,11 +73,11 @@ fn search_over(
         return next;
     }
     let behind = head(net, half);
-    if is_done(state, behind) {
+    if is_marked(done, behind) {
         next.found = Some(over);
         return next;
     }
-    set_seen(state, behind);
+    mark(seen, behind);
     put(hints, record(behind) + PLACE, over);
     put(hints, queue_at(net.nodes(), search.tail), behind);
     next.tail = search.tail.saturating_add(1);
@@ -108,41 +107,40 @@ fn opposite(net: &Network, half: u32) -> u32
 fn search_entry(
     ground: Ground<'_>,
     rows: &[u32],
-    state: &mut [u32],
+    done: &[u32],
+    seen: &mut [u32],
     hints: &mut [u32],
     flow: &mut FlowTable,
     search: Search,
     entry: u32,
 ) -> Search
-    requires limits { IsNet ground.net.now }
     requires fits { Fits ground.net.now flow.old.flows }
-    requires size { length state.old ≡ ground.net.now.nodes }
-    ensures done { KeepsDone state.old state.new }
+    requires size { ground.net.now.nodes ≤ 32 * length seen.old }
     ensures next { result.at ≡ search.at }
     ensures looks { PaysLooks flow.old search.left flow.new result.left }
 {
     let at = spot_of(ground, entry);
-    let half = half_in(get(rows, at));
+    let half = hint_at(rows, at);
     if half >= 2 * ground.net.len() {
         return search;
     }
     let behind = if ground.paired {
-        NONE - get(rows, at + 1)
+        hint_at(rows, at + 1)
     } else {
         head(ground.net, half)
     };
-    if behind == 0 || behind > ground.net.nodes() || is_seen(state, behind) {
+    if !is_left(seen, behind) {
         return search;
     }
     if !ground.paired {
-        return search_over(ground, state, hints, flow, search, half);
+        return search_over(ground, done, seen, hints, flow, search, half);
     }
     let opposite = opposite(ground.net, half);
-    let next = search_over(ground, state, hints, flow, search, opposite);
+    let next = search_over(ground, done, seen, hints, flow, search, opposite);
     if next.found.is_some() || next.tail > search.tail {
         return next;
     }
-    search_over(ground, state, hints, flow, next, half)
+    search_over(ground, done, seen, hints, flow, next, half)
 }
 
 /// Looks at the half-arcs of the next node that the search has seen, until it has found a path; of the first node from
@@ -150,16 +148,15 @@ fn search_entry(
 fn search_from(
     ground: Ground<'_>,
     rows: &[u32],
-    state: &mut [u32],
+    done: &[u32],
+    seen: &mut [u32],
     hints: &mut [u32],
     flow: &mut FlowTable,
     search: Search,
 ) -> Search
-    requires limits { IsNet ground.net.now }
     requires fits { Fits ground.net.now flow.old.flows }
-    requires size { length state.old ≡ ground.net.now.nodes }
+    requires size { ground.net.now.nodes ≤ 32 * length seen.old }
     requires next { search.at < ground.net.now.nodes }
-    ensures done { KeepsDone state.old state.new }
     ensures next { result.at ≡ search.at + 1 }
     ensures looks { PaysLooks flow.old search.left flow.new result.left }
 {
@@ -176,7 +173,7 @@ fn search_from(
         next.near = search.tail;
     }
     for entry in get(hints, at).max(from)..get(hints, at + RECORD) {
-        next = search_entry(ground, rows, state, hints, flow, next, entry);
+        next = search_entry(ground, rows, done, seen, hints, flow, next, entry);
         if next.found.is_some() {
             next.entry = entry;
             return next;
@@ -188,18 +185,16 @@ fn search_from(
 /// A search from a node, which it has seen alone.
 fn begin_search(
     ground: Ground<'_>,
-    state: &mut [u32],
+    seen: &mut [u32],
     hints: &mut [u32],
     node: u32,
     left: u64,
 ) -> Search
-    requires size { length state.old ≡ ground.net.now.nodes }
+    requires size { ground.net.now.nodes ≤ 32 * length seen.old }
     requires node { IsNode ground.net.now node }
-    requires apart { IsFalse (done_in state.old node) }
-    ensures done { KeepsDone state.old state.new }
     ensures left { result.left ≡ left }
 {
-    set_seen(state, node);
+    mark(seen, node);
     put(hints, queue_at(ground.net.nodes(), 0), node);
     Search {
         at: 0,
@@ -227,21 +222,20 @@ fn goes_on(search: Search, nodes: u32) -> bool
 fn search_out(
     ground: Ground<'_>,
     rows: &[u32],
-    state: &mut [u32],
+    done: &[u32],
+    seen: &mut [u32],
     hints: &mut [u32],
     flow: &mut FlowTable,
     search: Search,
 ) -> Search
     requires fits { Fits ground.net.now flow.old.flows }
-    requires limits { IsNet ground.net.now }
-    requires size { length state.old ≡ ground.net.now.nodes }
-    ensures done { KeepsDone state.old state.new }
+    requires size { ground.net.now.nodes ≤ 32 * length seen.old }
     ensures looks { PaysLooks flow.old search.left flow.new result.left }
 {
     let nodes = ground.net.nodes();
     let mut next = search;
     'queue: while goes_on(next, nodes) {
-        next = search_from(ground, rows, state, hints, flow, next);
+        next = search_from(ground, rows, done, seen, hints, flow, next);
     }
     next
 }
@@ -251,27 +245,25 @@ fn search_out(
 fn search_on(
     ground: Ground<'_>,
     rows: &[u32],
-    state: &mut [u32],
+    done: &[u32],
+    seen: &mut [u32],
     hints: &mut [u32],
     flow: &mut FlowTable,
     node: u32,
     search: Search,
 ) -> Search
     requires fits { Fits ground.net.now flow.old.flows }
-    requires limits { IsNet ground.net.now }
-    requires size { length state.old ≡ ground.net.now.nodes }
+    requires size { ground.net.now.nodes ≤ 32 * length seen.old }
     requires node { IsNode ground.net.now node }
-    requires apart { IsFalse (done_in state.old node) }
-    ensures done { KeepsDone state.old state.new }
     ensures looks { PaysLooks flow.old search.left flow.new result.left }
 {
-    let next = search_out(ground, rows, state, hints, flow, search);
+    let next = search_out(ground, rows, done, seen, hints, flow, search);
     if next.found.is_some() || !search.is_worn {
         return next;
     }
-    forget(ground.net.nodes(), state, hints, next.tail);
-    let anew = begin_search(ground, state, hints, node, next.left);
-    search_out(ground, rows, state, hints, flow, anew)
+    forget(ground.net.nodes(), seen, hints, next.tail);
+    let anew = begin_search(ground, seen, hints, node, next.left);
+    search_out(ground, rows, done, seen, hints, flow, anew)
 }
 
 /// The search once a unit has been sent along the path that it has found: it goes on with the next node, or with the
@@ -289,12 +281,10 @@ fn worn(search: Search, left: u64) -> Search
 }
 
 /// Makes the nodes that a search has seen unseen.
-fn forget(nodes: u32, state: &mut [u32], hints: &[u32], tail: u32)
-    ensures { KeepsDone state.old state.new }
-{
+fn forget(nodes: u32, seen: &mut [u32], hints: &[u32], tail: u32) {
     for at in 0..tail {
         let node = get(hints, queue_at(nodes, at));
-        unsee(state, node);
+        unmark(seen, node);
     }
 }
 
@@ -302,7 +292,7 @@ fn forget(nodes: u32, state: &mut [u32], hints: &[u32], tail: u32)
 /// looks and pushes are left, or nothing where these are used up or the path doesn't lead on.
 fn send(
     ground: Ground<'_>,
-    state: &[u32],
+    done: &[u32],
     hints: &[u32],
     flow: &mut FlowTable,
     node: u32,
@@ -310,13 +300,12 @@ fn send(
     left: u64,
 ) -> Option<u64>
     requires fits { Fits ground.net.now flow.old.flows }
-    requires size { length state.now ≡ ground.net.now.nodes }
     requires node { IsNode ground.net.now node }
-    requires apart { IsFalse (done_in state.now node) }
+    requires apart { IsFalse (marked_in done.now node) }
     ensures fits { Fits ground.entry.net.now flow.new.flows }
     ensures raised { IfSome result (λ _. (value : ℕ)
-        → IsRaised ground.entry.direction ground.entry.net.now node (done_in state.now) flow.old.flows value
-        → IsRaised ground.entry.direction ground.entry.net.now node (done_in state.now) flow.new.flows (value + 1)) }
+        → IsRaised ground.entry.direction ground.entry.net.now node (marked_in done.now) flow.old.flows value
+        → IsRaised ground.entry.direction ground.entry.net.now node (marked_in done.now) flow.new.flows (value + 1)) }
     ensures paid { Pays flow.old left flow.new result }
 {
     let net = ground.net;
@@ -326,7 +315,7 @@ fn send(
     let mut at = far(net, ground.direction, last);
     let mut half = last;
     let mut left = left;
-    if !is_done(state, at) {
+    if !is_marked(done, at) {
         return None;
     }
     while at != node {
@@ -345,26 +334,33 @@ fn send(
     Some(left)
 }
 
+/// Whether a search has seen a node that the forest hasn't come to.
+fn is_seen(done: &[u32], seen: &[u32], node: u32) -> bool
+    requires { 1 ≤ node }
+    ensures { result ≡ seen_in done.now seen.now node }
+{
+    is_marked(seen, node) && !is_marked(done, node)
+}
+
 /// Whether nothing remains on a half-arc, if it leads from a node that is seen to one that isn't. Answers how many
 /// looks are left, or none if it isn't so.
 fn is_closed_over(
     ground: Ground<'_>,
-    state: &[u32],
+    done: &[u32],
+    seen: &[u32],
     flow: &mut FlowTable,
     half: u32,
     left: u64,
 ) -> Option<u64>
-    requires limits { IsNet ground.net.now }
     requires fits { Fits ground.net.now flow.old.flows }
-    requires size { length state.now ≡ ground.net.now.nodes }
     requires half { half < 2 * length ground.net.now.arcs }
-    ensures passed { IfSome result (λ _. IsPassed ground.entry flow.old.flows state.now half) }
+    ensures passed { IfSome result (λ _. IsPassed ground.entry flow.old.flows (seen_in done.now seen.now) half) }
     ensures looks { MatchOption result (OnlyLooks flow.old flow.new left) (λ r. PaysLooks flow.old left flow.new r) }
 {
     let Ground { net, direction, .. } = ground;
     let from = near(net, direction, half);
     let to = far(net, direction, half);
-    if !is_seen(state, from) || is_seen(state, to) {
+    if !is_seen(done, seen, from) || is_seen(done, seen, to) {
         return Some(left);
     }
     if left == 0 {
@@ -379,17 +375,22 @@ fn is_closed_over(
 
 /// Tests that nothing remains on the half-arcs that lead out of the nodes that are seen. Answers how many looks are
 /// left, or none if it isn't so.
-fn is_closed(ground: Ground<'_>, state: &[u32], flow: &mut FlowTable, left: u64) -> Option<u64>
+fn is_closed(
+    ground: Ground<'_>,
+    done: &[u32],
+    seen: &[u32],
+    flow: &mut FlowTable,
+    left: u64,
+) -> Option<u64>
     requires limits { IsNet ground.net.now }
     requires fits { Fits ground.net.now flow.old.flows }
-    requires size { length state.now ≡ ground.net.now.nodes }
     ensures closed { IfSome result
-        (λ _. IsClosedFor ground.entry.direction ground.entry.net.now flow.old.flows (seen_in state.now)) }
+        (λ _. IsClosedFor ground.entry.direction ground.entry.net.now flow.old.flows (seen_in done.now seen.now)) }
     ensures looks { MatchOption result (OnlyLooks flow.old flow.new left) (λ r. PaysLooks flow.old left flow.new r) }
 {
     let mut left = left;
     for half in 0..2 * ground.net.len() {
-        left = is_closed_over(ground, state, flow, half, left)?;
+        left = is_closed_over(ground, done, seen, flow, half, left)?;
     }
     Some(left)
 }
@@ -400,7 +401,8 @@ fn is_closed(ground: Ground<'_>, state: &[u32], flow: &mut FlowTable, left: u64)
 pub(crate) fn raise(
     ground: Ground<'_>,
     rows: &[u32],
-    state: &mut [u32],
+    done: &[u32],
+    seen: &mut [u32],
     hints: &mut [u32],
     flow: &mut FlowTable,
     node: u32,
@@ -409,41 +411,40 @@ pub(crate) fn raise(
     requires fits { Fits ground.net.now flow.old.flows }
     requires unit { All (λ a. a.cap ≡ 1) ground.net.now.arcs }
     requires limits { IsNet ground.net.now }
-    requires size { length state.old ≡ ground.net.now.nodes }
+    requires size { ground.net.now.nodes ≤ 32 * length seen.old }
     requires root { IsNode ground.net.now ground.root }
-    requires done { IsTrue (done_in state.old ground.root) }
-    requires balanced { IsFeasible ground.net.now (done_in state.old) (done_in state.old) flow.old.flows }
+    requires done { IsTrue (marked_in done.now ground.root) }
+    requires balanced { IsFeasible ground.net.now (marked_in done.now) (marked_in done.now) flow.old.flows }
     requires reached { IsReached ground.net.now wanted.value }
     ensures fits { Fits ground.entry.net.now flow.new.flows }
     ensures node { IfSome result (λ _. IsNode ground.entry.net.now node) }
-    ensures done { KeepsDone state.old state.new }
-    ensures raised { IfSome result (λ r. IsRaised ground.entry.direction ground.entry.net.now node (done_in state.old)
+    ensures raised { IfSome result (λ r. IsRaised ground.entry.direction ground.entry.net.now node (marked_in done.now)
         flow.new.flows r.value) }
     ensures reached { IfSome result (λ r. IsReached ground.entry.net.now r.value) }
     ensures fewer { IfSome result (λ r. r.value ≤ wanted.value) }
     ensures paid { PaysIfAny flow.old wanted.left flow.new result }
 {
     let nodes = ground.net.nodes();
-    if node == 0 || node > nodes || is_done(state, node) {
+    if node == 0 || node > nodes || is_marked(done, node) {
         return None;
     }
-    let mut search = begin_search(ground, state, hints, node, wanted.left);
+    let mut search = begin_search(ground, seen, hints, node, wanted.left);
     let mut value = 0;
     while value < wanted.value {
-        search = search_on(ground, rows, state, hints, flow, node, search);
+        search = search_on(ground, rows, done, seen, hints, flow, node, search);
         let Some(last) = search.found else {
-            if !is_seen(state, node) {
+            if !is_seen(done, seen, node) {
                 return None;
             }
-            let left = is_closed(ground, state, flow, search.left)?;
-            forget(nodes, state, hints, search.tail);
+            let left = is_closed(ground, done, seen, flow, search.left)?;
+            forget(nodes, seen, hints, search.tail);
             return Some(Budgeted { value, left });
         };
-        let left = send(ground, state, hints, flow, node, last, search.left)?;
+        let left = send(ground, done, hints, flow, node, last, search.left)?;
         search = worn(search, left);
         value += 1;
     }
-    forget(nodes, state, hints, search.tail);
+    forget(nodes, seen, hints, search.tail);
     Some(Budgeted {
         value,
         left: search.left,

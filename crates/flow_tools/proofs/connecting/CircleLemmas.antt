@@ -1,7 +1,8 @@
 -- The connectivity by the nodes in a circle, and of two nodes.
-use Rattle.std.proofs.Common.{◌≡◌, ◌≢◌, ℕ, zero, suc, ◌+◌, ◌-◌, ◌*◌, ◌≤◌, ◌<◌, Bool, true, false, cond}
+use Rattle.std.proofs.Common.{◌≡◌, ℕ, zero, suc, ◌+◌, ◌-◌, ◌*◌, ◌≤◌, ◌<◌, ◌⊎◌, Bool, true, false, cond}
 use Rattle.std.proofs.Common.{eqb, List, [], ◌∷◌, refl, ◌∙◌, sym, ap, subst, inl, inr, eq-eqb, arith}
 use Rattle.std.specs.List.{AllByRecursion, count_by}
+use Rattle.std.proofs.Math.Nat.{mul-le-mul_right}
 use Rattle.std.proofs.lemmas.Bool.{cases_Bool, cases_eq, cases_lt, false≢true, ne_eqb}
 use Rattle.std.proofs.lemmas.List.Sums.{sum_by-cons}
 use Rattle.std.proofs.lemmas.List.Elements.{recursion_from_All}
@@ -103,52 +104,14 @@ below_next_less net k m v l b X c = omega (arith, b X c)
 pub around_steps : (s a b v k : ℕ) → 1 ≤ v → a ≤ s + (v - 1) * k → b ≤ a + k → b ≤ s + (v + 1 - 1) * k
 around_steps s a b v k l h r = grind arith
 
--- the steps of the growth with those of the way round, within the bound
-pub both_steps : (n b : ℕ) → 3 ≤ n → b + n * b ≤ 2 * (n - 1) * b
-both_steps n b l =
-    let m : ℕ = n - 3 in
-    let e : n ≡ m + 3 = omega arith in
-    subst (λ z. b + z * b ≤ 2 * (z - 1) * b) (sym e) (both m)
+-- the steps of the forests with those of the way round, within the bound: of two nodes the forests get none
+pub both_steps : (n b s : ℕ) → 2 ≤ n → (s ≡ 0) ⊎ ((2 < n) × (s ≤ b)) → s + n * b ≤ 2 * (n - 1) * b
+both_steps n b s l h = elim h [
+  | inl none ↦ let two : n ≤ 2 * (n - 1) = omega arith in omega (arith, none, mul-le-mul_right b two)
+  | inr some ↦
+      let three : n + 1 ≤ 2 * (n - 1) = omega (arith, some.0) in
+      omega (arith, some.1, one_more n b, mul-le-mul_right b three)
+]
   where
-    both : (m : ℕ) → b + (m + 3) * b ≤ 2 * (m + 3 - 1) * b
-    both m = grind arith
-
--- ---- two nodes
-
--- sets with the same nodes are left by as many arcs
-leaves_agree : (n : ℕ) (X Y : ℕ → Bool) (arcs : List Arc) → AllByRecursion (IsArcWithin n) arcs
-    → ((v : ℕ) → 1 ≤ v → v ≤ n → X v ≡ Y v) → count_by (leaves X) arcs ≡ count_by (leaves Y) arcs
-leaves_agree n X Y [] w e = refl
-leaves_agree n X Y (a ∷ arcs) w e =
-    let src = e a.src w.0.src_least w.0.src_most in
-    let dst = e a.dst w.0.dst_least w.0.dst_most in
-    let rest = leaves_agree n X Y arcs w.1 e in
-    rw
-    (sum_by-cons (λ b. cond (leaves X b) 1 0) a arcs, sum_by-cons (λ b. cond (leaves Y b) 1 0) a arcs, src, dst, rest)
-    refl
-
--- a set that holds one of two nodes alone has its degree
-pub two_nodes : (net : Net) (k : ℕ) → IsNet net → net.nodes ≡ 2
-    → ((X : ℕ → Bool) × IsProper net X × (leaving net X ≡ k)) → ((v : ℕ) → IsNode net v → k ≤ leaving net (just v))
-    → IsConnectivity net k
-two_nodes net k n two r degree = record { reached = r; least = λ X p. alone X p p.inside.0 p.outside.0 }
-  where
-    alone : (X : ℕ → Bool) → IsProper net X → (u v : ℕ) → k ≤ leaving net X
-    alone X p u v =
-        let a = p.inside.0 in
-        let b = p.outside.0 in
-        let i : X a ≡ true = p.inside.3 in
-        let o : X b ≡ false = p.outside.3 in
-        let low = p.inside.1 in let high = p.inside.2 in let low' = p.outside.1 in let high' = p.outside.2 in
-        let ne : a ≢ b = λ e. false≢true (sym o ∙ sym (ap X e) ∙ i) in
-        let same : (w : ℕ) → 1 ≤ w → w ≤ net.nodes → X w ≡ just a w =
-        λ w l h. elim (cases_eq w a) [
-          | inl e ↦ ap X e ∙ i ∙ sym (eq-eqb w a e)
-          | inr d ↦ (let f : w ≡ b = omega arith in ap X f ∙ o ∙ sym (ne_eqb w a d))
-        ] in
-        omega (
-          arith,
-          degree a (low, high),
-          leaves_agree net.nodes X (just a) net.arcs
-              (recursion_from_All (IsArcWithin net.nodes) net.arcs n.arcs_within) same,
-        )
+    one_more : (n b : ℕ) → (n + 1) * b ≡ b + n * b
+    one_more n b = grind arith

@@ -1,28 +1,49 @@
--- `run_pass`: forests that come to all nodes by themselves, if they are enough.
+-- `run_pass`: a forest that comes to all nodes by itself is done, and any other is completed.
 use Rattle.std.proofs.Common.{arith}
-use Rattle.flow_solve.proofs.ForestLemmas.Taken.{above_enough}
+use Rattle.flow_solve.proofs.ForestLemmas.Taken.{above_enough, forest_kept, grove_more}
+use Rattle.flow_solve.proofs.Payments.{paid_then}
+use Rattle.flow_solve.proofs.forests.run_pass.Goals.{then-not-is_whole+in_ok-least, else-not-is_whole}
 use Rattle.flow_solve.proofs.forests.run_pass.Goals as goal
 
-pub mix_rows-requires : goal.mix_rows-requires
-mix_rows-requires c = record {
-  limits = c.requires.limits;
-  root = c.requires.root;
-  once = c.fill_rows.ensures;
-  size = omega (arith, c.split_at_mut-state.ensures.front_len, c.nodes-nodes.ensures.nodes);
-}
+pub complete-requires-clause-forest : goal.complete-requires-clause-forest
+complete-requires-clause-forest c =
+    let one = c.begin_forest-front in
+    let k = c.loop-count.least.value in
+    forest_kept c.args.ground k c.loop-count.count one.new.rows c.fill_again.new.rows one.new.done c.fill_again.ensures
+    (one.ensures.forest k c.loop-count.count (omega arith) c.loop-count.invariant.grove)
 
--- forests in pairs are forests, whatever the rows are
-pub returns-then-grown-most-clause-above : goal.returns-then-grown-most-clause-above
-returns-then-grown-most-clause-above c =
-    let grown = c.grow_alone-grown in
-    let g = grown.ensures.grove (omega arith) c.args.least.value in
-    above_enough c.args.ground c.args.least.value c.forests_for-most.result c.args.is_even grown.new.rows
-    c.requires.even c.requires.reached (record { marks = g.marks; entered = g.entered; free = g.free })
-    (omega (arith, c.forests_for-most.ensures.all))
+pub loop-count-preserved : goal.loop-count-preserved
+loop-count-preserved c =
+    let j = c.loop-count.invariant in
+    let one = c.begin_forest-front in
+    let k = c.loop-count.least.value in
+    elim c.if-not-is_whole.branch [
+      | then-not-is_whole+in_ok-least w ↦
+          let r = w.in_ok-least.ensures in
+          rw (w.rows-is, w.flow-is, w.done-is, w.least-is) (record {
+            fits = r.fits;
+            stand = record { limits = j.stand.limits; root = j.stand.root; size = omega arith };
+            reached = r.reached;
+            fewer = omega (arith, j.fewer, r.fewer);
+            grove = r.grove;
+            paid = paid_then _ _ _ _ _ _ j.paid r.paid;
+          })
+      | else-not-is_whole w ↦
+          rw (w.rows-is, w.flow-is, w.done-is, w.least-is) (record {
+            fits = j.fits;
+            stand = record { limits = j.stand.limits; root = j.stand.root; size = one.ensures.stand.size };
+            reached = j.reached;
+            fewer = j.fewer;
+            grove =
+                grove_more c.args.ground k c.loop-count.count one.new.rows one.new.done
+                (λ more v l m. c.is_whole.ensures w.if-not-is_whole.false v l (omega (arith, m)))
+                (one.ensures.forest k c.loop-count.count (omega arith) j.grove);
+            paid = j.paid;
+          })
+    ]
 
-pub complete_all-requires-clause-forest : goal.complete_all-requires-clause-forest
-complete_all-requires-clause-forest c =
-    let grown = c.grow_alone-grown in
-    let f = grown.ensures.forest (omega arith) c.args.least.value in
-    c.part-grown.ensures.forest c.args.least.value grown.result.count
-    (record { marks = f.marks; spread = f.spread; free = f.free })
+pub returns-clause-above : goal.returns-clause-above
+returns-clause-above c =
+    let j = c.loop-count.invariant in
+    above_enough c.args.ground c.loop-count.least.value c.loop-count.count c.args.is_even c.loop-count.rows
+    c.requires.even j.reached j.grove (omega (arith, c.forests_for.ensures.all))

@@ -5,7 +5,7 @@ use Rattle.flow_solve.proofs.forests.growing.grow.Given as goal
 
 abbrev pub invariant-loop-front : goal.invariant-loop-front
 invariant-loop-front l = record {
-  grown : HasGrown l.ground l.fn.rows l.fn.state l.rows l.state;
+  grown : HasGrown l.ground l.fn.rows l.fn.done l.rows l.done;
   count : l.fn.front.count ≤ l.front.count;
   depth : l.depth ≤ l.front.count;
 }

@@ -4,7 +4,7 @@ use Rattle.std.proofs.lemmas.Bool.{eqb-true}
 use Rattle.flow_net.specs.NodeSets.{just}
 use Rattle.flow_net.specs.Cuts.{IsCut}
 use Rattle.flow_solve.specs.residual.HalfArcs.{IsClosedFor}
-use Rattle.flow_solve.specs.Forests.{done_in, seen_in}
+use Rattle.flow_solve.specs.Forests.{marked_in, seen_in}
 use Rattle.flow_solve.proofs.ForestLemmas.Joined.{raised_parted, parted_reached}
 use Rattle.flow_solve.proofs.ForestLemmas.Marks.{seen_apart}
 use Rattle.flow_solve.proofs.forests.joining.raise.Goals as goal
@@ -14,11 +14,11 @@ pub returns-in_default-clause-reached : goal.returns-in_default-clause-reached
 returns-in_default-clause-reached c =
     let net = c.args.ground.net.now in
     let dir = c.args.ground.direction in
-    let state = c.search_on-search.new.state in
+    let seen = c.search_on-search.new.seen in
     let j = c.loop-value.invariant in
     let n : (1 ≤ c.args.node) × (c.args.node ≤ net.nodes) = (omega arith, omega arith) in
-    let done = done_in c.args.state.now in
-    let X = seen_in state in
+    let done = marked_in c.args.done.now in
+    let X = seen_in c.args.done.now seen in
     let closed : IsClosedFor dir net c.loop-value.flow.flows X =
     subst (λ (z : List ℕ). IsClosedFor dir net z X) c.search_on-search.ensures.looks.flows
     c.in_ok-left.ensures.closed in
@@ -26,7 +26,7 @@ returns-in_default-clause-reached c =
     let cut : IsCut (just c.args.node) done X =
     record {
       sources = λ v h. ap X (eqb-true v c.args.node h) ∙ here;
-      sinks = λ v d. seen_apart state v (c.search_on-search.ensures.done v ∙ j.done v ∙ d);
+      sinks = λ v d. seen_apart c.args.done.now seen v d;
     } in
     parted_reached dir net c.args.node c.args.ground.root c.loop-value.value done X n c.requires.root
     c.requires.done

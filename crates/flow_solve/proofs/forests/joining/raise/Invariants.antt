@@ -2,15 +2,14 @@
 -- done.
 use Rattle.std.proofs.Common.{◌≤◌, ◌-◌}
 use Rattle.flow_net.specs.Flows.{Fits}
-use Rattle.flow_solve.specs.Forests.{IsRaised, KeepsDone, done_in}
+use Rattle.flow_solve.specs.Forests.{IsRaised, marked_in}
 use Rattle.flow_solve.specs.Steps.{PaysSteps}
 use Rattle.flow_solve.proofs.forests.joining.raise.Given as goal
 
 abbrev pub invariant-loop-value : goal.invariant-loop-value
 invariant-loop-value l = record {
   fits : Fits l.ground.net.now l.flow.flows;
-  done : KeepsDone l.fn.state l.state;
-  raised : IsRaised l.ground.direction l.ground.net.now l.node (done_in l.fn.state) l.flow.flows l.value;
+  raised : IsRaised l.ground.direction l.ground.net.now l.node (marked_in l.done) l.flow.flows l.value;
   below : l.value ≤ l.wanted.value;
   paid : PaysSteps l.fn.flow l.wanted.left l.flow l.search.left;
 }

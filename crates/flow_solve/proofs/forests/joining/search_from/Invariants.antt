@@ -1,7 +1,6 @@
--- `search_from`: the forest has come to the same nodes, and the looks are paid.
+-- `search_from`: the looks are paid.
 use Rattle.std.proofs.Common.{◌≡◌, ◌+◌}
 use Rattle.flow_net.specs.Flows.{Fits}
-use Rattle.flow_solve.specs.Forests.{KeepsDone}
 use Rattle.flow_solve.specs.Steps.{PaysLooks}
 use Rattle.flow_solve.proofs.forests.joining.search_from.Given as goal
 
@@ -9,6 +8,5 @@ abbrev pub invariant-loop-entry : goal.invariant-loop-entry
 invariant-loop-entry l = record {
   fits : Fits l.ground.net.now l.flow.flows;
   next : l.next.at ≡ l.fn.search.at + 1;
-  done : KeepsDone l.fn.state l.state;
   looks : PaysLooks l.fn.flow l.fn.search.left l.flow l.next.left;
 }

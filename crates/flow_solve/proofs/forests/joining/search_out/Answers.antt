@@ -1,13 +1,10 @@
 -- `search_out`: a search goes on from node to node.
-use Rattle.std.proofs.Common.{refl}
-use Rattle.flow_solve.proofs.ForestLemmas.Marks.{keeps_on}
 use Rattle.flow_solve.proofs.Payments.{looked_fits, looks_none, looks_then}
 use Rattle.flow_solve.proofs.forests.joining.search_out.Goals as goal
 
 pub queue-init : goal.queue-init
 queue-init c = record {
   fits = c.requires.fits;
-  done = λ v. refl;
   looks = looks_none c.args.flow.now c.args.search.left;
 }
 
@@ -17,6 +14,5 @@ queue-preserved c =
     let now = c.search_from-next.ensures in
     record {
       fits = looked_fits _ _ _ _ _ now.looks j.fits;
-      done = keeps_on _ _ _ j.done now.done;
       looks = looks_then _ _ _ _ _ _ j.looks now.looks;
     }

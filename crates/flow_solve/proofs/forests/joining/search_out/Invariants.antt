@@ -1,14 +1,12 @@
--- `search_out`: the forest has come to the same nodes, and the looks are paid.
+-- `search_out`: the looks are paid.
 use Rattle.std.proofs.Common.{◌-◌}
 use Rattle.flow_net.specs.Flows.{Fits}
-use Rattle.flow_solve.specs.Forests.{KeepsDone}
 use Rattle.flow_solve.specs.Steps.{PaysLooks}
 use Rattle.flow_solve.proofs.forests.joining.search_out.Given as goal
 
 abbrev pub invariant-queue : goal.invariant-queue
 invariant-queue l = record {
   fits : Fits l.ground.net.now l.flow.flows;
-  done : KeepsDone l.fn.state l.state;
   looks : PaysLooks l.fn.flow l.fn.search.left l.flow l.next.left;
 }
 

@@ -3,7 +3,7 @@ use Rattle.std.proofs.Common.{◌≡◌, ◌≤◌, ◌<◌, ◌*◌, ◌∙◌,
 use Rattle.flow_net.specs.NodeSets.{just}
 use Rattle.flow_net.specs.Residual.{pushed, residual}
 use Rattle.flow_solve.specs.residual.HalfArcs.{near_end}
-use Rattle.flow_solve.specs.Forests.{done_in}
+use Rattle.flow_solve.specs.Forests.{marked_in}
 use Rattle.flow_solve.proofs.ForestLemmas.Joined.{IsUnderWay, way_begins, way_back, way_ends}
 use Rattle.flow_solve.proofs.forests.joining.send.Goals as goal
 
@@ -20,7 +20,7 @@ loop-at-preserved c =
     let net = c.args.ground.net.now in
     let dir = c.args.ground.direction in
     let s = just c.args.node in
-    let t = done_in c.args.state.now in
+    let t = marked_in c.args.done.now in
     let xs = c.args.flow.now.flows in
     let x = c.far-at.result in
     let half = c.loop-at.half in
@@ -49,10 +49,10 @@ pub returns-clause-raised : goal.returns-clause-raised
 returns-clause-raised c = λ value r.
     let net = c.args.ground.net.now in
     let dir = c.args.ground.direction in
-    let t = done_in c.args.state.now in
+    let t = marked_in c.args.done.now in
     let xs = c.args.flow.now.flows in
     let x = c.far-at.result in
     way_ends dir net c.args.node x t xs c.loop-at.flow.flows value c.requires.apart
-    (sym c.is_done.ensures ∙ c.if-not-is_done.false) r
+    (sym c.is_marked.ensures ∙ c.if-not-is_marked.false) r
     (subst (λ z. IsUnderWay dir net (just c.args.node) t xs z x c.loop-at.flow.flows) c.loop-at-test.false
     (c.loop-at.invariant.under_way r.feasible))

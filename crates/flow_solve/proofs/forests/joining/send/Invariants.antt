@@ -2,7 +2,7 @@
 use Rattle.flow_net.specs.Nets.{IsNode}
 use Rattle.flow_net.specs.NodeSets.{just}
 use Rattle.flow_net.specs.Flows.{Fits, IsFeasible}
-use Rattle.flow_solve.specs.Forests.{done_in}
+use Rattle.flow_solve.specs.Forests.{marked_in}
 use Rattle.flow_solve.specs.Steps.{PaysSteps}
 use Rattle.flow_solve.proofs.ForestLemmas.Joined.{IsUnderWay}
 use Rattle.flow_solve.proofs.forests.joining.send.Given as goal
@@ -11,8 +11,8 @@ abbrev pub invariant-loop-at : goal.invariant-loop-at
 invariant-loop-at l = record {
   fits : Fits l.ground.net.now l.flow.flows;
   at_node : IsNode l.ground.net.now l.at;
-  under_way : IsFeasible l.ground.net.now (just l.node) (done_in l.state) l.fn.flow.flows
-      → IsUnderWay l.ground.direction l.ground.net.now (just l.node) (done_in l.state) l.fn.flow.flows l.at
+  under_way : IsFeasible l.ground.net.now (just l.node) (marked_in l.done) l.fn.flow.flows
+      → IsUnderWay l.ground.direction l.ground.net.now (just l.node) (marked_in l.done) l.fn.flow.flows l.at
       l.initial.at l.flow.flows;
   paid : PaysSteps l.fn.flow l.fn.left l.flow l.left;
 }

@@ -6,9 +6,10 @@
 
 A wrong body is a file crates/CRATE/planted/NAME.edit, in the form of those in must-fail/: a line 'file:' and pairs of
 lines 'old:' and 'new:'. The gate tries each of must-fail/ in a check of its own. Here edits of different functions
-share one: callers go by contracts, so each function is still reported by itself. An edit whose function waits for the
-proof of another one is tried again in a later group. Each check also tries an edit that changes nothing, which has to
-get through, and sees that no goal failed of a function that was left as it is.
+share one: callers go by contracts, so each function is still reported by itself. Edits of one function are in different
+groups, and where it can be so those of one that calls another, which may wait for its proof; an edit that has waited
+is tried again in a later group. Each check also tries an edit that changes nothing, which has to get through, and sees
+that no goal failed of a function that was left as it is.
 
 What was refused is remembered, by the sums of all that it rests on, in the user's folder of caches.
 
@@ -16,8 +17,8 @@ After the gate --begin FOLDER names what the gate's own edits began with: --gath
 until it is ended, collects that out of the gate's temporary folder. Each check begins with that then, and reads the
 libraries that the gate has left in out/rlib; it is called as the gate calls it, since `rt check` builds libraries of
 its own, over which nothing of that holds. A crate of which nothing is collected, since the gate had kept its proof, is
-proved with the first group of its edits; where they are tried by two groups at once, once before these. Without --begin
-each group that comes first proves its crate. RT_JOBS checks run at a time.
+proved once before its groups, or with the only one. Without --begin the groups of a crate are tried one after another,
+and the first one proves it. RT_JOBS checks run at a time.
 
 The last line is 'planted: N passed, M failed'.
 """
@@ -29,7 +30,9 @@ import subprocess
 import sys
 import tempfile
 import time
+from collections import Counter
 from concurrent.futures import ThreadPoolExecutor
+from contextlib import ExitStack
 from pathlib import Path
 
 ROOT = Path(__file__).resolve().parent.parent
@@ -41,15 +44,18 @@ NAME_IS_GONE = re.compile(r"has no field|is not in scope|has no `|was not admitt
 # Where a function begins, an export for C among them.
 FUNCTION = re.compile(r'^ *(?:pub(?:\(\w+\))? )?(?:const )?(?:extern "C" )?fn (\w+)', re.M)
 REFUSED, WAITS, THROUGH = "refused", "waits", "through"
-# As many edits of a crate are tried one group after another; where there are more, by two at once, and so on.
-LANE = 48
+# What a function's text calls, by name.
+CALL = re.compile(r"\b(\w+)(?:::<[^()]*>)?\(")
+# The most edits of a group: more would keep one processor busy for longer than all others.
+MOST = 32
 
 
 class Edit:
-    """A wrong body: a file of the crate, what it changes there, and the function that this stands in."""
+    """A wrong body: a file of the crate, what it changes there, and the function that this stands in, with all that its
+    text calls."""
 
-    def __init__(self, name, file, pairs, function):
-        self.name, self.file, self.pairs, self.function = name, file, pairs, function
+    def __init__(self, name, file, pairs, function, calls=()):
+        self.name, self.file, self.pairs, self.function, self.calls = name, file, pairs, function, calls
 
     def within(self, text):
         """The text of the file with this edit, or None where the edit doesn't fit it."""
@@ -66,38 +72,63 @@ class Edit:
         return parts[-1] == self.function and parts[: len(modules) + 1] == [crate, *modules]
 
 
+    def calls_or_is_called(self, other):
+        """Whether the function of one of both calls that of the other, which then may wait for its proof."""
+        return other.function in self.calls or self.function in other.calls
+
+
 def function_at(text, place):
-    """The name of the function in which a place of a text stands."""
-    return FUNCTION.findall(text[: text.index("\n", place)])[-1]
+    """The name of the function in which a place of a text stands, and the names of what it calls."""
+    starts = [*FUNCTION.finditer(text)]
+    last = max(at for at, start in enumerate(starts) if start.start() <= text.index("\n", place))
+    end = starts[last + 1].start() if last + 1 < len(starts) else len(text)
+    return starts[last][1], {*CALL.findall(text[starts[last].end() : end])}
 
 
 def edits_of(crate):
-    """The edits of a crate, those of whatever function by turns: so groups are few."""
-    by_function = {}
+    """The edits of a crate."""
+    edits = []
     for path in sorted((ROOT / "crates" / crate / "planted").glob("*.edit")):
         said = path.read_text()
         file = re.search(r"^file: (.*)$", said, re.M)[1]
         pairs = re.findall(r"^old: (.*)\nnew: (.*)$", said, re.M)
         text = (ROOT / "crates" / crate / file).read_text()
-        edit = Edit(path.stem, file, pairs, function_at(text, text.find(pairs[0][0])))
-        by_function.setdefault((file, edit.function), []).append(edit)
-    most = max(map(len, by_function.values()), default=0)
-    return [edits[turn] for turn in range(most) for edits in by_function.values() if turn < len(edits)]
+        edits.append(Edit(path.stem, file, pairs, *function_at(text, text.find(pairs[0][0]))))
+    return edits
 
 
-def next_group(crate, edits):
-    """As many of the edits as can be tried at once, one of a function; the texts that they make; and the others."""
-    group, rest, texts, functions = [], [], {}, set()
-    for edit in edits:
-        text = texts.get(edit.file) or (ROOT / "crates" / crate / edit.file).read_text()
-        made = None if (edit.file, edit.function) in functions else edit.within(text)
-        if made is None:
-            rest.append(edit)
+class Group:
+    """Edits of a crate that are tried at once, no two of a function, and the texts that they make."""
+
+    def __init__(self, crate):
+        self.crate, self.edits, self.texts = crate, [], {}
+
+    def with_edit(self, edit):
+        """The text of the edit's file with it, beside the others, or None where it can't be tried beside them."""
+        if any((edit.file, edit.function) == (other.file, other.function) for other in self.edits):
+            return None
+        return edit.within(self.texts.get(edit.file) or (ROOT / "crates" / self.crate / edit.file).read_text())
+
+    def add(self, edit):
+        self.texts[edit.file] = self.with_edit(edit)
+        self.edits.append(edit)
+
+
+def groups_of(crate, edits):
+    """The edits in few groups that are about as large, and those that don't fit their file."""
+    of = lambda edit: (edit.file, edit.function)
+    turns = Counter(map(of, edits))
+    groups, misfits = [Group(crate) for _ in range(max([-(-len(edits) // MOST), *turns.values()]))], []
+    for edit in sorted(edits, key=lambda it: (-turns[of(it)], of(it))):
+        if Group(crate).with_edit(edit) is None:
+            misfits.append(edit)
             continue
-        functions.add((edit.file, edit.function))
-        texts[edit.file] = made
-        group.append(edit)
-    return group, texts, rest
+        rank = lambda group: (sum(map(edit.calls_or_is_called, group.edits)), len(group.edits))
+        fits = sorted((group for group in groups if group.with_edit(edit) is not None), key=rank)
+        if not fits:
+            groups.append(Group(crate))
+        (fits or groups[-1:])[0].add(edit)
+    return [group for group in groups if group.edits], misfits
 
 
 def verdict(edit, crate, functions, said):
@@ -231,63 +262,79 @@ def link_tree(one, other):
     shutil.copytree(one, other, copy_function=link)
 
 
-def lanes_of(crate):
-    """The edits of a crate that aren't known to be refused, by lanes that are tried side by side, what each is
-    remembered by, and how many are known."""
+def edits_to_try(crate):
+    """The edits of a crate that aren't known to be refused, what each is remembered by, and how many are known."""
     base = sum_of(crates_below()[crate]).hexdigest()
     edits = edits_of(crate)
     names = {edit: hashlib.sha256(f"{base} {edit.name} {edit.file} {edit.pairs}".encode()).hexdigest()
              for edit in edits}
     todo = [edit for edit in edits if not (CACHE / names[edit]).exists()]
-    lanes = -(-len(todo) // LANE)
-    return [todo[lane::lanes] for lane in range(lanes)], names, len(edits) - len(todo)
+    return todo, names, len(edits) - len(todo)
 
 
-def needs_proof(crate, begin, lanes):
-    """Whether a crate is proved before its lanes, lest each of them does that: nothing was collected of it."""
-    return bool(begin) and len(lanes) > 1 and not (begin / crate).is_dir()
+def needs_proof(crate, begin, groups):
+    """Whether a crate is proved before its groups, lest each of them does that: nothing was collected of it."""
+    return bool(begin) and len(groups) > 1 and not (begin / crate).is_dir()
 
 
 def prove(crate, begin):
-    """Proves a crate, and keeps what its lanes begin with."""
+    """Proves a crate, and keeps what its groups begin with."""
     with tempfile.TemporaryDirectory(prefix="flow-planted-") as folder:
         copy = Copy(crate, folder, begin)
         copy.check({})
         link_tree(copy.folder / "out" / "incremental", begin / crate)
 
 
-def try_lane(crate, begin, todo, names, proof):
-    """Tries edits of a crate, once a proof that they wait for is done, group after group; what is said, how many were
-    refused, how many not, and in how many checks."""
+class Tried:
+    """What came of edits: what is to be said, how many were refused, how many not, in how many checks, and which wait
+    for the proof of another function."""
+
+    def __init__(self):
+        self.said, self.refused, self.failed, self.checks, self.waiting = [], 0, 0, 0, []
+
+    def add(self, other):
+        for name in ("said", "refused", "failed", "checks", "waiting"):
+            setattr(self, name, getattr(self, name) + getattr(other, name))
+
+    def hear(self, crate, group, names, heard):
+        """Takes in what a check of a group said."""
+        functions = re.findall(r"^fn (\S+): (.*)$", heard, re.M)
+        wrong = faults(group.edits, crate, functions, heard)
+        results = [(edit, *verdict(edit, crate, functions, heard)) for edit in group.edits]
+        wrong += [f"{crate}/{edit.name} GOT THROUGH: {why}" for edit, came, why in results if came == THROUGH]
+        for edit, came, _ in results:
+            self.refused += came == REFUSED
+            if came == REFUSED and not wrong:
+                remember(names[edit])
+        self.waiting += [edit for edit, came, _ in results if came == WAITS]
+        self.said += wrong
+        self.failed += len(wrong)
+        self.checks += 1
+
+
+def try_groups(crate, begin, groups, names, proof=None, copy=None):
+    """Tries groups of a crate's edits one after another, once a proof that they wait for is done, in a copy that has
+    proved the crate already or in one of their own."""
     if proof:
         proof.result()
-    said, refused, failed, checks = [], 0, 0, 0
+    tried = Tried()
     with tempfile.TemporaryDirectory(prefix="flow-planted-") as folder:
-        copy = Copy(crate, folder, begin)
-        while todo:
-            group, texts, rest = next_group(crate, todo)
-            if not group:
-                said += [f"{crate}/{edit.name} doesn't fit its file" for edit in rest]
-                failed += len(rest)
-                break
-            heard, checks = copy.check(texts), checks + 1
-            functions = re.findall(r"^fn (\S+): (.*)$", heard, re.M)
-            wrong = faults(group, crate, functions, heard)
-            results = [(edit, *verdict(edit, crate, functions, heard)) for edit in group]
-            waiting = [edit for edit, came, _ in results if came == WAITS]
-            if len(waiting) == len(group):
-                wrong += [f"{crate}/{edit.name} waits for a function that isn't edited" for edit in waiting]
-                waiting = []
-            wrong += [f"{crate}/{edit.name} GOT THROUGH: {why}" for edit, came, why in results if came == THROUGH]
-            for edit, came, _ in results:
-                if came == REFUSED:
-                    refused += 1
-                    if not wrong:
-                        remember(names[edit])
-            said += wrong
-            failed += len(wrong)
-            todo = rest + waiting
-    return said, refused, failed, checks
+        copy = copy or Copy(crate, folder, begin)
+        for group in groups:
+            tried.hear(crate, group, names, copy.check(group.texts))
+    return tried
+
+
+def try_again(pool, crate, begin, tried, names, copy):
+    """Tries those of a crate's edits again that wait for the proof of another function, as long as fewer do so."""
+    while tried.waiting:
+        waited, tried.waiting = tried.waiting, []
+        groups, _ = groups_of(crate, waited)
+        tried.add(pool.submit(try_groups, crate, begin, groups, names, None, copy).result())
+        if len(tried.waiting) == len(waited):
+            tried.said += [f"{crate}/{edit.name} waits for a function that isn't edited" for edit in waited]
+            tried.failed += len(waited)
+            return
 
 
 def remember(name):
@@ -336,25 +383,34 @@ def main(words):
     if any(word not in crates for word in words):
         sys.exit(__doc__)
     passed = lacking = 0
-    found = [(crate, *lanes_of(crate)) for crate in crates]
-    # (where lanes wait for a proof of the crate, those of other crates go first; else the most edits take longest)
-    found.sort(key=lambda it: (needs_proof(it[0], begin, it[1]), -sum(map(len, it[1]))))
-    with ThreadPoolExecutor(int(os.environ.get("RT_JOBS") or 1)) as pool:
+    found = []
+    for crate in crates:
+        todo, names, known = edits_to_try(crate)
+        found.append((crate, *groups_of(crate, todo), names, known))
+    # (where groups wait for a proof of the crate, those of other crates go first; else the most edits take longest)
+    found.sort(key=lambda it: (needs_proof(it[0], begin, it[1]), -sum(len(group.edits) for group in it[1])))
+    with ExitStack() as kept, ThreadPoolExecutor(int(os.environ.get("RT_JOBS") or 1)) as pool:
         proofs = {it[0]: pool.submit(prove, it[0], begin) for it in found if needs_proof(it[0], begin, it[1])}
         started = []
-        for crate, lanes, names, known in found:
-            tried = [pool.submit(try_lane, crate, begin, lane, names, proofs.get(crate)) for lane in lanes]
-            started.append((crate, known, tried))
-        for crate, known, lanes in started:
-            refused, checks = known, 0
-            for lane in lanes:
-                said, more, failed, ran = lane.result()
-                print("\n".join([*said, ""]), end="")
-                refused, lacking, checks = refused + more, lacking + failed, checks + ran
-            told = [f"{refused} refused", *([f"{known} of them in earlier runs"] if known else []),
-                    *([f"{checks} checks"] if checks else [])]
+        for crate, groups, misfits, names, known in found:
+            parts, copy = [[group] for group in groups], None
+            if groups and not begin:
+                folder = kept.enter_context(tempfile.TemporaryDirectory(prefix="flow-planted-"))
+                parts, copy = [groups], Copy(crate, folder, None)
+            tried = [pool.submit(try_groups, crate, begin, part, names, proofs.get(crate), copy) for part in parts]
+            started.append((crate, misfits, names, known, tried, copy))
+        for crate, misfits, names, known, parts, copy in started:
+            tried = Tried()
+            tried.said = [f"{crate}/{edit.name} doesn't fit its file" for edit in misfits]
+            tried.failed = len(misfits)
+            for part in parts:
+                tried.add(part.result())
+            try_again(pool, crate, begin, tried, names, copy)
+            print("\n".join([*tried.said, ""]), end="")
+            told = [f"{known + tried.refused} refused", *([f"{known} of them in earlier runs"] if known else []),
+                    *([f"{tried.checks} checks"] if tried.checks else [])]
             print(f"{crate}: {', '.join(told)}", flush=True)
-            passed += refused
+            passed, lacking = passed + known + tried.refused, lacking + tried.failed
     for name in missing():
         print(f"docs/PLANTED.md names {name}, which isn't kept")
         lacking += 1

@@ -10,7 +10,6 @@ ghost use Rattle.flow_net.specs.Flows.{Fits};
 ghost use Rattle.flow_net.specs.Connectivity.{leaving, IsProper};
 ghost use Rattle.flow_net.specs.LeastCuts.{IsConnectivity, IsPairConnectivity};
 ghost use Rattle.flow_solve.specs.Bounds.{work_cells};
-ghost use Rattle.flow_tools.specs.connecting.Counts.{next_node};
 
 pub(crate) mod answers;
 mod order;
@@ -41,14 +40,6 @@ fn pair_value<M: Method>(
     M::greatest_flow(net, s, t, flow, work) as u64
 }
 
-/// The node that follows a node in the circle of all nodes.
-fn next_of(net: &Network, v: u32) -> u32
-    requires { IsNode net.now v }
-    ensures { result ≡ next_node net.now.nodes v }
-{
-    if v == net.nodes() { 1 } else { v + 1 }
-}
-
 /// The connectivity, by a solve from each node to the next in the circle of all nodes: a set that is neither empty nor
 /// all has a node inside whose next is outside.
 fn least_around<M: Method>(
@@ -68,12 +59,13 @@ fn least_around<M: Method>(
 {
     let n = net.nodes();
     let mut least = known;
+    let mut before = n;
     for v in 1..n + 1 {
-        let next = next_of(net, v);
-        let source = [v];
-        let sink = [next];
+        let source = [before];
+        let sink = [v];
         let value = pair_value::<M>(net, &source, &sink, flow, cells);
         least = least.min(value);
+        before = v;
     }
     least
 }

@@ -28,7 +28,7 @@ use Rattle.flow_tools.specs.declared.checking.sharing.ArcPlace.{ArcPlace}
 use Rattle.flow_tools.specs.declared.checking.sharing.TheConstants.{NODE_NUMBERS}
 use Rattle.flow_tools.proofs.checking.LineSums.{line_flow_more, line_flow-take-drop, line_flow_none}
 use Rattle.flow_tools.proofs.checking.LineSums.{line_flow-IsPermutation}
-use Rattle.flow_tools.proofs.checking.ArcSums.{full_over, set_more, more_twice, more_none, yes_step, no_step}
+use Rattle.flow_tools.proofs.checking.ArcSums.{full_over, set_more, more_twice, yes_step, no_step}
 
 -- ---- places in order
 

@@ -1,102 +1,93 @@
--- The connectivity by the nodes in a circle, and of two nodes.
-use Rattle.std.proofs.Common.{◌≡◌, ℕ, zero, suc, ◌+◌, ◌-◌, ◌*◌, ◌≤◌, ◌<◌, ◌⊎◌, Bool, true, false, cond}
-use Rattle.std.proofs.Common.{eqb, List, [], ◌∷◌, refl, ◌∙◌, sym, ap, subst, inl, inr, eq-eqb, arith}
-use Rattle.std.specs.List.{AllByRecursion, count_by}
+-- The connectivity by solves round a circle of all nodes. Round it no set with fewer arcs out of it than the least value
+-- has a node inside whose next is outside: so it has all nodes or none.
+use Rattle.std.proofs.Common.{◌≡◌, ℕ, ◌+◌, ◌-◌, ◌*◌, ◌≤◌, ◌<◌, ◌⊎◌, Bool, true, false}
+use Rattle.std.proofs.Common.{eqb, [], ◌∷◌, refl, ◌∙◌, sym, ap, inl, inr, eq-eqb, arith}
 use Rattle.std.proofs.Math.Nat.{mul-le-mul_right}
 use Rattle.std.proofs.lemmas.Bool.{cases_Bool, cases_eq, cases_lt, false≢true, ne_eqb}
-use Rattle.std.proofs.lemmas.List.Sums.{sum_by-cons}
-use Rattle.std.proofs.lemmas.List.Elements.{recursion_from_All}
-use Rattle.flow_net.specs.declared.networks.Arc.{Arc}
 use Rattle.flow_net.specs.Nets.{Net, IsNode}
-use Rattle.flow_net.specs.Limits.{IsNet, IsArcWithin}
-use Rattle.flow_net.specs.NodeSets.{just}
-use Rattle.flow_net.specs.Cuts.{leaves}
+use Rattle.flow_net.specs.NodeSets.{one_of}
+use Rattle.flow_net.specs.Cuts.{IsCut}
 use Rattle.flow_net.specs.Connectivity.{leaving, IsProper}
 use Rattle.flow_net.specs.LeastCuts.{IsConnectivity, IsPairConnectivity}
-use Rattle.flow_net.proofs.Connections.{cut_of_two}
-use Rattle.flow_tools.specs.connecting.Counts.{next_node, IsBelowNext}
 
--- between a node inside a set and a later one outside there is one inside whose next is outside
-first_out : (X : ℕ → Bool) (a d : ℕ) → X a ≡ true → X (a + d) ≡ false
-    → (v : ℕ) × (a ≤ v) × (v < a + d) × (X v ≡ true) × (X (v + 1) ≡ false)
-first_out X a zero i o = let e : a + 0 ≡ a = omega arith in absurd (false≢true (sym o ∙ ap X e ∙ i))
-first_out X a (suc d) i o = elim (cases_Bool (X (a + d))) [
-  | inl e ↦ (let f : a + d + 1 ≡ a + suc d = omega arith in (a + d, omega arith, omega arith, e, ap X f ∙ o))
-  | inr e ↦ (let r = first_out X a d i e in (r.0, r.1, omega (arith, r.2), r.3, r.4))
+-- ---- pairs of nodes
+
+-- the set of a list of one node
+only_one : (u v : ℕ) → one_of (u ∷ []) v ≡ true → v ≡ u
+only_one u v h = elim (cases_eq u v) [
+  | inl e ↦ sym e
+  | inr n ↦ (let p : eqb u v ≡ false = ne_eqb u v n in absurd (false≢true (rw p at h)))
 ]
 
--- between a node inside and a later one outside some node inside has its successor outside
-pub out_between : (X : ℕ → Bool) (a b : ℕ) → a < b → X a ≡ true → X b ≡ false
-    → (v : ℕ) × (a ≤ v) × (v < b) × (X v ≡ true) × (X (v + 1) ≡ false)
-out_between X a b l i o =
-    let r = first_out X a (b - a) i (ap X (omega arith) ∙ o) in
-    (r.0, r.1, omega (arith, r.2), r.3, r.4)
+the_one : (u : ℕ) → one_of (u ∷ []) u ≡ true
+the_one u = let p : eqb u u ≡ true = eq-eqb u u refl in rw p refl
 
--- the next of the last node is node 1, that of any other its successor
-next_inner : (n v : ℕ) → v < n → next_node n v ≡ v + 1
-next_inner n v l = let e : eqb v n ≡ false = ne_eqb v n (λ f. absurd (omega arith)) in ap (λ b. cond b 1 (v + 1)) e
-
-next_last : (n v : ℕ) → v ≡ n → next_node n v ≡ 1
-next_last n v f = ap (λ b. cond b 1 (v + 1)) (eq-eqb v n f)
-
--- in the circle of all nodes some node inside has a next outside
-pub out_around : (net : Net) (X : ℕ → Bool) → IsProper net X
-    → (v : ℕ) × IsNode net v × (X v ≡ true) × (X (next_node net.nodes v) ≡ false)
-out_around net X p = elim (cases_lt p.inside.0 p.outside.0) [
-  | inl l ↦ inner (out_between X p.inside.0 p.outside.0 l p.inside.3 p.outside.3) p.inside.1 p.outside.2
-  | inr g ↦ elim (cases_Bool (X net.nodes)) [
-    | inl last ↦ elim (cases_Bool (X 1)) [
-      | inl one ↦ inner (out_between X 1 p.outside.0 (above one) one p.outside.3) (omega arith) p.outside.2
-      | inr one ↦ (net.nodes, (some, omega arith), last, ap X (next_last net.nodes net.nodes refl) ∙ one)
-    ]
-    | inr last ↦ inner (out_between X p.inside.0 net.nodes (below last) p.inside.3 last) p.inside.1 (omega arith)
-  ]
-]
-  where
-    some : 1 ≤ net.nodes
-    some = let a = p.inside.1 in let b = p.inside.2 in omega arith
-
-    above : X 1 ≡ true → 1 < p.outside.0
-    above one = elim (cases_eq p.outside.0 1) [
-      | inl e ↦ absurd (false≢true (sym p.outside.3 ∙ ap X e ∙ one))
-      | inr d ↦ (let a = p.outside.1 in omega arith)
-    ]
-
-    below : X net.nodes ≡ false → p.inside.0 < net.nodes
-    below last = elim (cases_eq p.inside.0 net.nodes) [
-      | inl e ↦ absurd (false≢true (sym last ∙ sym (ap X e) ∙ p.inside.3))
-      | inr d ↦ (let a = p.inside.2 in omega arith)
-    ]
-
-    inner : {a b : ℕ} → ((v : ℕ) × (a ≤ v) × (v < b) × (X v ≡ true) × (X (v + 1) ≡ false)) → 1 ≤ a → b ≤ net.nodes
-        → (v : ℕ) × IsNode net v × (X v ≡ true) × (X (next_node net.nodes v) ≡ false)
-    inner r low high =
-        (r.0, (omega (arith, r.1), omega (arith, r.2)), r.3, ap X (next_inner net.nodes r.0 (omega (arith, r.2))) ∙ r.4)
-
--- a number that some proper set has, and that is below each node with the next
-pub connected_around : (net : Net) (k : ℕ) → ((X : ℕ → Bool) × IsProper net X × (leaving net X ≡ k))
-    → ((v : ℕ) → 1 ≤ v → v < net.nodes + 1 → IsBelowNext net k v) → IsConnectivity net k
-connected_around net k r below = record {
-  reached = r;
-  least = λ X p.
-      (let v = out_around net X p in
-      below v.0 v.1.0 (omega (arith, v.1.1)) X (cut_of_two X v.0 (next_node net.nodes v.0) v.2 v.3));
+-- a set that has one node and not another is a cut of the two, and a cut of two nodes is neither empty nor all
+cut_of_pair : (u v : ℕ) (X : ℕ → Bool) → X u ≡ true → X v ≡ false → IsCut (one_of (u ∷ [])) (one_of (v ∷ [])) X
+cut_of_pair u v X i o = record {
+  sources = λ w h. ap X (only_one u w h) ∙ i;
+  sinks = λ w h. ap X (only_one v w h) ∙ o;
 }
 
--- the next of a node is another node
-pub next_is_node : (net : Net) (v : ℕ) → IsNet net → IsNode net v → IsNode net (next_node net.nodes v)
-next_is_node net v n at = elim (cases_eq v net.nodes) [
-  | inl e ↦ (let two = n.nodes_least in let f = next_last net.nodes v e in (omega (arith, f), omega (arith, f)))
-  | inr d ↦ (let l = at.1 in let f = next_inner net.nodes v (omega arith) in (omega (arith, f), omega (arith, f)))
-]
+pub pair_is_proper : (net : Net) (u v k : ℕ) → IsNode net u → IsNode net v
+    → IsPairConnectivity net (one_of (u ∷ [])) (one_of (v ∷ [])) k
+    → (X : ℕ → Bool) × IsProper net X × (leaving net X ≡ k)
+pair_is_proper net u v k a b p =
+    let cut = p.reached.1 in (
+      p.reached.0,
+      record { inside = (u, a.0, a.1, cut.sources u (the_one u)); outside = (v, b.0, b.1, cut.sinks v (the_one v)) },
+      p.reached.2,
+    )
 
--- the connectivity of a node and its next is no more than any set that parts them; nor is a lesser number
-pub below_next : (net : Net) (k m v : ℕ) → k ≤ m → IsPairConnectivity net (just v) (just (next_node net.nodes v)) m
-    → IsBelowNext net k v
-below_next net k m v l p X c = omega (arith, p.least X c)
+-- ---- round the circle
 
-pub below_next_less : (net : Net) (k m v : ℕ) → k ≤ m → IsBelowNext net m v → IsBelowNext net k v
-below_next_less net k m v l b X c = omega (arith, b X c)
+-- The circle has been gone round from the last node to the one before v. A set with fewer than k arcs out of it that has
+-- the last node has all nodes so far; and one that has any of those from 1 on has the one before v.
+pub record IsRound (net : Net) (k before v : ℕ) : Type 0 where
+  pub from_last : (X : ℕ → Bool) → leaving net X < k → X net.nodes ≡ true → (w : ℕ) → 1 ≤ w → w < v → X w ≡ true
+  pub still_last : (X : ℕ → Bool) → leaving net X < k → X net.nodes ≡ true → X before ≡ true
+  pub up_to : (X : ℕ → Bool) → leaving net X < k → (w : ℕ) → 1 ≤ w → w < v → X w ≡ true → X before ≡ true
+
+pub round_begins : (net : Net) (k : ℕ) → IsRound net k net.nodes 1
+round_begins net k = record {
+  from_last = λ X few h w a l. absurd (omega (arith, a, l));
+  still_last = λ X few h. h;
+  up_to = λ X few w a l h. absurd (omega (arith, a, l));
+}
+
+pub round_on : (net : Net) (k m before v value : ℕ) → k ≤ m → k ≤ value → IsRound net m before v
+    → IsPairConnectivity net (one_of (before ∷ [])) (one_of (v ∷ [])) value → IsRound net k v (v + 1)
+round_on net k m before v value low lower r p = record {
+  from_last = λ X few h w a l. elim (cases_eq w v) [
+    | inl e ↦ ap X e ∙ next X few (r.still_last X (omega (arith, few, low)) h)
+    | inr n ↦ r.from_last X (omega (arith, few, low)) h w a (omega arith)
+  ];
+  still_last = λ X few h. next X few (r.still_last X (omega (arith, few, low)) h);
+  up_to = λ X few w a l h. elim (cases_eq w v) [
+    | inl e ↦ sym (ap X e) ∙ h
+    | inr n ↦ next X few (r.up_to X (omega (arith, few, low)) w a (omega arith) h)
+  ];
+}
+  where
+    next : (X : ℕ → Bool) → leaving net X < k → X before ≡ true → X v ≡ true
+    next X few i = elim (cases_Bool (X v)) [
+      | inl in_ ↦ in_
+      | inr out ↦ absurd (omega (arith, few, lower, p.least X (cut_of_pair before v X i out)))
+    ]
+
+pub connected_around : (net : Net) (k before v : ℕ) → before ≡ net.nodes → v ≡ net.nodes + 1
+    → ((X : ℕ → Bool) × IsProper net X × (leaving net X ≡ k)) → IsRound net k before v → IsConnectivity net k
+connected_around net k before v e f reached r = record {
+  reached = reached;
+  least = λ X p. elim (cases_lt (leaving net X) k) [
+    | inr least ↦ least
+    | inl few ↦
+        let a = p.inside in
+        let b = p.outside in
+        let last = sym (ap X e) ∙ r.up_to X few a.0 a.1 (omega (arith, a.2, f)) a.3 in
+        absurd (false≢true (sym b.3 ∙ r.from_last X few last b.0 b.1 (omega (arith, b.2, f))))
+  ];
+}
 
 -- ---- steps
 

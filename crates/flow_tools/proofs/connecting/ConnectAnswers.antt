@@ -1,5 +1,5 @@
 -- The connectivity of a problem's network, from that of the network in which a flow counts arcs.
-use Rattle.std.proofs.Common.{◌≡◌, ℕ, Bool, true, false, cond, List, refl, sym, subst, inl, inr, ◌≤◌}
+use Rattle.std.proofs.Common.{◌≡◌, ℕ, Bool, true, false, cond, List, refl, sym, subst, inl, inr}
 use Rattle.std.proofs.Common.{◌++◌, map, ap, ◌∙◌}
 use Rattle.std.proofs.lemmas.List.{map-append}
 use Rattle.std.proofs.lemmas.Simd.{map-map}
@@ -8,7 +8,7 @@ use Rattle.std.proofs.lemmas.List.Elements.{All-map, All-from_get_or}
 use Rattle.flow_net.specs.Nets.{Net, Instance, IsNode}
 use Rattle.flow_net.specs.Arrangements.{named}
 use Rattle.flow_net.specs.Arcs.{no_arc}
-use Rattle.flow_net.specs.Limits.{IsNet, IsProblem, AreTerminals}
+use Rattle.flow_net.specs.Limits.{IsNet, IsProblem}
 use Rattle.flow_net.specs.DerivedNets.{unit, unit_arc, reversed, both_ways}
 use Rattle.flow_net.specs.NodeSets.{one_of, IsLeastOver}
 use Rattle.flow_net.specs.LeastCuts.{IsConnectivity, IsPairConnectivity}

@@ -1,6 +1,6 @@
 //! Whether a problem is arranged before the connectivity of its network is looked for: a guess that costs or saves
 //! time, and no more.
-ghost use Rattle.std.specs.Prelude.{◌≡◌, length, IfOk};
+ghost use Rattle.std.specs.Prelude.{◌≡◌, ◌+◌, length, IfOk};
 ghost use Rattle.flow_tools.specs.solving.ArrangedProblems.{IsSameOrArranged};
 
 use crate::cells::filled;
@@ -12,18 +12,18 @@ use std::alloc::Global;
 /// none, and that takes less than to arrange the network.
 const LEAST_ARRANGED: u8 = 3;
 
-/// Counts the arcs that leave and that enter each node, self-loops left out, as far as a byte goes.
-fn count_few(net: &Network, leaving: &mut [u8], entering: &mut [u8])
-    requires leaving { length leaving.old ≡ net.now.nodes }
-    requires entering { length entering.old ≡ net.now.nodes }
+/// Counts the arcs at each node, self-loops left out, as far as a byte goes: those that leave it, and so many cells
+/// further on those that enter it.
+fn count_few(net: &Network, counts: &mut [u8], shift: usize)
+    requires { shift + net.now.nodes ≡ length counts.old }
 {
     for i in 0..net.len() {
         let arc = net.arc(i);
         let src = arc.src as usize - 1;
-        let dst = arc.dst as usize - 1;
-        if src != dst {
-            leaving[src] = leaving[src].saturating_add(1);
-            entering[dst] = entering[dst].saturating_add(1);
+        let dst = shift + arc.dst as usize - 1;
+        if arc.src != arc.dst {
+            counts[src] = counts[src].saturating_add(1);
+            counts[dst] = counts[dst].saturating_add(1);
         }
     }
 }
@@ -32,19 +32,11 @@ fn count_few(net: &Network, leaving: &mut [u8], entering: &mut [u8])
 /// both together.
 fn has_few(alloc: Global, net: &Network, undirected: bool) -> Result<bool, OutOfMemory> {
     let n = net.nodes() as usize;
-    let mut leaving = filled(alloc, 0u8, n)?;
-    let mut entering = filled(alloc, 0u8, n)?;
-    let leaving = leaving.as_mut_slice();
-    let entering = entering.as_mut_slice();
-    count_few(net, leaving, entering);
-    for place in 0..n {
-        let (out, into) = (leaving[place], entering[place]);
-        let count = if undirected {
-            out.saturating_add(into)
-        } else {
-            out.min(into)
-        };
-        if count < LEAST_ARRANGED {
+    let shift = if undirected { 0 } else { n };
+    let mut counts = filled(alloc, 0u8, shift + n)?;
+    count_few(net, counts.as_mut_slice(), shift);
+    for count in counts.as_slice() {
+        if *count < LEAST_ARRANGED {
             return Ok(true);
         }
     }

@@ -150,8 +150,8 @@ fn is_scattered_arranged(alloc: Global, seed: u64) -> Option<bool> {
 fn answer(alloc: Global, job: Job, problem: &[u8], solution: &[u8]) -> Option<Vec<u8>> {
     let mut out: Vec<u8> = Vec::new(alloc);
     let mut err: Vec<u8> = Vec::new(alloc);
-    let status = run_on_texts(alloc, job, problem, solution, &mut out, &mut err).ok()?;
-    if status == 0 { Some(out) } else { None }
+    let ended = run_on_texts(alloc, job, problem, solution, &mut out, &mut err);
+    if ended == Ok(0) { Some(out) } else { None }
 }
 
 /// Whether each flow line stands where the arc of its two nodes stands in the scattered problem.
@@ -211,6 +211,27 @@ fn arranged_problems_are_in_order(rt: HostRuntime) -> Result<(), Fail> {
     Ok(())
 }
 
+/// Whether each job answers two problems alike, and well.
+fn are_alike(alloc: Global, ordered: &[u8], scattered: &[u8]) -> bool {
+    for job in JOBS {
+        let answered = answer(alloc, job, ordered, b"");
+        if answered.is_none() || answered != answer(alloc, job, scattered, b"") {
+            return false;
+        }
+    }
+    true
+}
+
+/// Whether the flow that is found of the scattered problem is told in its order, and is greatest in both.
+fn is_solved(alloc: Global, seed: u64, ordered: &[u8], scattered: &[u8]) -> bool {
+    let Some(solution) = answer(alloc, SOLVE, scattered, b"") else {
+        return false;
+    };
+    follows_the_file(alloc, seed, solution.as_slice()) == Some(true)
+        && answer(alloc, CHECK, ordered, solution.as_slice()).is_some()
+        && answer(alloc, CHECK, scattered, solution.as_slice()).is_some()
+}
+
 /// The values and the cuts are the same, and a flow found in the arranged network is told by lines in the file's own
 /// names and order, and greatest there.
 #[test]
@@ -219,21 +240,8 @@ fn files_in_no_order_are_answered_as_those_in_order(rt: HostRuntime) -> Result<(
     for seed in 0..4 {
         let ordered = problem_text(alloc, seed, 1)?;
         let scattered = problem_text(alloc, seed, FAR_STEP)?;
-        for job in JOBS {
-            let here = answer(alloc, job, ordered.as_slice(), b"");
-            let there = answer(alloc, job, scattered.as_slice(), b"");
-            assert!(rt; here.is_some());
-            assert_eq!(rt; here, there);
-        }
-        let solution = answer(alloc, SOLVE, scattered.as_slice(), b"").unwrap_or(Vec::new(alloc));
-        assert_eq!(rt;
-            follows_the_file(alloc, seed, solution.as_slice()),
-            Some(true)
-        );
-        for problem in [ordered.as_slice(), scattered.as_slice()] {
-            let verdict = answer(alloc, CHECK, problem, solution.as_slice());
-            assert!(rt; verdict.is_some());
-        }
+        assert!(rt; are_alike(alloc, ordered.as_slice(), scattered.as_slice()));
+        assert!(rt; is_solved(alloc, seed, ordered.as_slice(), scattered.as_slice()));
     }
     Ok(())
 }

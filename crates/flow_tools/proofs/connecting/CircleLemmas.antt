@@ -1,5 +1,5 @@
--- The connectivity by solves round a circle of all nodes. Round it no set with fewer arcs out of it than the least value
--- has a node inside whose next is outside: so it has all nodes or none.
+-- The connectivity by solves round a circle of all nodes. Round it no set with fewer arcs out of it than the least
+-- value has a node inside whose next is outside: so it has all nodes or none.
 use Rattle.std.proofs.Common.{◌≡◌, ℕ, ◌+◌, ◌-◌, ◌*◌, ◌≤◌, ◌<◌, ◌⊎◌, Bool, true, false}
 use Rattle.std.proofs.Common.{eqb, [], ◌∷◌, refl, ◌∙◌, sym, ap, inl, inr, eq-eqb, arith}
 use Rattle.std.proofs.Math.Nat.{mul-le-mul_right}
@@ -41,8 +41,8 @@ pair_is_proper net u v k a b p =
 
 -- ---- round the circle
 
--- The circle has been gone round from the last node to the one before v. A set with fewer than k arcs out of it that has
--- the last node has all nodes so far; and one that has any of those from 1 on has the one before v.
+-- The circle has been gone round from the last node to the one before v. A set with fewer than k arcs out of it that
+-- has the last node has all nodes so far; and one that has any of those from 1 on has the one before v.
 pub record IsRound (net : Net) (k before v : ℕ) : Type 0 where
   pub from_last : (X : ℕ → Bool) → leaving net X < k → X net.nodes ≡ true → (w : ℕ) → 1 ≤ w → w < v → X w ≡ true
   pub still_last : (X : ℕ → Bool) → leaving net X < k → X net.nodes ≡ true → X before ≡ true

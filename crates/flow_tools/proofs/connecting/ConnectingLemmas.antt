@@ -1,7 +1,5 @@
 -- Where every capacity is 1, the value of a solve is the connectivity of a pair.
-use Rattle.std.proofs.Common.{◌≡◌, ℕ, ◌≤◌, Bool, List, []}
-use Rattle.std.proofs.Common.{◌∷◌, length, map, refl, sym, ap, subst}
-use Rattle.std.proofs.Common.{arith}
+use Rattle.std.proofs.Common.{◌≡◌, ℕ, ◌≤◌, Bool, List, [], ◌∷◌, length, map, refl, sym, ap, subst, arith}
 use Rattle.std.specs.List.{All, AllByRecursion}
 use Rattle.std.proofs.lemmas.List.Elements.{recursion_from_All}
 use Rattle.std.proofs.lemmas.List.Sums.{count_by-le-length}
@@ -9,8 +7,7 @@ use Rattle.flow_net.specs.declared.networks.Arc.{Arc}
 use Rattle.flow_net.specs.Nets.{Net}
 use Rattle.flow_net.specs.DerivedNets.{unit, unit_arc}
 use Rattle.flow_net.specs.Cuts.{leaves}
-use Rattle.flow_net.specs.LeastCuts.{IsLeastCapacity}
-use Rattle.flow_net.specs.LeastCuts.{IsPairConnectivity}
+use Rattle.flow_net.specs.LeastCuts.{IsLeastCapacity, IsPairConnectivity}
 use Rattle.flow_net.proofs.Connections.{pair_by_solve}
 
 -- where every capacity is 1, the network with capacities of 1 is the network itself

@@ -47,7 +47,7 @@ REFUSED, WAITS, THROUGH = "refused", "waits", "through"
 # What a function's text calls, by name.
 CALL = re.compile(r"\b(\w+)(?:::<[^()]*>)?\(")
 # The most edits of a group: more would keep one processor busy for longer than all others.
-MOST = 32
+MOST = 24
 
 
 class Edit:

@@ -188,12 +188,12 @@ def refused_growths(folder):
     # For its connectivity it is arranged in cells of their own, which are free again before a solver asks for its own.
     more = made["connect", scattered] - made["connect", in_order]
     check("a file in no order asks for four lists and cells more", more == 5, more)
-    # Before that the arcs that leave each node are counted and those that enter it, and then the nodes that links lead
-    # to; where they lead anywhere it stays as it is.
+    # Before that the arcs at each node are counted, in one row, and then the nodes that links lead to; where they lead
+    # anywhere it stays as it is.
     more = made["connect", near_scattered] - made["connect", near]
-    check("a scattered file with short links asks for four lists, cells and three counts more", more == 8, more)
+    check("a scattered file with short links asks for four lists, cells and two counts more", more == 7, more)
     more = made["connect", far_scattered] - made["connect", far]
-    check("a scattered file with links that lead anywhere asks for three counts more", more == 3, more)
+    check("a scattered file with links that lead anywhere asks for two counts more", more == 2, more)
 
 
 def refused_calls(folder):

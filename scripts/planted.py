@@ -71,7 +71,6 @@ class Edit:
         parts = path.split("::")
         return parts[-1] == self.function and parts[: len(modules) + 1] == [crate, *modules]
 
-
     def calls_or_is_called(self, other):
         """Whether the function of one of both calls that of the other, which then may wait for its proof."""
         return other.function in self.calls or self.function in other.calls
@@ -114,21 +113,32 @@ class Group:
         self.edits.append(edit)
 
 
-def groups_of(crate, edits):
-    """The edits in few groups that are about as large, and those that don't fit their file."""
+def spread(crate, edits, count):
+    """The edits in so many groups that are about as large, and how many pairs of a group may wait for each other. There
+    are at least as many groups as a function has edits."""
     of = lambda edit: (edit.file, edit.function)
     turns = Counter(map(of, edits))
-    groups, misfits = [Group(crate) for _ in range(max([-(-len(edits) // MOST), *turns.values()]))], []
+    groups, pairs = [Group(crate) for _ in range(count)], 0
     for edit in sorted(edits, key=lambda it: (-turns[of(it)], of(it))):
-        if Group(crate).with_edit(edit) is None:
-            misfits.append(edit)
-            continue
-        rank = lambda group: (sum(map(edit.calls_or_is_called, group.edits)), len(group.edits))
-        fits = sorted((group for group in groups if group.with_edit(edit) is not None), key=rank)
+        waits = lambda group: sum(map(edit.calls_or_is_called, group.edits))
+        fits = [group for group in groups if group.with_edit(edit) is not None]
         if not fits:
             groups.append(Group(crate))
-        (fits or groups[-1:])[0].add(edit)
-    return [group for group in groups if group.edits], misfits
+        group = min(fits or groups[-1:], key=lambda it: (waits(it), len(it.edits)))
+        pairs += waits(group)
+        group.add(edit)
+    return [group for group in groups if group.edits], pairs
+
+
+def groups_of(crate, edits):
+    """The edits in groups that take few checks, and those that don't fit their file. Edits that wait take a check more,
+    and each of them about a third of one."""
+    fit = [edit for edit in edits if Group(crate).with_edit(edit) is not None]
+    turns = Counter((edit.file, edit.function) for edit in fit)
+    fewest = max([1, -(-len(fit) // MOST), *turns.values()])
+    found = [spread(crate, fit, count) for count in range(fewest, fewest + 4)]
+    groups, _ = min(found, key=lambda it: len(it[0]) + (1 + it[1] / 3 if it[1] else 0))
+    return groups, [edit for edit in edits if edit not in fit]
 
 
 def verdict(edit, crate, functions, said):

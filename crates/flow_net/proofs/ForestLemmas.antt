@@ -2,8 +2,7 @@
 use Rattle.std.proofs.Common.{◌≡◌, ℕ, zero, suc, ◌+◌, ◌-◌, ◌≤◌, ◌<◌, Bool, true, false, cond, not, ◌&&◌}
 use Rattle.std.proofs.Common.{List, [], ◌∷◌, length, map, get_or, refl, ◌∙◌, sym, ap, inl, inr, ◌⊎◌, arith}
 use Rattle.std.specs.List.{count_by}
-use Rattle.std.proofs.lemmas.Bool.{cases_Bool, cases_lt, eqb-true, or_cases, or_left, or_right}
-use Rattle.std.proofs.lemmas.Bool.{false≢true}
+use Rattle.std.proofs.lemmas.Bool.{cases_Bool, cases_lt, eqb-true, false≢true}
 use Rattle.std.proofs.lemmas.List.Sums.{sum_by-cons}
 use Rattle.flow_net.specs.declared.networks.Arc.{Arc}
 use Rattle.flow_net.specs.Nets.{Net, IsNode, arc_at}
@@ -14,20 +13,20 @@ use Rattle.flow_net.specs.NodeSets.{just}
 use Rattle.flow_net.specs.Flows.{IsFeasible, HasValue}
 use Rattle.flow_net.specs.Cuts.{leaves, IsCut}
 use Rattle.flow_net.specs.Connectivity.{leaving, crossing, IsProper}
-use Rattle.flow_net.specs.Forests.{entering, count_marked, marked_entering, IsEntered, AreEntered, HasSpread, also}
+use Rattle.flow_net.specs.Forests.{entering, count_marked, marked_entering, IsEntered, AreEntered, HasSpread}
 use Rattle.flow_net.specs.Forests.{ForestSteps, turned, IsEven, IsEitherWay}
 use Rattle.flow_net.specs.LeastCuts.{IsConnectivity, IsUndirectedConnectivity}
 use Rattle.flow_net.proofs.KeptLimits.{IsNet-unit, IsNet-map}
 use Rattle.flow_net.proofs.Zips.{arc_within}
 use Rattle.flow_net.proofs.Cuts.{weak_duality}
-use Rattle.flow_net.proofs.Connections.{capacity-unit, just_self, leaving-both_ways}
+use Rattle.flow_net.proofs.Connections.{capacity-unit, leaving-both_ways}
 use Rattle.flow_net.proofs.Complements.{count_by_agree, leaves_others, enters_others, leaving_turned}
 
 -- more marks, more marked arcs
 le_step : (p m w : Bool) (k l : ℕ) → (m ≡ true → w ≡ true) → k ≤ l → cond (p && m) 1 0 + k ≤ cond (p && w) 1 0 + l
 le_step p m w k l s h = grind arith
 
-pub count_marked-le : (p : Arc → Bool) (arcs : List Arc) (u w : ℕ → Bool) → ((i : ℕ) → u i ≡ true → w i ≡ true)
+count_marked-le : (p : Arc → Bool) (arcs : List Arc) (u w : ℕ → Bool) → ((i : ℕ) → u i ≡ true → w i ≡ true)
     → count_marked p arcs u ≤ count_marked p arcs w
 count_marked-le p [] u w s = omega arith
 count_marked-le p (a ∷ arcs) u w s =
@@ -41,7 +40,7 @@ new_step p m w k l a b c h = grind arith
 later_step : (p m w : Bool) (k l : ℕ) → (m ≡ true → w ≡ true) → k < l → cond (p && m) 1 0 + k < cond (p && w) 1 0 + l
 later_step p m w k l s h = grind arith
 
-pub count_marked-more : (p : Arc → Bool) (arcs : List Arc) (u w : ℕ → Bool) (i : ℕ) → i < length arcs
+count_marked-more : (p : Arc → Bool) (arcs : List Arc) (u w : ℕ → Bool) (i : ℕ) → i < length arcs
     → p (get_or arcs i no_arc) ≡ true → u i ≡ false → w i ≡ true → ((j : ℕ) → u j ≡ true → w j ≡ true)
     → count_marked p arcs u < count_marked p arcs w
 count_marked-more p [] u w i l t o n s = absurd (omega arith)
@@ -56,7 +55,7 @@ count_marked-more p (a ∷ arcs) u w (suc i) l t o n s =
 all_step : (p m : Bool) (k l : ℕ) → k ≤ l → cond (p && m) 1 0 + k ≤ cond p 1 0 + l
 all_step p m k l h = grind arith
 
-pub count_marked-all : (p : Arc → Bool) (arcs : List Arc) (u : ℕ → Bool) → count_marked p arcs u ≤ count_by p arcs
+count_marked-all : (p : Arc → Bool) (arcs : List Arc) (u : ℕ → Bool) → count_marked p arcs u ≤ count_by p arcs
 count_marked-all p [] u = omega arith
 count_marked-all p (a ∷ arcs) u =
     rw (sum_by-cons (λ b. cond (p b) 1 0) a arcs)
@@ -66,7 +65,7 @@ count_marked-all p (a ∷ arcs) u =
 pub leaving_others : (net : Net) (Y : ℕ → Bool) → leaving net (λ v. not (Y v)) ≡ entering net Y
 leaving_others net Y = count_by_agree (leaves (λ v. not (Y v))) (enters Y) net.arcs (leaves_others Y)
 
--- what is said of a set stays so with more marks and with less k
+-- what is said of a set stays so with more marks
 more_marked : (net : Net) (k c : ℕ) (u w Y : ℕ → Bool) → ((i : ℕ) → u i ≡ true → w i ≡ true) → IsEntered net k u c Y
     → IsEntered net k w c Y
 more_marked net k c u w Y s e = elim e [
@@ -74,155 +73,108 @@ more_marked net k c u w Y s e = elim e [
   | inr a ↦ inr a
 ]
 
-lowered : (net : Net) (j k c : ℕ) (u Y : ℕ → Bool) → j ≤ k → IsEntered net k u c Y → IsEntered net j u c Y
-lowered net j k c u Y h e = elim e [ inl m ↦ inl m | inr a ↦ inr (omega (arith, a, h)) ]
-
-pub entered_none : (net : Net) (r k : ℕ) (u : ℕ → Bool) → AreEntered net r k u 0
-entered_none net r k u = record { entered = λ Y v n i o. inl (omega arith) }
-
-pub entered_lowered : (net : Net) (r j k c : ℕ) (u : ℕ → Bool) → AreEntered net r k u c → j ≤ k → AreEntered net r j u c
-entered_lowered net r j k c u g h = record { entered = λ Y v n i o. lowered net j k c u Y h (g.entered Y v n i o) }
-
-pub spread_lowered : (net : Net) (r j k c : ℕ) (u done : ℕ → Bool) → HasSpread net r k u c done → j ≤ k
-    → HasSpread net r j u c done
-spread_lowered net r j k c u done g h = record {
-  earlier = entered_lowered net r j k c u g.earlier h;
-  reached = λ Y v d i o. lowered net j k (suc c) u Y h (g.reached Y v d i o);
-}
-
--- more marks, and fewer nodes that the forest is said to have come to, do no harm
-pub entered_marked : (net : Net) (r k c : ℕ) (u w : ℕ → Bool) → AreEntered net r k u c
+entered_marked : (net : Net) (r k c : ℕ) (u w : ℕ → Bool) → AreEntered net r k u c
     → ((i : ℕ) → u i ≡ true → w i ≡ true) → AreEntered net r k w c
 entered_marked net r k c u w g s = record {
   entered = λ Y v n i o. more_marked net k c u w Y s (g.entered Y v n i o);
 }
 
-pub spread_marked : (net : Net) (r k c : ℕ) (u w done next : ℕ → Bool) → HasSpread net r k u c done
-    → ((i : ℕ) → u i ≡ true → w i ≡ true) → ((v : ℕ) → next v ≡ true → done v ≡ true) → HasSpread net r k w c next
-spread_marked net r k c u w done next g s t = record {
-  earlier = entered_marked net r k c u w g.earlier s;
-  reached = λ Y v d i o. more_marked net k (suc c) u w Y s (g.reached Y v (t v d) i o);
-}
+-- and with less k
+lowered : (net : Net) (j k c : ℕ) (u Y : ℕ → Bool) → j ≤ k → IsEntered net k u c Y → IsEntered net j u c Y
+lowered net j k c u Y h e = elim e [ inl m ↦ inl m | inr a ↦ inr (omega (arith, a, h)) ]
 
--- a forest begins with the root alone
-pub spread_root : (net : Net) (r k c : ℕ) (u done : ℕ → Bool) → AreEntered net r k u c
-    → ((v : ℕ) → done v ≡ true → v ≡ r) → HasSpread net r k u c done
-spread_root net r k c u done g only = record {
-  earlier = g;
-  reached = λ Y v d i o. absurd (false≢true (sym o ∙ sym (ap Y (only v d)) ∙ i));
-}
-
--- it goes on along an arc that wasn't marked
-pub spread_along : (net : Net) (r k c i : ℕ) (u w done next : ℕ → Bool) → IsNet net → HasSpread net r k u c done
+-- the end of an arc that wasn't marked: a set that has it has the arc's beginning too, or is entered by the arc
+end_entered : (net : Net) (r k c i : ℕ) (u w done Y : ℕ → Bool) → IsNet net → HasSpread net r k u c done
     → i < length net.arcs → done (arc_at net i).src ≡ true → u i ≡ false → w i ≡ true
-    → ((j : ℕ) → u j ≡ true → w j ≡ true)
-    → ((v : ℕ) → next v ≡ true → (v ≡ (arc_at net i).dst) ⊎ (done v ≡ true)) → HasSpread net r k w c next
-spread_along net r k c i u w done next n g l d o m s t = record {
-  earlier = entered_marked net r k c u w g.earlier s;
-  reached = λ Y v a b e. elim (t v a) [
-    | inl there ↦ new Y (sym (ap Y there) ∙ b) e
-    | inr old ↦ more_marked net k (suc c) u w Y s (g.reached Y v old b e)
-  ];
-}
+    → ((j : ℕ) → u j ≡ true → w j ≡ true) → Y (arc_at net i).dst ≡ true → Y r ≡ false → IsEntered net k w (c + 1) Y
+end_entered net r k c i u w done Y n g l d o m s b e = elim (cases_Bool (Y (arc_at net i).src)) [
+  | inl in_ ↦ more_marked net k (c + 1) u w Y s (g.reached Y (arc_at net i).src d in_ e)
+  | inr out ↦
+      let at = arc_within net i n l in
+      elim (g.earlier.entered Y (arc_at net i).dst (at.dst_least, at.dst_most) b e) [
+        | inl few ↦
+            inl (omega (
+              arith,
+              few,
+              count_marked-more (enters Y) net.arcs u w i l
+                  (passes (Y (arc_at net i).src) (Y (arc_at net i).dst) out b) o m s,
+            ))
+        | inr all ↦ inr all
+      ]
+]
   where
     passes : (p q : Bool) → p ≡ false → q ≡ true → (q && not p) ≡ true
     passes p q e f = grind arith
 
-    new : (Y : ℕ → Bool) → Y (arc_at net i).dst ≡ true → Y r ≡ false → IsEntered net k w (suc c) Y
-    new Y b e = elim (cases_Bool (Y (arc_at net i).src)) [
-      | inl in_ ↦ more_marked net k (suc c) u w Y s (g.reached Y (arc_at net i).src d in_ e)
-      | inr out ↦
-          let at = arc_within net i n l in
-          elim (g.earlier.entered Y (arc_at net i).dst (at.dst_least, at.dst_most) b e) [
-            | inl few ↦
-                inl (omega (
-                  arith,
-                  few,
-                  count_marked-more (enters Y) net.arcs u w i l
-                      (passes (Y (arc_at net i).src) (Y (arc_at net i).dst) out b) o m s,
-                ))
-            | inr all ↦ inr all
-          ]
-    ]
-
--- it comes to a node that no fewer than k arcs part from those it has come to
-pub spread_joined : (net : Net) (r k c w : ℕ) (u done next : ℕ → Bool) → HasSpread net r k u c done
-    → ((X : ℕ → Bool) → IsCut done (just w) X → k ≤ leaving net X)
-    → ((v : ℕ) → next v ≡ true → (v ≡ w) ⊎ (done v ≡ true)) → HasSpread net r k u c next
-spread_joined net r k c w u done next g h t = record {
-  earlier = g.earlier;
-  reached = λ Y v a b e. elim (t v a) [
-    | inl there ↦ new Y (sym (ap Y there) ∙ b) e
-    | inr old ↦ g.reached Y v old b e
-  ];
-}
-  where
-    -- the other nodes are a cut where the set has none that it has come to
-    cut : (Y : ℕ → Bool) → Y w ≡ true → ((v : ℕ) → done v ≡ true → Y v ≡ false) → IsCut done (just w) (λ v. not (Y v))
-    cut Y i o = record { sources = λ v d. ap not (o v d); sinks = λ v d. ap not (ap Y (eqb-true v w d) ∙ i) }
-
-    new : (Y : ℕ → Bool) → Y w ≡ true → Y r ≡ false → IsEntered net k u (suc c) Y
-    new Y i e = elim (cases_lt (entering net Y) k) [
-      | inr all ↦ inr all
-      | inl below ↦ elim (cases_lt (marked_entering net u Y) (suc c)) [
-        | inr more ↦ inl more
-        | inl few ↦
-            let none : (v : ℕ) → done v ≡ true → Y v ≡ false = λ v d. elim (cases_Bool (Y v)) [
-              | inl both ↦
-                  elim (g.reached Y v d both e) [
-                    | inl more ↦ absurd (omega (arith, few, more))
-                    | inr all ↦ absurd (omega (arith, below, all))
-                  ]
-              | inr out ↦ out
-            ] in
-            inr (omega (arith, h (λ v. not (Y v)) (cut Y i none), leaving_others net Y))
-      ]
-    ]
-
--- so many part two sets between which a flow has that value
-pub joined_by_flow : (net : Net) (k : ℕ) (s t : ℕ → Bool) (xs : List ℕ) → IsNet net → IsFeasible (unit net) s t xs
-    → HasValue (unit net) s xs k → (X : ℕ → Bool) → IsCut s t X → k ≤ leaving net X
-joined_by_flow net k s t xs n f v X c =
-    omega (arith, v, weak_duality (unit net) s t X xs (IsNet-unit net n) f c, capacity-unit net X)
-
--- the forest is done when it has come to all nodes
-pub spread_complete : (net : Net) (r k c : ℕ) (u done : ℕ → Bool) → HasSpread net r k u c done
-    → ((v : ℕ) → IsNode net v → done v ≡ true) → AreEntered net r k u (suc c)
-spread_complete net r k c u done g all = record { entered = λ Y v n i o. g.reached Y v (all v n) i o }
-
--- the steps, with sets that have one number more
-pub also_here : (v : ℕ) (X : ℕ → Bool) → also v X v ≡ true
-also_here v X = or_left (just v v) (X v) (just_self v)
-
-pub also_old : (v : ℕ) (X : ℕ → Bool) (w : ℕ) → X w ≡ true → also v X w ≡ true
-also_old v X w h = or_right (just v w) (X w) h
-
-pub also_only : (v : ℕ) (X : ℕ → Bool) (w : ℕ) → also v X w ≡ true → (w ≡ v) ⊎ (X w ≡ true)
-also_only v X w h = elim (or_cases (just v w) (X w) h) [
-  | inl here ↦ inl (eqb-true w v here)
-  | inr old ↦ inr old
+-- a node that no fewer than k arcs part from those it has come to: a set that has it has one of these, or is entered by k
+joined_entered : (net : Net) (r k c w : ℕ) (u done Y : ℕ → Bool) → HasSpread net r k u c done
+    → ((X : ℕ → Bool) → IsCut done (just w) X → k ≤ leaving net X) → Y w ≡ true → Y r ≡ false
+    → IsEntered net k u (c + 1) Y
+joined_entered net r k c w u done Y g h i e = elim (cases_lt (entering net Y) k) [
+  | inr all ↦ inr all
+  | inl below ↦ elim (cases_lt (marked_entering net u Y) (c + 1)) [
+    | inr more ↦ inl more
+    | inl few ↦
+        let none : (v : ℕ) → done v ≡ true → Y v ≡ false = λ v d. elim (cases_Bool (Y v)) [
+          | inl both ↦
+              elim (g.reached Y v d both e) [
+                | inl more ↦ absurd (omega (arith, few, more))
+                | inr all ↦ absurd (omega (arith, below, all))
+              ]
+          | inr out ↦ out
+        ] in
+        inr (omega (
+          arith,
+          h (λ v. not (Y v)) (record {
+            sources = λ v d. ap not (none v d);
+            sinks = λ v d. ap not (ap Y (eqb-true v w d) ∙ i);
+          }),
+          leaving_others net Y,
+        ))
+  ]
 ]
 
 -- the steps of the law
 pub forest_steps : (net : Net) (r : ℕ) → IsNet net → ForestSteps net r
 forest_steps net r n = record {
-  start = λ k u. entered_none net r k u;
-  begin = λ k c u g. spread_root net r k c u (just r) g (λ v h. eqb-true v r h);
-  along = λ k c i u done g l d o.
-      spread_along net r k c i u (also i u) done (also (arc_at net i).dst done) n g l d o (also_here i u)
-      (also_old i u) (also_only (arc_at net i).dst done);
-  joined = λ k c w u done g h. spread_joined net r k c w u done (also w done) g h (also_only w done);
-  by_flow = λ k w done xs f v. joined_by_flow net k done (just w) xs n f v;
-  lower = λ j k c u done g h. spread_lowered net r j k c u done g h;
-  complete = λ k c u done g all. spread_complete net r k c u done g all;
+  start = λ k u. record { entered = λ Y v m i o. inl (omega arith) };
+  begin = λ k c u done g only. record {
+    earlier = g;
+    reached = λ Y v d i o. absurd (false≢true (sym o ∙ sym (ap Y (only v d)) ∙ i));
+  };
+  along = λ k c i u w done next g l d o m s t. record {
+    earlier = entered_marked net r k c u w g.earlier s;
+    reached = λ Y v a b e. elim (t v a) [
+      | inl there ↦ end_entered net r k c i u w done Y n g l d o m s (sym (ap Y there) ∙ b) e
+      | inr old ↦ more_marked net k (c + 1) u w Y s (g.reached Y v old b e)
+    ];
+  };
+  joined = λ k c w u done next g h t. record {
+    earlier = g.earlier;
+    reached = λ Y v a b e. elim (t v a) [
+      | inl there ↦ joined_entered net r k c w u done Y g h (sym (ap Y there) ∙ b) e
+      | inr old ↦ g.reached Y v old b e
+    ];
+  };
+  by_flow = λ k w done xs f v X c.
+      omega (arith, v, weak_duality (unit net) done (just w) X xs (IsNet-unit net n) f c, capacity-unit net X);
+  more = λ k c u w done g s. record {
+    earlier = entered_marked net r k c u w g.earlier s;
+    reached = λ Y v d i o. more_marked net k (c + 1) u w Y s (g.reached Y v d i o);
+  };
+  lower = λ j k c u done g h. record {
+    earlier = record { entered = λ Y v m i o. lowered net j k c u Y h (g.earlier.entered Y v m i o) };
+    reached = λ Y v d i o. lowered net j k (c + 1) u Y h (g.reached Y v d i o);
+  };
+  complete = λ k c u done g all. record { entered = λ Y v m i o. g.reached Y v (all v m) i o };
 }
 
--- c forests, and each set without the root is entered by so many arcs
-pub entered_enters : (net : Net) (r k c : ℕ) (u : ℕ → Bool) → c ≤ k → AreEntered net r k u c → (Y : ℕ → Bool) (v : ℕ)
-    → IsNode net v → Y v ≡ true → Y r ≡ false → c ≤ entering net Y
-entered_enters net r k c u l g Y v n i o = elim (g.entered Y v n i o) [
-  | inl m ↦ omega (arith, m, count_marked-all (enters Y) net.arcs u)
-  | inr a ↦ omega (arith, a, l)
+-- c forests, and each set without the root is entered by so many arcs, or by k
+pub entered_enters : (net : Net) (r k c j : ℕ) (u : ℕ → Bool) → j ≤ c → j ≤ k → AreEntered net r k u c
+    → (Y : ℕ → Bool) (v : ℕ) → IsNode net v → Y v ≡ true → Y r ≡ false → j ≤ entering net Y
+entered_enters net r k c j u l h g Y v n i o = elim (g.entered Y v n i o) [
+  | inl m ↦ omega (arith, l, m, count_marked-all (enters Y) net.arcs u)
+  | inr a ↦ omega (arith, a, h)
 ]
 
 -- and each other set but that of all nodes is left by so many
@@ -233,7 +185,7 @@ entered_leaves net r k c u l g X p i =
     let o : X v ≡ false = p.outside.3 in
     omega (
       arith,
-      entered_enters net r k c u l g (λ w. not (X w)) v (p.outside.1, p.outside.2) (ap not o) (ap not i),
+      entered_enters net r k c c u (omega arith) l g (λ w. not (X w)) v (p.outside.1, p.outside.2) (ap not o) (ap not i),
       count_by_agree (enters (λ w. not (X w))) (leaves X) net.arcs (enters_others X),
     )
 
@@ -244,7 +196,7 @@ leaving_by_forests net r k c u l g same X p = elim (cases_Bool (X r)) [
   | inl i ↦ entered_leaves net r k c u l g X p i
   | inr o ↦
       let v = p.inside in
-      omega (arith, entered_enters net r k c u l g X v.0 (v.1, v.2) v.3 o, same X)
+      omega (arith, entered_enters net r k c c u (omega arith) l g X v.0 (v.1, v.2) v.3 o, same X)
 ]
 
 -- so it is in a network both ways, where as many arcs leave a set as cross it
@@ -296,7 +248,11 @@ leaving_by_both net r k c u w l g t X p = elim (cases_Bool (X r)) [
   | inl i ↦ entered_leaves net r k c u l g X p i
   | inr o ↦
       let v = p.inside in
-      omega (arith, entered_enters (turned net) r k c w l t X v.0 (v.1, v.2) v.3 o, entering-turned net X)
+      omega (
+        arith,
+        entered_enters (turned net) r k c c w (omega arith) l t X v.0 (v.1, v.2) v.3 o,
+        entering-turned net X,
+      )
 ]
 
 -- so k is the connectivity, where it is reached

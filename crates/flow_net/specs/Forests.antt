@@ -1,6 +1,6 @@
 -- Edge connectivity by forests that have no arc in common, from one root. The arcs that a forest has are marked: marks
 -- are a test of the places of the arcs, counted from 0.
-use Rattle.std.specs.Prelude.{◌≡◌, ℕ, suc, ◌+◌, ◌-◌, ◌*◌, ◌≤◌, ◌<◌, ◌⊎◌, Bool, ◌&&◌, ◌||◌, List, [], ◌∷◌, length, map}
+use Rattle.std.specs.Prelude.{◌≡◌, ℕ, suc, ◌+◌, ◌-◌, ◌*◌, ◌≤◌, ◌<◌, ◌⊎◌, Bool, ◌&&◌, List, [], ◌∷◌, length, map}
 use Rattle.std.specs.Prelude.{IsTrue, IsFalse, if◌then◌else◌}
 use Rattle.std.specs.List.{count_by}
 use Rattle.flow_net.specs.declared.networks.Arc.{Arc}
@@ -40,33 +40,34 @@ pub record AreEntered (net : Net) (r k : ℕ) (marks : ℕ → Bool) (c : ℕ) :
 pub record HasSpread (net : Net) (r k : ℕ) (marks : ℕ → Bool) (c : ℕ) (done : ℕ → Bool) : Type 0 where
   pub earlier : AreEntered net r k marks c
   pub reached : (Y : ℕ → Bool) (v : ℕ) → IsTrue (done v) → IsTrue (Y v) → IsFalse (Y r)
-      → IsEntered net k marks (suc c) Y
-
--- a set and one number more
-abbrev pub also : ℕ → (ℕ → Bool) → ℕ → Bool
-also v X w = just v w || X w
+      → IsEntered net k marks (c + 1) Y
 
 -- The steps by which forests grow from a root.
 pub record ForestSteps (net : Net) (r : ℕ) : Type 0 where
   -- at the start no forest is done
   pub start : (k : ℕ) (marks : ℕ → Bool) → AreEntered net r k marks 0
   -- a forest begins at the root
-  pub begin : (k c : ℕ) (marks : ℕ → Bool) → AreEntered net r k marks c → HasSpread net r k marks c (just r)
+  pub begin : (k c : ℕ) (marks done : ℕ → Bool) → AreEntered net r k marks c → ((v : ℕ) → IsTrue (done v) → v ≡ r)
+      → HasSpread net r k marks c done
   -- it comes to the end of an arc that begins where it has come to and isn't marked, and marks it
-  pub along : (k c i : ℕ) (marks done : ℕ → Bool) → HasSpread net r k marks c done → i < length net.arcs
-      → IsTrue (done (arc_at net i).src) → IsFalse (marks i)
-      → HasSpread net r k (also i marks) c (also (arc_at net i).dst done)
+  pub along : (k c i : ℕ) (marks more done next : ℕ → Bool) → HasSpread net r k marks c done → i < length net.arcs
+      → IsTrue (done (arc_at net i).src) → IsFalse (marks i) → IsTrue (more i)
+      → ((j : ℕ) → IsTrue (marks j) → IsTrue (more j))
+      → ((v : ℕ) → IsTrue (next v) → (v ≡ (arc_at net i).dst) ⊎ IsTrue (done v)) → HasSpread net r k more c next
   -- it comes without an arc to a node that k arcs or more part from where it has come to, as a flow of k shows
-  pub joined : (k c w : ℕ) (marks done : ℕ → Bool) → HasSpread net r k marks c done
-      → ((X : ℕ → Bool) → IsCut done (just w) X → k ≤ leaving net X) → HasSpread net r k marks c (also w done)
+  pub joined : (k c w : ℕ) (marks done next : ℕ → Bool) → HasSpread net r k marks c done
+      → ((X : ℕ → Bool) → IsCut done (just w) X → k ≤ leaving net X)
+      → ((v : ℕ) → IsTrue (next v) → (v ≡ w) ⊎ IsTrue (done v)) → HasSpread net r k marks c next
   pub by_flow : (k w : ℕ) (done : ℕ → Bool) (xs : List ℕ) → IsFeasible (unit net) done (just w) xs
       → HasValue (unit net) done xs k → (X : ℕ → Bool) → IsCut done (just w) X → k ≤ leaving net X
-  -- k may be lowered at any time
+  -- more marks do no harm, and k may be lowered at any time
+  pub more : (k c : ℕ) (marks more done : ℕ → Bool) → HasSpread net r k marks c done
+      → ((i : ℕ) → IsTrue (marks i) → IsTrue (more i)) → HasSpread net r k more c done
   pub lower : (j k c : ℕ) (marks done : ℕ → Bool) → HasSpread net r k marks c done → j ≤ k
       → HasSpread net r j marks c done
   -- it is done when it has come to all nodes
   pub complete : (k c : ℕ) (marks done : ℕ → Bool) → HasSpread net r k marks c done
-      → ((v : ℕ) → IsNode net v → IsTrue (done v)) → AreEntered net r k marks (suc c)
+      → ((v : ℕ) → IsNode net v → IsTrue (done v)) → AreEntered net r k marks (c + 1)
 
 -- so forests grow in each network, from each root
 abbrev pub GrowingForests : Type 0

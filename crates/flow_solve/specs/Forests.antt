@@ -81,10 +81,9 @@ pub record IsStand (ground : Ground) (done : List ℕ) : Type 0 where
   pub root : IsNode ground.net.now ground.root
   pub size : ground.net.now.nodes ≤ 32 * length done
 
--- c forests are done, or k if these are fewer, and have taken arcs
+-- c forests are done, and have taken arcs
 abbrev pub IsGrove : Ground → ℕ → ℕ → List ℕ → Type 0
-IsGrove ground k c rows = (j : ℕ) → j ≤ c → j ≤ k
-    → AreEntered (facing ground.direction ground.net.now) ground.root k (taken_in rows) j
+IsGrove ground k c rows = AreEntered (facing ground.direction ground.net.now) ground.root k (taken_in rows) c
 
 -- c forests are done, and one more has come to some nodes
 abbrev pub IsForest : Ground → ℕ → ℕ → List ℕ → List ℕ → Type 0

@@ -79,8 +79,7 @@ fn begin_forest(
     requires stand { IsStand ground done.old }
     ensures stand { IsStand ground.entry done.new }
     ensures done { IsTrue (marked_in done.new ground.entry.root) }
-    ensures forest { (k c : ℕ) → c ≤ k → IsGrove ground.entry k c rows.old
-        → IsForest ground.entry k c rows.new done.new }
+    ensures forest { (k c : ℕ) → IsGrove ground.entry k c rows.old → IsForest ground.entry k c rows.new done.new }
 {
     let front = begin(ground, done, hints);
     grow(ground, rows, done, hints, front, is_last)
@@ -248,9 +247,9 @@ pub fn connectivity_by_forests(
     if least == 0 {
         return Some(0);
     }
+    let paired = goes_both_ways(net);
     let is_balanced = are_balanced(net, cells);
-    let is_even = is_balanced && are_even(net, cells);
-    let paired = is_even || goes_both_ways(net);
+    let is_even = paired && is_balanced && are_even(net, cells);
     let mut ground = Ground {
         net,
         root: hub(net, cells),

@@ -222,27 +222,6 @@ module _ (net : Net) (o : AreOpposite net.arcs) where
         same_counts X (take half net.arcs) (drop half net.arcs) sizes back,
       )
 
-  enters_both : (X : ℕ → Bool) → count_by (enters X) net.arcs
-      ≡ count_by (leaves X) (take half net.arcs) + count_by (enters X) (take half net.arcs)
-  enters_both X =
-      omega (
-        arith,
-        ap (count_by (enters X)) (take-append-drop half net.arcs),
-        sum_by-append (λ a. cond (enters X a) 1 0) (take half net.arcs) (drop half net.arcs),
-        same_counts X (drop half net.arcs) (take half net.arcs) (sym sizes)
-            (λ i l. let b = back i (omega (arith, l, sizes)) in (sym b.1, sym b.0)),
-      )
-
-  -- the sums of what leaves and what enters each node in the first half
-  pub degrees_both : (out into sums also_sums : List ℕ) → AreDegrees net.nodes (take half net.arcs) out into
-      → ((i : ℕ) → i < net.nodes → slice_index sums i ≡ slice_index out i + slice_index into i)
-      → ((i : ℕ) → i < net.nodes → slice_index also_sums i ≡ slice_index out i + slice_index into i)
-      → AreDegrees net.nodes net.arcs sums also_sums
-  degrees_both out into sums also_sums d s t = record {
-    leaving = λ i l. omega (arith, s i l, d.leaving i l, d.entering i l, leaves_both (just (i + 1)));
-    entering = λ i l. omega (arith, t i l, d.leaving i l, d.entering i l, enters_both (just (i + 1)));
-  }
-
   leaving_crossing : (X : ℕ → Bool) → leaving net X ≡ crossing one_way X
   leaving_crossing X = omega (arith, leaves_both X, crossing_sum one_way X)
 

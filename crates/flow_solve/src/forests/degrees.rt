@@ -2,8 +2,7 @@
 //!
 //! Where as many arcs leave each node as enter it, forests one way are enough. Such a network is Eulerian if
 //! it is connected. Networks both ways are balanced, with their arcs in any order, and directed rings.
-ghost use Rattle.std.specs.Prelude.{◌≡◌, ℕ, ◌+◌, ◌-◌, ◌*◌, ◌^◌, ◌≤◌, ◌<◌, Bool, IsTrue, length, slice_index};
-ghost use Rattle.std.specs.Prelude.{take, drop};
+ghost use Rattle.std.specs.Prelude.{◌≡◌, ℕ, ◌+◌, ◌*◌, ◌≤◌, ◌<◌, Bool, IsTrue, length, slice_index, drop};
 ghost use Rattle.flow_net.specs.Nets.{IsNode};
 ghost use Rattle.flow_net.specs.NodeSets.{just};
 ghost use Rattle.flow_net.specs.Connectivity.{leaving, IsProper};
@@ -12,55 +11,23 @@ ghost use Rattle.flow_solve.specs.Forests.{AreDegrees, AreOpposite, IsEulerian};
 
 use flow_net::Network;
 
-/// Counts how many of the first arcs leave and enter each node, self-loops left out.
-fn count_arcs(net: &Network, len: u32, out: &mut [u32], into: &mut [u32])
-    requires len { len ≤ length net.now.arcs }
+/// Counts the arcs that leave and that enter each node, self-loops left out.
+fn count_degrees(net: &Network, out: &mut [u32], into: &mut [u32])
     requires out { length out.old ≡ net.now.nodes }
     requires into { length into.old ≡ net.now.nodes }
-    ensures { AreDegrees net.now.nodes (take len net.now.arcs) out.new into.new }
+    ensures { AreDegrees net.now.nodes net.now.arcs out.new into.new }
 {
     // Brings the network's limits, `IsNet`, into the proof.
     let _ = net.nodes();
     out.fill(0);
     into.fill(0);
-    for i in 0..len {
+    for i in 0..net.len() {
         let arc = net.arc(i);
         if arc.src != arc.dst {
             out[arc.src as usize - 1] += 1;
             into[arc.dst as usize - 1] += 1;
         }
     }
-}
-
-/// Adds numbers up, those in one place of two rows, and writes the sums into both.
-fn add_up(out: &mut [u32], into: &mut [u32])
-    requires size { length into.old ≡ length out.old }
-    requires fits { (i : ℕ) → i < length out.old → slice_index out.old i + slice_index into.old i < 2 ^ 32 }
-    ensures out { (i : ℕ) → i < length out.old
-        → slice_index out.new i ≡ slice_index out.old i + slice_index into.old i }
-    ensures into { (i : ℕ) → i < length out.old
-        → slice_index into.new i ≡ slice_index out.old i + slice_index into.old i }
-{
-    for place in 0..out.len() {
-        let sum = out[place] + into[place];
-        out[place] = sum;
-        into[place] = sum;
-    }
-}
-
-/// Counts the arcs that leave and that enter each node, self-loops left out. In a network both ways half of the arcs
-/// tell it: as many enter a node as leave it.
-fn count_degrees(net: &Network, out: &mut [u32], into: &mut [u32])
-    requires out { length out.old ≡ net.now.nodes }
-    requires into { length into.old ≡ net.now.nodes }
-    ensures { AreDegrees net.now.nodes net.now.arcs out.new into.new }
-{
-    if !goes_both_ways(net) {
-        count_arcs(net, net.len(), out, into);
-        return;
-    }
-    count_arcs(net, net.len() / 2, out, into);
-    add_up(out, into);
 }
 
 /// The least of some numbers, of which there is at least one.
@@ -125,6 +92,7 @@ pub(crate) fn goes_both_ways(net: &Network) -> bool
 
 /// Whether an even number of arcs leaves each set of nodes, as the degrees show it in a network both ways.
 pub(crate) fn are_even(net: &Network, degrees: &[u32]) -> bool
+    requires opposite { AreOpposite net.now.arcs }
     requires cells { net.now.nodes ≤ length degrees.now }
     requires degrees { AreDegrees net.now.nodes net.now.arcs degrees.now (drop net.now.nodes degrees.now) }
     requires balanced { IsEitherWay net.now }
@@ -135,5 +103,5 @@ pub(crate) fn are_even(net: &Network, degrees: &[u32]) -> bool
             return false;
         }
     }
-    goes_both_ways(net)
+    true
 }

@@ -59,7 +59,7 @@ loop-front-preserved c =
       forest =
           g.forest c.in_ok-least.least.value c.args.count
           (forest_joined ground c.in_ok-least.least.value c.loop-front.least.value c.args.count w c.loop-front.rows old
-          c.reach-front.new.done joined
+          c.reach-front.new.done j.stand.limits joined
           (raised_below ground.direction net w (marked_in old) c.raise.new.flow.flows c.in_ok-least.least.value
           j.stand.limits c.requires.unit r.raised) r.fewer j.forest);
       paid = paid_then _ _ _ _ _ _ j.paid r.paid;
@@ -68,6 +68,7 @@ loop-front-preserved c =
 pub returns-clause-grove : goal.returns-clause-grove
 returns-clause-grove c =
     grove_more c.args.ground c.loop-front.least.value c.args.count c.loop-front.rows c.loop-front.done
+    c.loop-front.invariant.stand.limits
     (λ more. elim c.else-least-count-2.branch [
       | else-least-count-2-via-then-least-count-2+else-not-is_whole w ↦
           λ v l m. w.is_whole.ensures w.if-not-is_whole.false v l (omega (arith, m))

@@ -5,7 +5,7 @@ use Rattle.flow_solve.proofs.forests.connectivity_by_forests.Goals as goal
 
 pub are_even-is_even-requires-clause-balanced : goal.are_even-is_even-requires-clause-balanced
 are_even-is_even-requires-clause-balanced c =
-    c.are_balanced-is_balanced.ensures.balanced c.if-is_balanced.true
+    c.are_balanced-is_balanced.ensures.balanced c.if-is_balanced.true.1
 
 pub returns-then-is_balanced-2-clause-connectivity : goal.returns-then-is_balanced-2-clause-connectivity
 returns-then-is_balanced-2-clause-connectivity c =

@@ -1,6 +1,7 @@
 -- `run_pass`: a forest that comes to all nodes by itself is done, and any other is completed.
 use Rattle.std.proofs.Common.{arith}
-use Rattle.flow_solve.proofs.ForestLemmas.Taken.{above_enough, forest_kept, grove_more}
+use Rattle.flow_solve.specs.Forests.{marked_in, taken_in}
+use Rattle.flow_solve.proofs.ForestLemmas.Taken.{above_enough, grove_more, steps}
 use Rattle.flow_solve.proofs.Payments.{paid_then}
 use Rattle.flow_solve.proofs.forests.run_pass.Goals.{then-not-is_whole+in_ok-least, else-not-is_whole}
 use Rattle.flow_solve.proofs.forests.run_pass.Goals as goal
@@ -9,8 +10,10 @@ pub complete-requires-clause-forest : goal.complete-requires-clause-forest
 complete-requires-clause-forest c =
     let one = c.begin_forest-front in
     let k = c.loop-count.least.value in
-    forest_kept c.args.ground k c.loop-count.count one.new.rows c.fill_again.new.rows one.new.done c.fill_again.ensures
-    (one.ensures.forest k c.loop-count.count (omega arith) c.loop-count.invariant.grove)
+    let j = c.loop-count.invariant in
+    (steps c.args.ground j.stand.limits).more k c.loop-count.count (taken_in one.new.rows)
+    (taken_in c.fill_again.new.rows) (marked_in one.new.done) (one.ensures.forest k c.loop-count.count j.grove)
+    c.fill_again.ensures
 
 pub loop-count-preserved : goal.loop-count-preserved
 loop-count-preserved c =
@@ -35,9 +38,9 @@ loop-count-preserved c =
             reached = j.reached;
             fewer = j.fewer;
             grove =
-                grove_more c.args.ground k c.loop-count.count one.new.rows one.new.done
+                grove_more c.args.ground k c.loop-count.count one.new.rows one.new.done j.stand.limits
                 (λ more v l m. c.is_whole.ensures w.if-not-is_whole.false v l (omega (arith, m)))
-                (one.ensures.forest k c.loop-count.count (omega arith) j.grove);
+                (one.ensures.forest k c.loop-count.count j.grove);
             paid = j.paid;
           })
     ]

@@ -1,16 +1,31 @@
--- `count_degrees`: half of the arcs tell the others.
-use Rattle.std.proofs.Common.{◌≡◌, ◌/◌, length, take, subst, arith}
-use Rattle.flow_solve.specs.Forests.{AreDegrees}
-use Rattle.flow_solve.proofs.ForestLemmas.Degrees.{degrees_both}
+-- Each arc that is no self-loop counts once at either end, in both counts.
+use Rattle.std.proofs.Common.{arith}
+use Rattle.flow_net.proofs.Zips.{arc_within}
+use Rattle.flow_solve.proofs.ForestLemmas.Degrees.{degrees_loop, degrees_more}
 use Rattle.flow_solve.proofs.forests.degrees.count_degrees.Goals as goal
+use Rattle.flow_solve.proofs.forests.degrees.count_degrees.Goals.{then-arc, else-arc}
 
-pub returns : goal.returns
-returns c =
-    let net = c.args.net.now in
-    let half : c.len-2.result / 2 ≡ length net.arcs / 2 = omega (arith, c.len-2.ensures.len) in
-    let counted =
-    subst (λ k. AreDegrees net.nodes (take k net.arcs) c.count_arcs-2.new.out c.count_arcs-2.new.into) half
-    c.count_arcs-2.ensures in
-    degrees_both net (c.goes_both_ways.ensures c.if-not-goes_both_ways.false) c.count_arcs-2.new.out
-    c.count_arcs-2.new.into c.add_up.new.out c.add_up.new.into counted
-    (λ i l. c.add_up.ensures.out i (omega arith)) (λ i l. c.add_up.ensures.into i (omega arith))
+pub loop-i-preserved : goal.loop-i-preserved
+loop-i-preserved c =
+    let j = c.loop-i.invariant in
+    let below = c.loop-i-test.true in
+    elim c.if-arc.branch [
+      | then-arc w ↦ record {
+        out_size = omega arith;
+        into_size = omega arith;
+        degrees =
+            rw (w.out-is, w.into-is)
+            (degrees_more c.args.net.now.nodes c.args.net.now.arcs c.loop-i.i c.arc-arc.result c.loop-i.out
+            c.loop-i.into (omega arith) c.arc-arc.ensures.arc j.degrees j.out_size j.into_size
+            (rw c.arc-arc.ensures.arc (arc_within c.args.net.now c.loop-i.i c.nodes.ensures.is_net (omega arith)))
+            w.if-arc.true);
+      }
+      | else-arc w ↦ record {
+        out_size = omega arith;
+        into_size = omega arith;
+        degrees =
+            rw (w.out-is, w.into-is)
+            (degrees_loop c.args.net.now.nodes c.args.net.now.arcs c.loop-i.i c.arc-arc.result c.loop-i.out
+            c.loop-i.into (omega arith) c.arc-arc.ensures.arc j.degrees w.if-arc.false);
+      }
+    ]

@@ -2,7 +2,7 @@
 use Rattle.std.proofs.Common.{◌≡◌, ℕ, ◌+◌, ◌≤◌, Bool, true, false, cond, not, ◌&&◌, ◌||◌, List, [], ◌∷◌, refl, ◌∙◌, sym}
 use Rattle.std.proofs.Common.{ap, inl, inr, eq-eqb, ◌↔◌, ◌≢◌, ◌⊎◌, arith}
 use Rattle.std.specs.Prelude.{map}
-use Rattle.std.specs.List.{count_by}
+use Rattle.std.specs.List.{AllByRecursion, count_by}
 use Rattle.std.proofs.lemmas.Bool.{cases_Bool, eqb-true, ne_eqb}
 use Rattle.std.proofs.lemmas.List.Sums.{sum_by-cons, sum_by-append}
 use Rattle.flow_net.specs.declared.networks.Arc.{Arc}
@@ -13,13 +13,19 @@ use Rattle.flow_net.specs.NodeSets.{just, IsLeastOver}
 use Rattle.flow_net.specs.Flows.{IsGreatest}
 use Rattle.flow_net.specs.Cuts.{cap_over, leaves, IsCut, capacity}
 use Rattle.flow_net.specs.LeastCuts.{IsLeastCapacity}
-use Rattle.flow_net.specs.Arcs.{enters}
 use Rattle.flow_net.specs.Connectivity.{leaving, crossing, IsProper}
 use Rattle.flow_net.specs.LeastCuts.{IsConnectivity, IsUndirectedConnectivity}
 use Rattle.flow_net.specs.LeastCuts.{IsPairConnectivity, IsUndirectedPairConnectivity}
 use Rattle.flow_net.specs.Laws.{AreApart, IsLeastOfPairs}
+use Rattle.flow_net.proofs.Complements.{leaves_reversed, crossing_sum}
 use Rattle.flow_net.proofs.KeptLimits.{IsNet-unit}
 use Rattle.flow_net.proofs.MaxFlows.{max_flow_min_cut, greatest_is_least, least_is_greatest}
+
+-- where each capacity is 1, capacities are numbers of arcs
+pub cap_counts : (p : Arc → Bool) (arcs : List Arc) → AllByRecursion (λ a. a.cap ≡ 1) arcs
+    → cap_over p arcs ≡ count_by p arcs
+cap_counts p [] h = refl
+cap_counts p (a ∷ arcs) h = let s = cap_counts p arcs h.1 in rw (sum_by-cons (λ b. cond (p b) 1 0) a arcs, h.0, s) refl
 
 -- with unit capacities the capacity of a cut is the number of arcs that leave it
 cap_over_unit : (X : ℕ → Bool) (arcs : List Arc) → cap_over (leaves X) (map unit_arc arcs) ≡ count_by (leaves X) arcs
@@ -30,27 +36,14 @@ pub capacity-unit : (net : Net) (X : ℕ → Bool) → capacity (unit net) X ≡
 capacity-unit net X = cap_over_unit X net.arcs
 
 -- the arcs that leave a set in both directions' network are those that cross it
-crossing_step : (p q : Bool) (l r c : ℕ) → l + r ≡ c
-    → (cond (p && not q) 1 0 + l) + (cond (q && not p) 1 0 + r) ≡ cond ((p && not q) || (q && not p)) 1 0 + c
-crossing_step true true l r c h = omega arith
-crossing_step true false l r c h = omega arith
-crossing_step false true l r c h = omega arith
-crossing_step false false l r c h = omega arith
-
-crossing_sum : (X : ℕ → Bool) (arcs : List Arc)
-    → count_by (leaves X) arcs + count_by (leaves X) (map reversed arcs) ≡ count_by (λ a. leaves X a || enters X a) arcs
-crossing_sum X [] = refl
-crossing_sum X (a ∷ arcs) =
-    rw (
-      sum_by-cons (λ b. cond (leaves X b) 1 0) a arcs,
-      sum_by-cons (λ b. cond (leaves X b) 1 0) (reversed a) (map reversed arcs),
-      sum_by-cons (λ b. cond (leaves X b || enters X b) 1 0) a arcs,
-    )
-    (crossing_step (X a.src) (X a.dst) _ _ _ (crossing_sum X arcs))
-
 pub leaving-both_ways : (net : Net) (X : ℕ → Bool) → leaving (both_ways net) X ≡ crossing net X
 leaving-both_ways net X =
-    sum_by-append (λ b. cond (leaves X b) 1 0) net.arcs (map reversed net.arcs) ∙ crossing_sum X net.arcs
+    omega (
+      arith,
+      sum_by-append (λ b. cond (leaves X b) 1 0) net.arcs (map reversed net.arcs),
+      leaves_reversed X net.arcs,
+      crossing_sum X net.arcs,
+    )
 
 -- a set is proper by the nodes of its network alone
 proper_in : (net other : Net) (X : ℕ → Bool) → net.nodes ≡ other.nodes → IsProper net X → IsProper other X
@@ -75,7 +68,7 @@ least_proper net other f g k same =
     (λ X. proper_in other net X (sym same))
 
 -- the same of the cuts of a pair
-least_cut : (s t : ℕ → Bool) (f g : (ℕ → Bool) → ℕ) (k : ℕ) → ((X : ℕ → Bool) → f X ≡ g X)
+pub least_cut : (s t : ℕ → Bool) (f g : (ℕ → Bool) → ℕ) (k : ℕ) → ((X : ℕ → Bool) → f X ≡ g X)
     → IsLeastOver (IsCut s t) f k → IsLeastOver (IsCut s t) g k
 least_cut s t f g k = least_agrees (IsCut s t) (IsCut s t) f g k (λ X c. c) (λ X c. c)
 
@@ -102,7 +95,7 @@ count_by_unit X (a ∷ arcs) =
       count_by_unit X arcs,
     ) refl
 
-pub leaving-unit : (net : Net) (X : ℕ → Bool) → leaving (unit net) X ≡ leaving net X
+leaving-unit : (net : Net) (X : ℕ → Bool) → leaving (unit net) X ≡ leaving net X
 leaving-unit net X = count_by_unit X net.arcs
 
 -- so the connectivity is that of the network of unit capacities
@@ -114,14 +107,14 @@ pub pair_of_unit : (net : Net) (s t : ℕ → Bool) (k : ℕ) → IsPairConnecti
 pair_of_unit net s t k = least_cut s t (leaving (unit net)) (leaving net) k (leaving-unit net)
 
 -- a set that holds one node and not another is a cut of the two
-pub cut_of_two : (X : ℕ → Bool) (u v : ℕ) → X u ≡ true → X v ≡ false → IsCut (just u) (just v) X
+cut_of_two : (X : ℕ → Bool) (u v : ℕ) → X u ≡ true → X v ≡ false → IsCut (just u) (just v) X
 cut_of_two X u v i o = record {
   sources = λ w e. ap X (eqb-true w u e) ∙ i;
   sinks = λ w e. ap X (eqb-true w v e) ∙ o;
 }
 
 -- what one solve of the unit network says of a pair
-pub pair_by_solve : (net : Net) (s t : ℕ → Bool) (k : ℕ) → IsLeastCapacity (unit net) s t k
+pair_by_solve : (net : Net) (s t : ℕ → Bool) (k : ℕ) → IsLeastCapacity (unit net) s t k
     → IsPairConnectivity net s t k
 pair_by_solve net s t k = least_cut s t (capacity (unit net)) (leaving net) k (capacity-unit net)
 
@@ -129,7 +122,7 @@ pub just_self : (v : ℕ) → just v v ≡ true
 just_self v = eq-eqb v v refl
 
 -- a cut of two nodes is neither empty nor all
-pub cut_proper : (net : Net) (u v : ℕ) (X : ℕ → Bool) → 1 ≤ u → u ≤ net.nodes → 1 ≤ v → v ≤ net.nodes
+cut_proper : (net : Net) (u v : ℕ) (X : ℕ → Bool) → 1 ≤ u → u ≤ net.nodes → 1 ≤ v → v ≤ net.nodes
     → IsCut (just u) (just v) X → IsProper net X
 cut_proper net u v X a b c d k = record {
   inside = (u, a, b, k.sources u (just_self u));
@@ -153,7 +146,7 @@ pair_exists net u v n ne =
     (m.0, pair_by_solve net (just u) (just v) m.0 m.2)
 
 -- a proper set parts any node from another, one way or the other: no fewer arcs leave it than any pair has
-pub proper_parts : (net : Net) (r k : ℕ) (X : ℕ → Bool) → IsNet net
+proper_parts : (net : Net) (r k : ℕ) (X : ℕ → Bool) → IsNet net
     → ((v j : ℕ) → IsNode net v → v ≢ r
     → IsPairConnectivity net (just r) (just v) j ⊎ IsPairConnectivity net (just v) (just r) j → k ≤ j)
     → IsProper net X → k ≤ leaving net X

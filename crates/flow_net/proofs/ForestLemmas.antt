@@ -3,7 +3,7 @@ use Rattle.std.proofs.Common.{◌≡◌, ℕ, zero, suc, ◌+◌, ◌-◌, ◌�
 use Rattle.std.proofs.Common.{List, [], ◌∷◌, length, map, get_or, refl, ◌∙◌, sym, ap, inl, inr, ◌⊎◌, arith}
 use Rattle.std.specs.List.{count_by}
 use Rattle.std.proofs.lemmas.Bool.{cases_Bool, cases_lt, eqb-true, false≢true}
-use Rattle.std.proofs.lemmas.List.Sums.{sum_by-cons}
+use Rattle.std.proofs.lemmas.List.Sums.{sum_by-cons, sum_by-append}
 use Rattle.flow_net.specs.declared.networks.Arc.{Arc}
 use Rattle.flow_net.specs.Nets.{Net, IsNode, arc_at}
 use Rattle.flow_net.specs.Arcs.{no_arc, enters}
@@ -20,7 +20,8 @@ use Rattle.flow_net.proofs.KeptLimits.{IsNet-unit, IsNet-map}
 use Rattle.flow_net.proofs.Zips.{arc_within}
 use Rattle.flow_net.proofs.Cuts.{weak_duality}
 use Rattle.flow_net.proofs.Connections.{capacity-unit, leaving-both_ways}
-use Rattle.flow_net.proofs.Complements.{count_by_agree, leaves_others, enters_others, leaving_turned}
+use Rattle.flow_net.proofs.Complements.{count_by_agree, leaves_others, enters_others}
+use Rattle.flow_net.proofs.Complements.{leaves_reversed, enters_reversed}
 
 -- more marks, more marked arcs
 le_step : (p m w : Bool) (k l : ℕ) → (m ≡ true → w ≡ true) → k ≤ l → cond (p && m) 1 0 + k ≤ cond (p && w) 1 0 + l
@@ -199,36 +200,33 @@ leaving_by_forests net r k c u l g same X p = elim (cases_Bool (X r)) [
       omega (arith, entered_enters net r k c c u (omega arith) l g X v.0 (v.1, v.2) v.3 o, same X)
 ]
 
--- so it is in a network both ways, where as many arcs leave a set as cross it
+-- so it is in a network both ways, where as many arcs leave a set as enter it, and as cross it
+both_either : (net : Net) → IsEitherWay (both_ways net)
+both_either net X =
+    omega (
+      arith,
+      sum_by-append (λ b. cond (leaves X b) 1 0) net.arcs (map reversed net.arcs),
+      sum_by-append (λ b. cond (enters X b) 1 0) net.arcs (map reversed net.arcs),
+      leaves_reversed X net.arcs,
+      enters_reversed X net.arcs,
+    )
+
 pub crossing_by_forests : (net : Net) (r k c : ℕ) (u : ℕ → Bool) → c ≤ k → AreEntered (both_ways net) r k u c
     → (X : ℕ → Bool) → IsProper net X → c ≤ crossing net X
 crossing_by_forests net r k c u l g X p =
     omega (
       arith,
-      leaving_by_forests (both_ways net) r k c u l g
-          (λ Y. sym (leaving_turned net Y) ∙ leaving_others (both_ways net) Y) X
+      leaving_by_forests (both_ways net) r k c u l g (both_either net) X
           (record { inside = p.inside; outside = p.outside }),
       leaving-both_ways net X,
     )
 
--- what enters a set in the network turned round leaves it
-entering_reversed : (X : ℕ → Bool) (arcs : List Arc)
-    → count_by (enters X) (map reversed arcs) ≡ count_by (leaves X) arcs
-entering_reversed X [] = refl
-entering_reversed X (a ∷ arcs) =
-    rw (
-      sum_by-cons (λ b. cond (enters X b) 1 0) (reversed a) (map reversed arcs),
-      sum_by-cons (λ b. cond (leaves X b) 1 0) a arcs,
-      entering_reversed X arcs,
-    ) refl
-
+-- what enters a set in the network turned round leaves it, and what leaves it there enters it
 pub entering-turned : (net : Net) (X : ℕ → Bool) → entering (turned net) X ≡ leaving net X
-entering-turned net X = entering_reversed X net.arcs
+entering-turned net X = enters_reversed X net.arcs
 
 pub leaving-turned : (net : Net) (X : ℕ → Bool) → leaving (turned net) X ≡ entering net X
-leaving-turned net X =
-    sym (count_by_agree (enters (λ v. not (X v))) (leaves X) (turned net).arcs (enters_others X))
-    ∙ entering-turned net (λ v. not (X v)) ∙ leaving_others net X
+leaving-turned net X = leaves_reversed X net.arcs
 
 pub IsNet-turned : (net : Net) → IsNet net → IsNet (turned net)
 IsNet-turned net h =

@@ -14,6 +14,7 @@ use Rattle.flow_net.specs.Cuts.{leaves}
 use Rattle.flow_net.specs.Arcs.{enters}
 use Rattle.flow_net.specs.Connectivity.{leaving, crossing}
 use Rattle.flow_net.specs.Forests.{entering, IsEven, IsEitherWay}
+use Rattle.flow_net.proofs.Complements.{crossing_sum}
 use Rattle.flow_net.proofs.Sums.{exchange, over, by_node}
 
 -- a unit on each arc
@@ -77,30 +78,6 @@ balanced_sets net n same X =
           flow_over_ones (enters (just v)) net.arcs,
         )
 
--- the arcs with exactly one end in a set are those that leave it and those that enter it
-crosses_either : (p q : Bool) (c l e : ℕ) → c ≡ l + e
-    → cond ((p && not q) || (q && not p)) 1 0 + c ≡ (cond (p && not q) 1 0 + l) + (cond (q && not p) 1 0 + e)
-crosses_either true true c l e h = omega arith
-crosses_either true false c l e h = omega arith
-crosses_either false true c l e h = omega arith
-crosses_either false false c l e h = omega arith
-
-crossing_by_arcs : (X : ℕ → Bool) (arcs : List Arc)
-    → count_by (λ a. leaves X a || (X a.dst && not (X a.src))) arcs
-    ≡ count_by (leaves X) arcs + count_by (enters X) arcs
-crossing_by_arcs X [] = refl
-crossing_by_arcs X (a ∷ arcs) =
-    omega (
-      arith,
-      sum_by-cons (λ b. cond (leaves X b || (X b.dst && not (X b.src))) 1 0) a arcs,
-      sum_by-cons (λ b. cond (leaves X b) 1 0) a arcs,
-      sum_by-cons (λ b. cond (enters X b) 1 0) a arcs,
-      crosses_either (X a.src) (X a.dst) _ _ _ (crossing_by_arcs X arcs),
-    )
-
-pub crossing_sum : (net : Net) (X : ℕ → Bool) → crossing net X ≡ leaving net X + entering net X
-crossing_sum net X = crossing_by_arcs X net.arcs
-
 even_step : (b : Bool) (m k x y : ℕ) → IsEven (m + k) → IsEven (x + y) → IsEven ((m + cond b x 0) + (k + cond b y 0))
 even_step true m k x y p q = (p.0 + q.0, omega (arith, p.1, q.1))
 even_step false m k x y p q = (p.0, omega (arith, p.1))
@@ -124,7 +101,7 @@ pub even_sets : (net : Net) → IsNet net → ((v : ℕ) → IsNode net v → Is
     → IsEven (crossing net X)
 even_sets net n even X =
     even_as (flow_over (leaves X) net.arcs units + flow_over (enters X) net.arcs units) (crossing net X)
-    (omega (arith, flow_over_ones (leaves X) net.arcs, flow_over_ones (enters X) net.arcs, crossing_sum net X))
+    (omega (arith, flow_over_ones (leaves X) net.arcs, flow_over_ones (enters X) net.arcs, crossing_sum X net.arcs))
     (even_moved (flow_over (leaves X) net.arcs units) (into X net.arcs units) (flow_over (enters X) net.arcs units)
     (out_of X net.arcs units) (omega (arith, exchange X net.arcs units)) all)
   where
@@ -141,7 +118,7 @@ even_sets net n even X =
           arith,
           flow_over_ones (leaves (just v)) net.arcs,
           flow_over_ones (enters (just v)) net.arcs,
-          crossing_sum net (just v),
+          crossing_sum (just v) net.arcs,
         ))
         (even v (l, u)))
 

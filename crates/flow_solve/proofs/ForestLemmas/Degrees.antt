@@ -17,9 +17,9 @@ use Rattle.flow_net.specs.NodeSets.{just}
 use Rattle.flow_net.specs.Cuts.{leaves}
 use Rattle.flow_net.specs.Connectivity.{leaving, crossing, IsProper}
 use Rattle.flow_net.specs.Forests.{IsEven, IsEitherWay}
-use Rattle.flow_net.proofs.Complements.{count_by_agree, leaves_others}
+use Rattle.flow_net.proofs.Complements.{count_by_agree, leaves_others, crossing_sum}
 use Rattle.flow_net.proofs.Connections.{just_self}
-use Rattle.flow_net.proofs.NodeCounts.{even_sets, crossing_sum}
+use Rattle.flow_net.proofs.NodeCounts.{even_sets}
 use Rattle.flow_solve.specs.Forests.{AreDegrees, AreOpposite, IsEulerian}
 
 -- ---- degrees
@@ -223,7 +223,7 @@ module _ (net : Net) (o : AreOpposite net.arcs) where
       )
 
   leaving_crossing : (X : ℕ → Bool) → leaving net X ≡ crossing one_way X
-  leaving_crossing X = omega (arith, leaves_both X, crossing_sum one_way X)
+  leaving_crossing X = omega (arith, leaves_both X, crossing_sum X one_way.arcs)
 
   one_way_limits : IsNet net → IsNet one_way
   one_way_limits n = record {

@@ -1,9 +1,8 @@
 -- Flows between a node and the nodes that a forest has come to.
 use Rattle.std.proofs.Common.{◌≡◌, ℕ, ◌+◌, ◌*◌, ◌≤◌, ◌<◌, Bool, true, false, cond, not}
 use Rattle.std.proofs.Common.{List, [], ◌∷◌, length, refl, ◌∙◌, sym, ap, subst, inl, inr, arith}
-use Rattle.std.specs.List.{All, AllByRecursion, count_by}
+use Rattle.std.specs.List.{All, AllByRecursion}
 use Rattle.std.proofs.lemmas.Bool.{cases_Bool, false≢true, ne_eqb}
-use Rattle.std.proofs.lemmas.List.Sums.{sum_by-cons}
 use Rattle.std.proofs.lemmas.List.Elements.{recursion_from_All}
 use Rattle.flow_net.specs.declared.networks.Arc.{Arc}
 use Rattle.flow_net.specs.Nets.{Net, IsNode}
@@ -13,7 +12,7 @@ use Rattle.flow_net.specs.Flows.{flow_over, IsFeasible}
 use Rattle.flow_net.specs.Cuts.{cap_over, leaves, IsCut}
 use Rattle.flow_net.specs.Arcs.{enters}
 use Rattle.flow_net.specs.Residual.{tail_of, head_of, residual, pushed, IsClosed}
-use Rattle.flow_net.proofs.Connections.{just_self}
+use Rattle.flow_net.proofs.Connections.{just_self, cap_counts}
 use Rattle.flow_net.proofs.Cuts.{across, contrary, flow_over-le-cap_over, closed_full, closed_empty}
 use Rattle.flow_net.proofs.Zips.{zip_from_fits, closed_by_arcs}
 use Rattle.flow_net.proofs.Pushes.{IsMoved, held_none, held_all, moved_nothing, moved_on, moved_before}
@@ -35,11 +34,6 @@ flow_over_agree p q (a ∷ arcs) (x ∷ xs) e = let s = flow_over_agree p q arcs
 cap_over_agree : (p q : Arc → Bool) (arcs : List Arc) → ((a : Arc) → p a ≡ q a) → cap_over p arcs ≡ cap_over q arcs
 cap_over_agree p q [] e = refl
 cap_over_agree p q (a ∷ arcs) e = let s = cap_over_agree p q arcs e in rw (e a, s) refl
-
-cap_counts : (p : Arc → Bool) (arcs : List Arc) → AllByRecursion (λ a. a.cap ≡ 1) arcs
-    → cap_over p arcs ≡ count_by p arcs
-cap_counts p [] h = refl
-cap_counts p (a ∷ arcs) h = let s = cap_counts p arcs h.1 in rw (sum_by-cons (λ b. cond (p b) 1 0) a arcs, h.0, s) refl
 
 units : (net : Net) → All (λ a. a.cap ≡ 1) net.arcs → AllByRecursion (λ a. a.cap ≡ 1) net.arcs
 units net h = recursion_from_All (λ a. a.cap ≡ 1) net.arcs h

@@ -29,6 +29,7 @@ import shutil
 import subprocess
 import sys
 import tempfile
+import threading
 import time
 from collections import Counter
 from concurrent.futures import ThreadPoolExecutor
@@ -112,6 +113,32 @@ class Group:
         self.texts[edit.file] = self.with_edit(edit)
         self.edits.append(edit)
 
+    def waits_for(self, edit):
+        """How many edits of the group may wait for this one, or it for them."""
+        return sum(map(edit.calls_or_is_called, self.edits))
+
+
+class Groups:
+    """The groups of a crate that aren't begun, and the edits of others that wait for the proof of another function."""
+
+    def __init__(self, groups):
+        self.left, self.waiting, self.lock = list(groups), [], threading.Lock()
+
+    def begin(self):
+        """The next group, with the edits that wait, as far as they don't wait there again."""
+        with self.lock:
+            group = self.left.pop(0)
+            for edit in [*self.waiting]:
+                if group.with_edit(edit) is not None and not group.waits_for(edit):
+                    group.add(edit)
+                    self.waiting.remove(edit)
+        return group
+
+    def wait(self, edits):
+        """Keeps edits that wait for a later group."""
+        with self.lock:
+            self.waiting += edits
+
 
 def spread(crate, edits, count):
     """The edits in so many groups that are about as large, and how many pairs of a group may wait for each other. There
@@ -120,19 +147,18 @@ def spread(crate, edits, count):
     turns = Counter(map(of, edits))
     groups, pairs = [Group(crate) for _ in range(count)], 0
     for edit in sorted(edits, key=lambda it: (-turns[of(it)], of(it))):
-        waits = lambda group: sum(map(edit.calls_or_is_called, group.edits))
         fits = [group for group in groups if group.with_edit(edit) is not None]
         if not fits:
             groups.append(Group(crate))
-        group = min(fits or groups[-1:], key=lambda it: (waits(it), len(it.edits)))
-        pairs += waits(group)
+        group = min(fits or groups[-1:], key=lambda it: (it.waits_for(edit), len(it.edits)))
+        pairs += group.waits_for(edit)
         group.add(edit)
     return [group for group in groups if group.edits], pairs
 
 
 def groups_of(crate, edits):
-    """The edits in groups that take few checks, and those that don't fit their file. Edits that wait take a check more,
-    and each of them about a third of one."""
+    """The edits in groups that take few checks, and those that don't fit their file. Edits that wait may take a check
+    more, and each of them takes about a third of one."""
     fit = [edit for edit in edits if Group(crate).with_edit(edit) is not None]
     turns = Counter((edit.file, edit.function) for edit in fit)
     fewest = max([1, -(-len(fit) // MOST), *turns.values()])
@@ -283,8 +309,8 @@ def edits_to_try(crate):
 
 
 def needs_proof(crate, begin, groups):
-    """Whether a crate is proved before its groups, lest each of them does that: nothing was collected of it."""
-    return bool(begin) and len(groups) > 1 and not (begin / crate).is_dir()
+    """Whether a crate is proved before so many groups, lest each of them does that: nothing was collected of it."""
+    return bool(begin) and groups > 1 and not (begin / crate).is_dir()
 
 
 def prove(crate, begin):
@@ -296,18 +322,17 @@ def prove(crate, begin):
 
 
 class Tried:
-    """What came of edits: what is to be said, how many were refused, how many not, in how many checks, and which wait
-    for the proof of another function."""
+    """What came of edits: what is to be said, how many were refused, how many not, and in how many checks."""
 
     def __init__(self):
-        self.said, self.refused, self.failed, self.checks, self.waiting = [], 0, 0, 0, []
+        self.said, self.refused, self.failed, self.checks = [], 0, 0, 0
 
     def add(self, other):
-        for name in ("said", "refused", "failed", "checks", "waiting"):
+        for name in ("said", "refused", "failed", "checks"):
             setattr(self, name, getattr(self, name) + getattr(other, name))
 
     def hear(self, crate, group, names, heard):
-        """Takes in what a check of a group said."""
+        """Takes in what a check of a group said. The edits that wait for the proof of another function."""
         functions = re.findall(r"^fn (\S+): (.*)$", heard, re.M)
         wrong = faults(group.edits, crate, functions, heard)
         results = [(edit, *verdict(edit, crate, functions, heard)) for edit in group.edits]
@@ -316,35 +341,44 @@ class Tried:
             self.refused += came == REFUSED
             if came == REFUSED and not wrong:
                 remember(names[edit])
-        self.waiting += [edit for edit, came, _ in results if came == WAITS]
         self.said += wrong
         self.failed += len(wrong)
         self.checks += 1
+        return [edit for edit, came, _ in results if came == WAITS]
 
 
-def try_groups(crate, begin, groups, names, proof=None, copy=None):
-    """Tries groups of a crate's edits one after another, once a proof that they wait for is done, in a copy that has
-    proved the crate already or in one of their own."""
+def try_group(crate, begin, groups, names, proof=None, copy=None):
+    """Tries the next of a crate's groups, once a proof that it waits for is done, in a copy that has proved the crate
+    already or in one of its own."""
     if proof:
         proof.result()
     tried = Tried()
     with tempfile.TemporaryDirectory(prefix="flow-planted-") as folder:
         copy = copy or Copy(crate, folder, begin)
-        for group in groups:
-            tried.hear(crate, group, names, copy.check(group.texts))
+        group = groups.begin()
+        groups.wait(tried.hear(crate, group, names, copy.check(group.texts)))
     return tried
 
 
-def try_again(pool, crate, begin, tried, names, copy):
-    """Tries those of a crate's edits again that wait for the proof of another function, as long as fewer do so."""
-    while tried.waiting:
-        waited, tried.waiting = tried.waiting, []
-        groups, _ = groups_of(crate, waited)
-        tried.add(pool.submit(try_groups, crate, begin, groups, names, None, copy).result())
-        if len(tried.waiting) == len(waited):
+def try_all(crate, begin, groups, names, copy):
+    """Tries a crate's groups one after another, in one copy."""
+    tried = Tried()
+    while groups.left:
+        tried.add(try_group(crate, begin, groups, names, None, copy))
+    return tried
+
+
+def try_again(pool, crate, begin, groups, names, copy):
+    """Tries those of a crate's edits again that still wait for another function's proof, as long as fewer do so."""
+    tried = Tried()
+    while groups.waiting:
+        waited, groups = groups.waiting, Groups(groups_of(crate, groups.waiting)[0])
+        tried.add(pool.submit(try_all, crate, begin, groups, names, copy).result())
+        if len(groups.waiting) == len(waited):
             tried.said += [f"{crate}/{edit.name} waits for a function that isn't edited" for edit in waited]
             tried.failed += len(waited)
-            return
+            break
+    return tried
 
 
 def remember(name):
@@ -396,31 +430,34 @@ def main(words):
     found = []
     for crate in crates:
         todo, names, known = edits_to_try(crate)
-        found.append((crate, *groups_of(crate, todo), names, known))
+        groups, misfits = groups_of(crate, todo)
+        found.append((crate, Groups(groups), len(groups), misfits, names, known))
     # (where groups wait for a proof of the crate, those of other crates go first; else the most edits take longest)
-    found.sort(key=lambda it: (needs_proof(it[0], begin, it[1]), -sum(len(group.edits) for group in it[1])))
+    found.sort(key=lambda it: (needs_proof(it[0], begin, it[2]), -it[2]))
     with ExitStack() as kept, ThreadPoolExecutor(int(os.environ.get("RT_JOBS") or 1)) as pool:
-        proofs = {it[0]: pool.submit(prove, it[0], begin) for it in found if needs_proof(it[0], begin, it[1])}
-        started = []
-        for crate, groups, misfits, names, known in found:
-            parts, copy = [[group] for group in groups], None
-            if groups and not begin:
-                folder = kept.enter_context(tempfile.TemporaryDirectory(prefix="flow-planted-"))
-                parts, copy = [groups], Copy(crate, folder, None)
-            tried = [pool.submit(try_groups, crate, begin, part, names, proofs.get(crate), copy) for part in parts]
-            started.append((crate, misfits, names, known, tried, copy))
-        for crate, misfits, names, known, parts, copy in started:
-            tried = Tried()
-            tried.said = [f"{crate}/{edit.name} doesn't fit its file" for edit in misfits]
-            tried.failed = len(misfits)
-            for part in parts:
-                tried.add(part.result())
-            try_again(pool, crate, begin, tried, names, copy)
-            print("\n".join([*tried.said, ""]), end="")
-            told = [f"{known + tried.refused} refused", *([f"{known} of them in earlier runs"] if known else []),
-                    *([f"{tried.checks} checks"] if tried.checks else [])]
+        proofs = {it[0]: pool.submit(prove, it[0], begin) for it in found if needs_proof(it[0], begin, it[2])}
+        copies, tried = {}, {it[0]: [] for it in found}
+        # (the crates take turns, so that an edit which waits finds a later group of its crate)
+        for turn in range(max(it[2] for it in found)):
+            for crate, groups, count, _, names, _ in found:
+                if begin and turn < count:
+                    tried[crate].append(pool.submit(try_group, crate, begin, groups, names, proofs.get(crate)))
+                elif not begin and turn == 0 < count:
+                    folder = kept.enter_context(tempfile.TemporaryDirectory(prefix="flow-planted-"))
+                    copies[crate] = Copy(crate, folder, None)
+                    tried[crate].append(pool.submit(try_all, crate, begin, groups, names, copies[crate]))
+        for crate, groups, _, misfits, names, known in found:
+            came = Tried()
+            came.said = [f"{crate}/{edit.name} doesn't fit its file" for edit in misfits]
+            came.failed = len(misfits)
+            for part in tried[crate]:
+                came.add(part.result())
+            came.add(try_again(pool, crate, begin, groups, names, copies.get(crate)))
+            print("\n".join([*came.said, ""]), end="")
+            told = [f"{known + came.refused} refused", *([f"{known} of them in earlier runs"] if known else []),
+                    *([f"{came.checks} checks"] if came.checks else [])]
             print(f"{crate}: {', '.join(told)}", flush=True)
-            passed, lacking = passed + known + tried.refused, lacking + tried.failed
+            passed, lacking = passed + known + came.refused, lacking + came.failed
     for name in missing():
         print(f"docs/PLANTED.md names {name}, which isn't kept")
         lacking += 1

@@ -5,11 +5,9 @@ mod faults;
 mod output;
 mod reading;
 
-use flow_net::Problem;
 use flow_text::*;
 use std::alloc::Global;
 use std::process::Abort;
-use std::test::Fail;
 
 /// Refused problems: the text, the line of the fault and its words.
 const PROBLEM_FAULTS: &[(&str, u64, &str)] = &[
@@ -87,235 +85,269 @@ const NUMBERS: &[(&[u8], u128, Number)] = &[
     (&[b'0'; 150], 0, Number::Value(0)),
 ];
 
-/// Whether a reader that has refused a problem lends nothing, and answers the same from then on.
-fn keeps_refusing_problem(mut reader: ProblemReader, refused: ReadFault) -> bool {
-    let silent = reader.net().is_none() && reader.feed(b"c") == Err(refused);
-    reader.finish().err() == Some(refused) && silent
+/// Ends a test with the row of a table of which something isn't so.
+fn expect(rt: &impl Abort, is_so: bool, row: &str) {
+    assert!(rt; is_so, "{row}");
 }
 
-/// The same of a reader that has refused a solution.
-fn keeps_refusing_solution(mut reader: SolutionReader, refused: ReadFault) -> bool {
-    let silent = reader.lines().is_empty() && reader.feed(b"c") == Err(refused);
-    reader.finish().err() == Some(refused) && silent
+/// A reader of problems, or of solutions to a problem of two nodes, of whose texts only the refusals count.
+trait Refuses {
+    fn begin(alloc: Global) -> Self;
+
+    fn take(&mut self, piece: &[u8]) -> Result<(), ReadFault>;
+
+    /// Whether it lends nothing.
+    fn is_silent(&self) -> bool;
+
+    /// What the text is refused with that ends here.
+    fn end(self) -> Option<ReadFault>;
 }
 
-/// Reads a problem whose first piece has a given length, and the others at most another, and checks that a refusal
-/// stays.
-fn read_problem(
-    rt: &impl Abort,
-    alloc: Global,
+impl Refuses for ProblemReader {
+    fn begin(alloc: Global) -> ProblemReader {
+        ProblemReader::new(alloc)
+    }
+
+    fn take(&mut self, piece: &[u8]) -> Result<(), ReadFault> {
+        self.feed(piece)
+    }
+
+    fn is_silent(&self) -> bool {
+        self.net().is_none()
+    }
+
+    fn end(self) -> Option<ReadFault> {
+        self.finish().err()
+    }
+}
+
+impl Refuses for SolutionReader {
+    fn begin(alloc: Global) -> SolutionReader {
+        SolutionReader::new(alloc, 2)
+    }
+
+    fn take(&mut self, piece: &[u8]) -> Result<(), ReadFault> {
+        self.feed(piece)
+    }
+
+    fn is_silent(&self) -> bool {
+        self.lines().is_empty()
+    }
+
+    fn end(self) -> Option<ReadFault> {
+        self.finish().err()
+    }
+}
+
+/// Feeds a text whose first piece has a given length, and the others at most another, up to the first refusal.
+fn take_pieces<R: Refuses>(
+    reader: &mut R,
     text: &[u8],
     first: usize,
     len: usize,
-) -> Result<Problem, ReadFault>
+) -> Result<(), ReadFault>
     requires { 0 < len }
 {
     let (front, rest) = text.split_at(first.min(text.len()));
-    let mut reader = ProblemReader::new(alloc);
-    let mut answer = reader.feed(front);
+    let mut answer = reader.take(front);
     for piece in rest.chunks(len) {
         if answer.is_ok() {
-            answer = reader.feed(piece);
+            answer = reader.take(piece);
         }
     }
-    if let Err(refused) = answer {
-        assert!(rt; keeps_refusing_problem(reader, refused));
-        return Err(refused);
-    }
-    reader.finish()
+    answer
 }
 
-/// The same of a solution to a problem of two nodes.
-fn read_solution(
-    rt: &impl Abort,
-    alloc: Global,
-    text: &[u8],
-    first: usize,
-    len: usize,
-) -> Result<Solution, ReadFault>
+/// Whether a reader that has refused a piece lends nothing, and answers the same from then on.
+fn keeps_refusing<R: Refuses>(mut reader: R, refused: ReadFault) -> bool {
+    let is_silent = reader.is_silent() && reader.take(b"c") == Err(refused);
+    reader.end() == Some(refused) && is_silent
+}
+
+/// What a text in such pieces is refused with; nothing where it is accepted, or its refusal doesn't stay.
+fn refusal<R: Refuses>(alloc: Global, text: &[u8], first: usize, len: usize) -> Option<ReadFault>
     requires { 0 < len }
 {
-    let (front, rest) = text.split_at(first.min(text.len()));
-    let mut reader = SolutionReader::new(alloc, 2);
-    let mut answer = reader.feed(front);
-    for piece in rest.chunks(len) {
-        if answer.is_ok() {
-            answer = reader.feed(piece);
+    let mut reader = R::begin(alloc);
+    match take_pieces(&mut reader, text, first, len) {
+        Ok(()) => reader.end(),
+        Err(refused) => {
+            if keeps_refusing(reader, refused) {
+                Some(refused)
+            } else {
+                None
+            }
         }
     }
-    if let Err(refused) = answer {
-        assert!(rt; keeps_refusing_solution(reader, refused));
-        return Err(refused);
-    }
-    reader.finish()
 }
 
-/// The line and the words of a refusal.
-fn told<T: Drop>(rt: &impl Abort, answer: Result<T, ReadFault>) -> Option<(u64, &'static str)> {
-    match answer {
-        Ok(_) => None,
-        Err(ReadFault::Fault { line, code }) => Some((line, code.text())),
-        Err(ReadFault::OutOfMemory) => panic!(rt; "out of memory"),
+/// Whether a refusal is told at this line and in these words.
+fn is_told(refused: Option<ReadFault>, line: u64, words: &str) -> bool {
+    match refused {
+        Some(ReadFault::Fault { line: at, code }) => at == line && code.text() == words,
+        _ => false,
     }
 }
 
-/// Reads a problem whole, cut in two at each place, and one byte at a time, and checks what each reading is refused
-/// with.
-fn check_problem_fault(rt: &impl Abort, alloc: Global, text: &str, line: u64, words: &str) {
+/// Whether a text is refused so whole, cut in two at each place, and one byte at a time.
+fn is_refused<R: Refuses>(alloc: Global, text: &str, line: u64, words: &str) -> bool {
     let bytes = text.as_bytes();
     for first in 0..bytes.len() + 1 {
-        let answer = read_problem(rt, alloc, bytes, first, 4096);
-        assert_eq!(rt; told(rt, answer), Some((line, words)), "{text}");
+        if !is_told(refusal::<R>(alloc, bytes, first, 4096), line, words) {
+            return false;
+        }
     }
-    let answer = read_problem(rt, alloc, bytes, 0, 1);
-    assert_eq!(rt; told(rt, answer), Some((line, words)), "{text}");
-}
-
-/// The same of a solution to a problem of two nodes.
-fn check_solution_fault(rt: &impl Abort, alloc: Global, text: &str, line: u64, words: &str) {
-    let bytes = text.as_bytes();
-    for first in 0..bytes.len() + 1 {
-        let answer = read_solution(rt, alloc, bytes, first, 4096);
-        assert_eq!(rt; told(rt, answer), Some((line, words)), "{text}");
-    }
-    let answer = read_solution(rt, alloc, bytes, 0, 1);
-    assert_eq!(rt; told(rt, answer), Some((line, words)), "{text}");
+    is_told(refusal::<R>(alloc, bytes, 0, 1), line, words)
 }
 
 #[test]
 fn problem_faults(rt: HostRuntime) {
     for &(text, line, words) in PROBLEM_FAULTS {
-        check_problem_fault(&rt, rt.alloc(), text, line, words);
+        let is_so = is_refused::<ProblemReader>(rt.alloc(), text, line, words);
+        expect(&rt, is_so, text);
     }
 }
 
 #[test]
 fn solution_faults(rt: HostRuntime) {
     for &(text, line, words) in SOLUTION_FAULTS {
-        check_solution_fault(&rt, rt.alloc(), text, line, words);
+        let is_so = is_refused::<SolutionReader>(rt.alloc(), text, line, words);
+        expect(&rt, is_so, text);
     }
 }
 
-/// What readers of problems and of solutions answer to as many bytes as a line may have, and to what comes then.
-fn answers_to_a_long_line(alloc: Global, more: &[u8]) -> [Result<(), ReadFault>; 4] {
-    let line = [b'x'; LONGEST_LINE];
-    let mut problem = ProblemReader::new(alloc);
-    let mut solution = SolutionReader::new(alloc, 2);
-    [
-        problem.feed(&line),
-        problem.feed(more),
-        solution.feed(&line),
-        solution.feed(more),
-    ]
+/// Whether a reader takes as many bytes as a line may have, and refuses what comes then.
+fn is_full<R: Refuses>(alloc: Global, more: &[u8], code: FaultCode) -> bool {
+    let refused = ReadFault::Fault { line: 1, code };
+    let mut reader = R::begin(alloc);
+    let is_taken = reader.take(&[b'x'; LONGEST_LINE]).is_ok();
+    let is_refused = reader.take(more) == Err(refused);
+    keeps_refusing(reader, refused) && is_taken && is_refused
+}
+
+/// The same of a byte more, and of the line's end.
+fn refuses_long_lines<R: Refuses>(alloc: Global) -> bool {
+    is_full::<R>(alloc, b"x", FaultCode::LineTooLong)
+        && is_full::<R>(alloc, b"\n", FaultCode::UnknownLine)
 }
 
 #[test]
 fn lines_of_the_greatest_length(rt: HostRuntime) {
-    for (more, code) in [
-        (b"x".as_slice(), FaultCode::LineTooLong),
-        (b"\n".as_slice(), FaultCode::UnknownLine),
-    ] {
-        let refused = Err(ReadFault::Fault { line: 1, code });
-        assert_eq!(&rt;
-            answers_to_a_long_line(rt.alloc(), more),
-            [Ok(()), refused, Ok(()), refused]
-        );
-    }
+    assert!(rt;
+        refuses_long_lines::<ProblemReader>(rt.alloc())
+            && refuses_long_lines::<SolutionReader>(rt.alloc())
+    );
 }
 
 /// The bytes of a solution of one flow line more than there may be: 4, and 8 for each flow line.
 const TOO_MANY_BYTES: usize = 4 + 8 * (MOST_FLOW_LINES + 1);
 
-/// Such a solution.
-fn too_long_solution(alloc: Global) -> Result<Vec<u8>, Fail> {
-    let mut text = Vec::with_capacity(alloc, TOO_MANY_BYTES)?;
-    text.extend_from_slice(b"s 0\n")?;
+/// Adds the flow lines of such a solution, and answers whether there is memory.
+#[must_use]
+fn add_too_many_flow_lines(text: &mut Vec<u8>) -> bool {
     for _ in 0..MOST_FLOW_LINES + 1 {
-        text.extend_from_slice(b"f 1 2 0\n")?;
+        if text.extend_from_slice(b"f 1 2 0\n").is_err() {
+            return false;
+        }
     }
-    Ok(text)
+    true
 }
 
-/// Feeds a solution to a problem of two nodes in pieces of so many bytes: how many were taken and how many flow lines
-/// were kept before the first that was refused, and its refusal, which stays.
+/// Feeds a solution in pieces of so many bytes: how many were taken and how many flow lines were kept before the first
+/// that was refused, and its refusal.
 fn first_refused(
-    rt: &impl Abort,
-    alloc: Global,
+    reader: &mut SolutionReader,
     text: &[u8],
     len: usize,
 ) -> Option<(usize, usize, ReadFault)>
     requires { 0 < len }
 {
-    let mut reader = SolutionReader::new(alloc, 2);
-    for (taken, piece) in text.chunks(len).enumerate() {
+    let mut taken = 0usize;
+    for piece in text.chunks(len) {
         let kept = reader.lines().len();
-        if let Err(fault) = reader.feed(piece) {
-            assert!(rt; keeps_refusing_solution(reader, fault));
-            return Some((taken, kept, fault));
+        match reader.feed(piece) {
+            Ok(()) => taken = taken.wrapping_add(1),
+            Err(refused) => return Some((taken, kept, refused)),
         }
     }
     None
 }
 
-/// Checks how many pieces of so many bytes of such a solution are taken, and flow lines kept, before one is refused.
-fn check_pieces(
-    rt: &impl Abort,
-    alloc: Global,
-    len: usize,
-    taken: usize,
-    kept: usize,
-) -> Result<(), Fail>
+/// Whether a solution in pieces of so many bytes is refused for its flow lines after so many pieces, and after so many
+/// flow lines that are kept, and stays refused.
+fn is_refused_after(alloc: Global, text: &[u8], len: usize, taken: usize, kept: usize) -> bool
     requires { 0 < len }
 {
-    let text = too_long_solution(alloc)?;
-    assert_eq!(rt; text.len(), TOO_MANY_BYTES);
-    let refused = first_refused(rt, alloc, text.as_slice(), len);
-    assert_eq!(rt; refused, Some((taken, kept, TOO_MANY_FLOW_LINES)));
-    Ok(())
+    let mut reader = SolutionReader::new(alloc, 2);
+    let refused = first_refused(&mut reader, text, len);
+    refused == Some((taken, kept, TOO_MANY_FLOW_LINES))
+        && keeps_refusing(reader, TOO_MANY_FLOW_LINES)
+}
+
+/// The same of a solution to a problem of two nodes with one flow line more than there may be.
+fn is_too_long(alloc: Global, len: usize, taken: usize, kept: usize) -> bool
+    requires { 0 < len }
+{
+    let Ok(mut text) = b"s 0\n".to_vec(alloc) else {
+        return false;
+    };
+    let is_whole = add_too_many_flow_lines(&mut text) && text.len() == TOO_MANY_BYTES;
+    is_whole && is_refused_after(alloc, text.as_slice(), len, taken, kept)
+}
+
+/// Ends a test where it isn't so.
+fn check_pieces(rt: &impl Abort, alloc: Global, len: usize, taken: usize, kept: usize)
+    requires { 0 < len }
+{
+    assert!(rt; is_too_long(alloc, len, taken, kept));
 }
 
 #[test]
-fn too_many_flow_lines_at_once(rt: HostRuntime) -> Result<(), Fail> {
-    check_pieces(&rt, rt.alloc(), TOO_MANY_BYTES, 0, 0)
+fn too_many_flow_lines_at_once(rt: HostRuntime) {
+    check_pieces(&rt, rt.alloc(), TOO_MANY_BYTES, 0, 0);
 }
 
 /// All but the last line are taken and kept.
 #[test]
-fn too_many_flow_lines_by_the_last(rt: HostRuntime) -> Result<(), Fail> {
-    check_pieces(&rt, rt.alloc(), TOO_MANY_BYTES - 8, 1, MOST_FLOW_LINES)
+fn too_many_flow_lines_by_the_last(rt: HostRuntime) {
+    check_pieces(&rt, rt.alloc(), TOO_MANY_BYTES - 8, 1, MOST_FLOW_LINES);
 }
 
 /// Byte 10 of the last line is refused.
 #[test]
-fn too_many_flow_lines_byte_by_byte(rt: HostRuntime) -> Result<(), Fail> {
-    check_pieces(&rt, rt.alloc(), 1, TOO_MANY_BYTES - 1, MOST_FLOW_LINES)
+fn too_many_flow_lines_byte_by_byte(rt: HostRuntime) {
+    check_pieces(&rt, rt.alloc(), 1, TOO_MANY_BYTES - 1, MOST_FLOW_LINES);
 }
 
 /// Pieces of 7 bytes cut lines of 8 bytes at each of their places: of the whole pieces and 2 bytes, these 2 are
 /// refused. Two pieces cut at every place of the text would be 32 million readings of it, which is out of reach.
 #[test]
-fn too_many_flow_lines_in_pieces(rt: HostRuntime) -> Result<(), Fail> {
-    check_pieces(&rt, rt.alloc(), 7, TOO_MANY_BYTES / 7, MOST_FLOW_LINES)
+fn too_many_flow_lines_in_pieces(rt: HostRuntime) {
+    check_pieces(&rt, rt.alloc(), 7, TOO_MANY_BYTES / 7, MOST_FLOW_LINES);
+}
+
+/// Whether a line has these fields and no more.
+fn are_fields(line: &[u8], texts: &[&[u8]]) -> bool {
+    let mut found = fields(line);
+    for text in texts {
+        let Some(field) = found.next() else {
+            return false;
+        };
+        if field != *text {
+            return false;
+        }
+    }
+    found.next().is_none()
 }
 
 #[test]
 fn fields_of_a_line(rt: HostRuntime) {
-    let mut found = fields(b"\ta  12\r 3 \r");
-    let four = [found.next(), found.next(), found.next(), found.next()];
-    assert_eq!(&rt;
-        four,
-        [
-            Some(b"a".as_slice()),
-            Some(b"12".as_slice()),
-            Some(b"3".as_slice()),
-            None
-        ]
-    );
+    assert!(rt; are_fields(b"\ta  12\r 3 \r", &[b"a", b"12", b"3"]));
 }
 
 #[test]
 fn numbers_of_fields(rt: HostRuntime) {
     for &(field, limit, answer) in NUMBERS {
-        assert_eq!(&rt; number(field, limit), answer);
+        assert!(rt; number(field, limit) == answer, "{field:?}");
     }
 }

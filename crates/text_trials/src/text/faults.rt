@@ -33,6 +33,6 @@ const WORDS: &[(FaultCode, &str)] = &[
 #[test]
 fn words_of_faults(rt: HostRuntime) {
     for &(code, words) in WORDS {
-        assert_eq!(&rt; code.text(), words);
+        expect(&rt, code.text() == words, words);
     }
 }

@@ -2,8 +2,8 @@
 ghost use Rattle.std.specs.Prelude.{◌<◌};
 
 use super::*;
-use crate::net::{arc, has_arcs};
-use flow_net::{Arc, Network};
+use crate::net::{Triple, has_arcs};
+use flow_net::{Network, Problem};
 
 /// Problems of two nodes without arcs, whose source is node 1 and whose sink is node 2.
 const PROBLEMS: &[&str] = &[
@@ -41,64 +41,85 @@ fn is_without_arcs(problem: &Problem) -> bool {
         && problem.sinks() == [2].as_slice()
 }
 
-/// Reads a problem in pieces, the first so long, the others at most so long, and checks what it says.
-fn check_problem(rt: &impl Abort, alloc: Global, text: &str, first: usize, len: usize)
+/// Reads a problem whose first piece has a given length, and the others at most another.
+fn read_problem(alloc: Global, text: &[u8], first: usize, len: usize) -> Option<Problem>
     requires { 0 < len }
 {
-    let problem = read_problem(rt, alloc, text.as_bytes(), first, len).expect(rt, text);
-    assert!(rt; is_without_arcs(&problem), "{text}");
-}
-
-/// The same of a solution, which is to have this value and these flow lines.
-fn check_solution(
-    rt: &impl Abort,
-    alloc: Global,
-    row: (&str, u128, &[FlowLine]),
-    first: usize,
-    len: usize,
-)
-    requires { 0 < len }
-{
-    let (text, value, lines) = row;
-    let solution = read_solution(rt, alloc, text.as_bytes(), first, len).expect(rt, text);
-    assert!(rt;
-        solution.value == value && solution.lines.as_slice() == lines,
-        "{text}"
-    );
-}
-
-/// Checks a problem whole, cut in two at each place, and one byte at a time.
-fn check_problem_cut(rt: &impl Abort, alloc: Global, text: &str) {
-    for first in 0..text.len() + 1 {
-        check_problem(rt, alloc, text, first, 4096);
+    let mut reader = ProblemReader::new(alloc);
+    match take_pieces(&mut reader, text, first, len) {
+        Ok(()) => reader.finish().ok(),
+        Err(_) => None,
     }
-    check_problem(rt, alloc, text, 0, 1);
 }
 
 /// The same of a solution.
-fn check_solution_cut(rt: &impl Abort, alloc: Global, row: (&str, u128, &[FlowLine])) {
-    for first in 0..row.0.len() + 1 {
-        check_solution(rt, alloc, row, first, 4096);
+fn read_solution(alloc: Global, text: &[u8], first: usize, len: usize) -> Option<Solution>
+    requires { 0 < len }
+{
+    let mut reader = SolutionReader::new(alloc, 2);
+    match take_pieces(&mut reader, text, first, len) {
+        Ok(()) => reader.finish().ok(),
+        Err(_) => None,
     }
-    check_solution(rt, alloc, row, 0, 1);
+}
+
+/// Whether a text in such pieces is a problem without arcs.
+fn is_problem(alloc: Global, text: &[u8], first: usize, len: usize) -> bool
+    requires { 0 < len }
+{
+    match read_problem(alloc, text, first, len) {
+        Some(problem) => is_without_arcs(&problem),
+        None => false,
+    }
+}
+
+/// Whether it is a solution of this value and these flow lines.
+fn is_solution(alloc: Global, row: (&str, u128, &[FlowLine]), first: usize, len: usize) -> bool
+    requires { 0 < len }
+{
+    let (text, value, lines) = row;
+    match read_solution(alloc, text.as_bytes(), first, len) {
+        Some(solution) => solution.value == value && solution.lines.as_slice() == lines,
+        None => false,
+    }
+}
+
+/// Whether a text is a problem without arcs whole, cut in two at each place, and one byte at a time.
+fn is_problem_cut(alloc: Global, text: &str) -> bool {
+    for first in 0..text.len() + 1 {
+        if !is_problem(alloc, text.as_bytes(), first, 4096) {
+            return false;
+        }
+    }
+    is_problem(alloc, text.as_bytes(), 0, 1)
+}
+
+/// The same of a solution.
+fn is_solution_cut(alloc: Global, row: (&str, u128, &[FlowLine])) -> bool {
+    for first in 0..row.0.len() + 1 {
+        if !is_solution(alloc, row, first, 4096) {
+            return false;
+        }
+    }
+    is_solution(alloc, row, 0, 1)
 }
 
 #[test]
 fn problems_are_accepted(rt: HostRuntime) {
     for text in PROBLEMS {
-        check_problem_cut(&rt, rt.alloc(), text);
+        expect(&rt, is_problem_cut(rt.alloc(), text), text);
     }
 }
 
 #[test]
 fn solutions_are_accepted(rt: HostRuntime) {
     for &row in SOLUTIONS {
-        check_solution_cut(&rt, rt.alloc(), row);
+        expect(&rt, is_solution_cut(rt.alloc(), row), row.0);
     }
 }
 
 /// Whether a reader takes a piece of a problem, and then lends a network of three nodes and these arcs.
-fn lends_after(reader: &mut ProblemReader, piece: &[u8], arcs: &[Arc]) -> bool {
+fn lends_after(reader: &mut ProblemReader, piece: &[u8], arcs: &[Triple]) -> bool {
     let taken = reader.feed(piece).is_ok();
     match reader.net() {
         Some(net) => taken && net.nodes() == 3 && has_arcs(net, arcs),
@@ -106,26 +127,37 @@ fn lends_after(reader: &mut ProblemReader, piece: &[u8], arcs: &[Arc]) -> bool {
     }
 }
 
-#[test]
-fn arcs_are_lent(rt: HostRuntime) {
-    let arcs = [arc(1, 2, 7), arc(2, 3, 9)];
-    let mut reader = ProblemReader::new(rt.alloc());
-    assert!(&rt; reader.feed(b"p max 3 2").is_ok() && reader.net().is_none());
-    assert!(&rt; lends_after(&mut reader, b"\nn 1 s\nn 3 t\na 1 2 7\na 2 3 9", &arcs[..1]));
-    assert!(&rt; lends_after(&mut reader, b"\n", &arcs));
+/// The two arcs that are lent.
+const LENT: &[Triple] = &[(1, 2, 7), (2, 3, 9)];
+
+/// Whether a reader of problems lends no arc, then one, then both.
+fn lends_arcs(alloc: Global) -> bool {
+    let mut reader = ProblemReader::new(alloc);
+    reader.feed(b"p max 3 2").is_ok()
+        && reader.net().is_none()
+        && lends_after(&mut reader, b"\nn 1 s\nn 3 t\na 1 2 7\na 2 3 9", &LENT[..1])
+        && lends_after(&mut reader, b"\n", LENT)
 }
 
 #[test]
-fn flow_lines_are_lent(rt: HostRuntime) {
+fn arcs_are_lent(rt: HostRuntime) {
+    assert!(rt; lends_arcs(rt.alloc()));
+}
+
+/// Whether a reader of solutions lends a flow line, and none that hasn't ended.
+fn lends_line(alloc: Global) -> bool {
     let line = FlowLine {
         src: 1,
         dst: 2,
         flow: 7,
     };
-    let mut reader = SolutionReader::new(rt.alloc(), 3);
-    assert!(&rt;
-        reader.feed(b"s 7\nf 1 2 7\nf 2 3").is_ok() && reader.lines() == [line].as_slice()
-    );
+    let mut reader = SolutionReader::new(alloc, 3);
+    reader.feed(b"s 7\nf 1 2 7\nf 2 3").is_ok() && reader.lines() == [line].as_slice()
+}
+
+#[test]
+fn flow_lines_are_lent(rt: HostRuntime) {
+    assert!(rt; lends_line(rt.alloc()));
 }
 
 /// A problem whose first arc lines have the usual form or nearly so, with the longest numbers that such lines have.
@@ -157,11 +189,17 @@ fn has_capacities(net: &Network) -> bool {
     true
 }
 
+/// Whether that problem is read so, cut in two at a place.
+fn is_usual_or_not(alloc: Global, first: usize) -> bool {
+    match read_problem(alloc, USUAL_AND_NOT.as_bytes(), first, 4096) {
+        Some(problem) => has_capacities(problem.net()),
+        None => false,
+    }
+}
+
 #[test]
 fn arc_lines_usual_and_not(rt: HostRuntime) {
-    let text = USUAL_AND_NOT.as_bytes();
-    for first in 0..text.len() + 1 {
-        let problem = read_problem(&rt, rt.alloc(), text, first, 4096).expect(&rt, "a problem");
-        assert!(&rt; has_capacities(problem.net()));
+    for first in 0..USUAL_AND_NOT.len() + 1 {
+        assert!(rt; is_usual_or_not(rt.alloc(), first));
     }
 }

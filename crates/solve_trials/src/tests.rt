@@ -22,6 +22,14 @@ use flow_solve::*;
 use std::alloc::Global;
 use std::process::Abort;
 
+/// An arc's ends and its capacity.
+type Triple = (u32, u32, u64);
+
+/// Ends a test with the row of a table of which something isn't so.
+fn expect(rt: &impl Abort, is_so: bool, row: &str) {
+    assert!(rt; is_so, "{row}");
+}
+
 /// Whether a number stands nowhere before its place.
 fn is_new(nodes: &[u32], j: usize) -> bool
     requires { j < length nodes.now }
@@ -67,7 +75,7 @@ fn all_within(nodes: &[u32], most: u32) -> bool
 }
 
 /// A network with some arcs.
-fn network(rt: &impl Abort, alloc: Global, nodes: u32, arcs: &[(u32, u32, u64)]) -> Network
+fn network(rt: &impl Abort, alloc: Global, nodes: u32, arcs: &[Triple]) -> Network
     requires least { FEWEST_NODES ≤ nodes }
     requires most { nodes ≤ MOST_NODES }
 {
@@ -78,7 +86,7 @@ fn network(rt: &impl Abort, alloc: Global, nodes: u32, arcs: &[(u32, u32, u64)])
 
 /// Adds arcs, and answers whether the network can have them all and there is memory.
 #[must_use]
-fn add_all(net: &mut Network, arcs: &[(u32, u32, u64)]) -> bool {
+fn add_all(net: &mut Network, arcs: &[Triple]) -> bool {
     for (src, dst, cap) in arcs {
         if !add(net, *src, *dst, *cap) {
             return false;
@@ -258,6 +266,18 @@ fn in_each(net: &Network, s: &[u32], t: &[u32], least: u128, node: u32, inside: 
     true
 }
 
+/// Whether an answer has the sides that a trial of all sets of nodes finds, where its value is the least capacity.
+fn has_sides(net: &Network, s: &[u32], t: &[u32], answer: &Answer) -> bool {
+    for place in 0..net.nodes().min(6) {
+        let side = in_each(net, s, t, answer.value, place + 1, true);
+        let back = in_each(net, s, t, answer.value, place + 1, false);
+        if side != answer.side[place as usize] || back != answer.back[place as usize] {
+            return false;
+        }
+    }
+    true
+}
+
 /// Whether the solver answers what a trial of all sets of nodes does.
 fn agrees(rt: &impl Abort, alloc: Global, net: &Network, terminals: &[u32], k: usize) -> bool {
     if terminals.len() < k {
@@ -266,16 +286,8 @@ fn agrees(rt: &impl Abort, alloc: Global, net: &Network, terminals: &[u32], k: u
     let (s, t) = terminals.split_at(k);
     let least = least_capacity(net, s, t);
     let answer = solve(rt, alloc, net, terminals, k);
-    for place in 0u32..6 {
-        let (side, back) = (answer.side[place as usize], answer.back[place as usize]);
-        if place < net.nodes()
-            && (side != in_each(net, s, t, least, place + 1, true)
-                || back != in_each(net, s, t, least, place + 1, false))
-        {
-            return false;
-        }
-    }
-    answer.agree && answer.rises == (least > 0) && answer.value == least
+    let has_value = answer.value == least && answer.rises == (least > 0);
+    has_value && answer.agree && has_sides(net, s, t, &answer)
 }
 
 /// Numbers that look random.
@@ -304,6 +316,9 @@ fn random_node(random: &mut Random, nodes: u32) -> u32
     1 + random.below(u64::from(nodes)) as u32
 }
 
+/// The capacities that are drawn.
+const CAPACITIES: [u64; 8] = [0, 1, 2, 3, 5, 8, 100, u64::MAX];
+
 /// Adds arcs between any two nodes, fewer than a number of them and some in both directions: self-loops, parallel and
 /// opposite arcs among them, in some networks beside each arc; small capacities and the largest. Answers whether all of
 /// them were added.
@@ -315,7 +330,7 @@ fn add_arcs(net: &mut Network, random: &mut Random, limit: u64) -> bool
     for _ in 0..random.below(limit) {
         let src = random_node(random, net.nodes());
         let dst = random_node(random, net.nodes());
-        let cap = [0, 1, 2, 3, 5, 8, 100, u64::MAX][random.below(8) as usize];
+        let cap = CAPACITIES[random.below(8) as usize];
         if !add(net, src, dst, cap) || random.below(one_of) == 0 && !add(net, dst, src, cap) {
             return false;
         }
@@ -371,11 +386,11 @@ fn all_sets_agree(rt: HostRuntime) {
     let mut tried = 0u32;
     for _ in 0..600 {
         if let Some(drawn) = draw(rt.alloc(), &mut random, 5, 15) {
-            assert!(&rt; agrees(&rt, rt.alloc(), &drawn.net, drawn.terminals(), drawn.k));
+            assert!(rt; agrees(&rt, rt.alloc(), &drawn.net, drawn.terminals(), drawn.k));
             tried = tried.wrapping_add(1);
         }
     }
-    assert!(&rt; tried > 100);
+    assert!(rt; tried > 100);
 }
 
 /// Stages of [`Levels`] before the phases, and how much they may take.
@@ -462,6 +477,12 @@ fn stages<'a, S: Stage>(
     }
 }
 
+/// The same on a network of six nodes, from node 1 to node 6.
+fn stages_on_six<S: Stage>(rt: &impl Abort, alloc: Global, arcs: &[Triple], stage: &S) -> Outcome {
+    let net = network(rt, alloc, 6, arcs);
+    stages(rt, alloc, &net, &[1, 6], 1, stage)
+}
+
 /// Raises the empty flow by stages and by the phases after them. Answers the value that the stages reach, whether they
 /// say that it is greatest, and the value that the phases reach.
 fn run_stages<'a, S: Stage>(
@@ -491,6 +512,33 @@ fn run_stages<'a, S: Stage>(
     let task = Task { packed, s, t };
     let reached = stage.go_on(task, flow, cells, begun);
     (reached, is_finished, run_phases(task, flow, cells, reached))
+}
+
+/// A stage that may take as much as it is told.
+trait Allowed: Stage {
+    fn allowed(allowance: u64) -> Self;
+}
+
+/// Whether a stage reaches more and more on a network of six nodes, the more it may take, up to this value, and at times
+/// something and not all.
+fn rises<S: Allowed + Drop>(
+    rt: &impl Abort,
+    alloc: Global,
+    arcs: &[Triple],
+    value: u128,
+    allowances: u64,
+) -> bool {
+    let mut before = 0u128;
+    let mut between = 0u32;
+    for allowance in 0..allowances {
+        let outcome = stages_on_six(rt, alloc, arcs, &S::allowed(allowance));
+        if !outcome.is_after(before, value) {
+            return false;
+        }
+        between = between.wrapping_add(u32::from(outcome.is_between()));
+        before = outcome.reached;
+    }
+    between > 0 && before == value
 }
 
 /// A stage that may take as much as is drawn, below a number.
@@ -585,17 +633,19 @@ fn add_chain(net: &mut Network) -> bool {
     true
 }
 
+/// Whether a chain of 100,000 nodes is narrow.
+fn is_narrow_chain(rt: &impl Abort, alloc: Global, net: &Network) -> bool {
+    assert!(rt; may_be_terminals(net, &[1, 100_000], 1));
+    let mut flow = empty_flow(rt, alloc, net);
+    let mut work = cells_for(rt, alloc, net);
+    let mut side = Vec::from_elem(alloc, false, net.nodes() as usize).expect(rt, "memory");
+    is_narrow(net, &[1], &[100_000], &mut flow, &mut work, &mut side)
+}
+
 #[test]
 fn a_long_chain(rt: HostRuntime) {
     let mut net = Network::new(rt.alloc(), 100_000);
-    assert!(&rt; add_chain(&mut net));
-    let net = net;
-    assert!(&rt; may_be_terminals(&net, &[1, 100_000], 1));
-    assert_eq!(&rt; net.nodes(), 100_000);
-    let mut flow = empty_flow(&rt, rt.alloc(), &net);
-    let mut work = cells_for(&rt, rt.alloc(), &net);
-    let mut side = Vec::from_elem(rt.alloc(), false, 100_000).expect(&rt, "memory");
-    assert!(&rt; is_narrow(&net, &[1], &[100_000], &mut flow, &mut work, &mut side));
+    assert!(rt; add_chain(&mut net) && is_narrow_chain(&rt, rt.alloc(), &net));
 }
 
 /// Adds a star: a path over each of its nodes. Answers whether all arcs were added.
@@ -609,14 +659,16 @@ fn add_star(net: &mut Network) -> bool {
     true
 }
 
+/// The greatest value of a flow from node 1 to node 200,002.
+fn greatest_of_star(rt: &impl Abort, alloc: Global, net: &Network) -> u128 {
+    assert!(rt; may_be_terminals(net, &[1, 200_002], 1));
+    let mut flow = empty_flow(rt, alloc, net);
+    let mut work = cells_for(rt, alloc, net);
+    Levels::greatest(net, &[1], &[200_002], &mut flow, &mut work)
+}
+
 #[test]
 fn a_star(rt: HostRuntime) {
     let mut net = Network::new(rt.alloc(), 200_002);
-    assert!(&rt; add_star(&mut net));
-    let net = net;
-    assert!(&rt; may_be_terminals(&net, &[1, 200_002], 1));
-    let mut flow = empty_flow(&rt, rt.alloc(), &net);
-    let mut work = cells_for(&rt, rt.alloc(), &net);
-    let value = Levels::greatest(&net, &[1], &[200_002], &mut flow, &mut work);
-    assert_eq!(&rt; value, 200_000);
+    assert!(rt; add_star(&mut net) && greatest_of_star(&rt, rt.alloc(), &net) == 200_000);
 }

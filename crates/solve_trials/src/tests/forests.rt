@@ -154,19 +154,21 @@ const UNITS: &[Unit] = &[
     },
 ];
 
+/// Whether a network is balanced, and has the connectivity, as told.
+fn is_as_told(rt: &impl Abort, alloc: Global, unit: &Unit) -> bool {
+    if unit.nodes < FEWEST_NODES || MOST_NODES < unit.nodes {
+        return false;
+    }
+    let mut net = Network::new(alloc, unit.nodes);
+    add_units(&mut net, unit.arcs)
+        && is_balanced(alloc, &net) == Some(unit.is_balanced)
+        && grown_within(rt, alloc, &net, 1000) == Some(unit.connectivity)
+}
+
 #[test]
 fn balanced_degrees_and_connectivity_by_hand(rt: HostRuntime) {
     for unit in UNITS {
-        let mut net = Network::new(rt.alloc(), unit.nodes);
-        assert!(&rt; add_units(&mut net, unit.arcs));
-        assert_eq!(&rt;
-            (unit.name, is_balanced(rt.alloc(), &net)),
-            (unit.name, Some(unit.is_balanced))
-        );
-        assert_eq!(&rt;
-            (unit.name, grown_within(&rt, rt.alloc(), &net, 1000)),
-            (unit.name, Some(unit.connectivity))
-        );
+        expect(&rt, is_as_told(&rt, rt.alloc(), unit), unit.name);
     }
 }
 
@@ -189,14 +191,14 @@ fn add_ring(net: &mut Network, is_turned: bool) -> bool {
     true
 }
 
+/// Whether such a ring of 500 nodes has connectivity 1, without a step for a flow.
+fn is_grown_round(rt: &impl Abort, alloc: Global, is_turned: bool) -> bool {
+    let mut net = Network::new(alloc, 500);
+    add_ring(&mut net, is_turned) && grown_within(rt, alloc, &net, 0) == Some(1)
+}
+
 #[test]
 fn a_forest_goes_round_a_ring_without_a_flow(rt: HostRuntime) {
-    for is_turned in [false, true] {
-        let mut net = Network::new(rt.alloc(), 500);
-        assert!(&rt; add_ring(&mut net, is_turned));
-        assert_eq!(&rt;
-            (is_turned, grown_within(&rt, rt.alloc(), &net, 0)),
-            (is_turned, Some(1))
-        );
-    }
+    expect(&rt, is_grown_round(&rt, rt.alloc(), false), "not turned");
+    expect(&rt, is_grown_round(&rt, rt.alloc(), true), "turned");
 }

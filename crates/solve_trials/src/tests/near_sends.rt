@@ -19,9 +19,11 @@ impl Stage for Near {
 /// How many workers there are, and how many jobs.
 const WORKERS: u32 = 100;
 
-/// Adds the workers and the jobs: each worker may do three jobs, or fewer where one is drawn twice.
+/// Adds the workers and the jobs: each worker may do three jobs, or fewer where one is drawn twice. Answers whether all
+/// arcs were added.
 #[must_use]
-fn add_workers(net: &mut Network, random: &mut Random) -> bool {
+fn add_workers(net: &mut Network) -> bool {
+    let mut random = Random { state: 1955 };
     for i in 0..WORKERS {
         let worker = 3 + i;
         let job = 3 + WORKERS + i;
@@ -41,13 +43,11 @@ fn add_workers(net: &mut Network, random: &mut Random) -> bool {
 /// No contract tells whether near sends bring anything.
 #[test]
 fn near_sends_fill_most_of_an_assignment(rt: HostRuntime) {
-    let mut random = Random { state: 1955 };
     let mut net = Network::new(rt.alloc(), 2 + 2 * WORKERS);
-    assert!(&rt; add_workers(&mut net, &mut random));
-    let near = Near(allowance(&net));
-    let outcome = stages(&rt, rt.alloc(), &net, &[1, 2], 1, &near);
-    assert!(&rt; 90 < outcome.greatest && outcome.is_possible());
-    assert!(&rt; outcome.greatest.saturating_mul(4) < outcome.reached.saturating_mul(5));
+    let is_added = add_workers(&mut net);
+    let outcome = stages(&rt, rt.alloc(), &net, &[1, 2], 1, &Near(allowance(&net)));
+    let is_most = outcome.greatest.saturating_mul(4) < outcome.reached.saturating_mul(5);
+    assert!(rt; is_added && is_most && 90 < outcome.greatest && outcome.is_possible());
 }
 
 /// How many nodes the dense network has, with an arc from each to every later one.
@@ -55,7 +55,8 @@ const MANY: u32 = 80;
 
 /// Adds the arcs. Answers whether all were added.
 #[must_use]
-fn add_many(net: &mut Network, random: &mut Random) -> bool {
+fn add_many(net: &mut Network) -> bool {
+    let mut random = Random { state: 1990 };
     for i in 1..MANY {
         for j in i + 1..=MANY {
             if !add(net, i, j, 1 + random.below(1000)) {
@@ -69,17 +70,15 @@ fn add_many(net: &mut Network, random: &mut Random) -> bool {
 /// In a dense network more than half of the flow goes over one node or two.
 #[test]
 fn near_sends_fill_half_of_a_dense_network(rt: HostRuntime) {
-    let mut random = Random { state: 1990 };
     let mut net = Network::new(rt.alloc(), MANY);
-    assert!(&rt; add_many(&mut net, &mut random));
-    let near = Near(allowance(&net));
-    let outcome = stages(&rt, rt.alloc(), &net, &[1, MANY], 1, &near);
-    assert!(&rt; outcome.is_possible() && outcome.is_between());
-    assert!(&rt; outcome.greatest < outcome.reached.saturating_mul(2));
+    let is_added = add_many(&mut net);
+    let outcome = stages(&rt, rt.alloc(), &net, &[1, MANY], 1, &Near(allowance(&net)));
+    let is_half = outcome.greatest < outcome.reached.saturating_mul(2);
+    assert!(rt; is_added && is_half && outcome.is_possible() && outcome.is_between());
 }
 
 /// Arcs, what near sends reach on them from node 1 to node 6, and the greatest value.
-const NEAR: &[(&[(u32, u32, u64)], u128, u128)] = &[
+const NEAR: &[(&[Triple], u128, u128)] = &[
     // Over one node, and then over two.
     (&[(1, 2, 5), (2, 6, 2), (2, 3, 9), (3, 6, 2)], 4, 4),
     (&[(1, 2, 1), (2, 6, 5), (1, 3, 4), (3, 2, 4)], 5, 5),
@@ -127,26 +126,22 @@ const NEAR: &[(&[(u32, u32, u64)], u128, u128)] = &[
 
 #[test]
 fn near_sends_by_hand(rt: HostRuntime) {
-    for (arcs, reached, greatest) in NEAR {
-        let net = network(&rt, rt.alloc(), 6, arcs);
-        let outcome = stages(&rt, rt.alloc(), &net, &[1, 6], 1, &Near(1000));
-        assert!(&rt; outcome.is(*reached, *greatest));
+    for &(arcs, reached, greatest) in NEAR {
+        let outcome = stages_on_six(&rt, rt.alloc(), arcs, &Near(1000));
+        assert!(rt; outcome.is(reached, greatest));
+    }
+}
+
+impl Allowed for Near {
+    fn allowed(allowance: u64) -> Near {
+        Near(allowance)
     }
 }
 
 #[test]
 fn near_sends_that_are_left(rt: HostRuntime) {
     let (arcs, value, _) = NEAR[0];
-    let net = network(&rt, rt.alloc(), 6, arcs);
-    let mut before = 0u128;
-    let mut between = 0u32;
-    for allowance in 0u64..100 {
-        let outcome = stages(&rt, rt.alloc(), &net, &[1, 6], 1, &Near(allowance));
-        assert!(&rt; outcome.is_after(before, value));
-        between = between.wrapping_add(u32::from(outcome.is_between()));
-        before = outcome.reached;
-    }
-    assert!(&rt; between > 0 && before == value);
+    assert!(rt; rises::<Near>(&rt, rt.alloc(), arcs, value, 100));
 }
 
 impl Limited for Near {
@@ -165,5 +160,5 @@ fn near_sends_on_random_networks(rt: HostRuntime) {
         most: 200,
     };
     let tally = run_on_random_networks::<Near>(&rt, rt.alloc(), draws);
-    assert!(&rt; tally.tried > 2000 && tally.between > 20);
+    assert!(rt; tally.tried > 2000 && tally.between > 20);
 }

@@ -8,7 +8,7 @@ use super::*;
 const JOINED: u32 = 1 << 31;
 
 /// Node 1 is the source and node 5 the sink. The arcs between nodes 2 and 3 are opposite and follow each other.
-const ARCS: &[(u32, u32, u64)] = &[
+const ARCS: &[Triple] = &[
     (1, 2, 9),
     (2, 3, 4),
     (3, 2, 1),
@@ -42,8 +42,8 @@ fn has_rows(net: &Network) -> bool
 #[test]
 fn rows_by_hand(rt: HostRuntime) {
     let net = network(&rt, rt.alloc(), 5, ARCS);
-    assert!(&rt; net.nodes() == 5 && net.len() == 6 && may_be_terminals(&net, &[1, 5], 1));
-    assert!(&rt; has_rows(&net));
+    let has_sizes = net.nodes() == 5 && net.len() == 6;
+    assert!(rt; has_sizes && may_be_terminals(&net, &[1, 5], 1) && has_rows(&net));
 }
 
 /// A line of pixels, each with an arc to the sink, and with one to the next pixel or, if asked for, one each way
@@ -90,13 +90,17 @@ fn lines_suit_rows(alloc: Global, least: u32) -> bool
     true
 }
 
+/// Whether a line of 1000 pixels suits rows between its first pixel and another node; nothing without memory.
+fn line_suits_rows(alloc: Global, both_ways: bool, last: u32) -> Option<bool> {
+    let net = line(alloc, 1000, both_ways)?;
+    Some(suits_rows(&net, &[1, last]))
+}
+
 #[test]
 fn pictures_are_known(rt: HostRuntime) {
     let alloc = rt.alloc();
-    assert!(&rt; lines_suit_rows(alloc, 700));
     // Without opposite arcs, and with hardly an arc to a terminal.
-    let one_way = line(alloc, 1000, false).expect(&rt, "memory");
-    assert!(&rt; !suits_rows(&one_way, &[1, 1001]));
-    let far = line(alloc, 1000, true).expect(&rt, "memory");
-    assert!(&rt; !suits_rows(&far, &[1, 1000]));
+    let one_way = line_suits_rows(alloc, false, 1001);
+    let far = line_suits_rows(alloc, true, 1000);
+    assert!(rt; lines_suit_rows(alloc, 700) && one_way == Some(false) && far == Some(false));
 }

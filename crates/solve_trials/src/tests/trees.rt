@@ -17,7 +17,7 @@ impl Stage for Trees {
 
 /// Arcs on which the trees come to an end of themselves, and the greatest value. Node 1 is the source and node 6 the
 /// sink.
-const GROWN: &[(&[(u32, u32, u64)], u128)] = &[
+const GROWN: &[(&[Triple], u128)] = &[
     (&[(1, 2, 3), (2, 6, 2), (1, 3, 4), (3, 6, 5), (1, 6, 7)], 13),
     // The half-arc from node 1 to node 2 is filled first: node 2 is an orphan that has to be raised.
     (&[(1, 2, 1), (2, 6, 5), (1, 3, 4), (3, 2, 4)], 5),
@@ -27,26 +27,22 @@ const GROWN: &[(&[(u32, u32, u64)], u128)] = &[
 
 #[test]
 fn trees_that_end_of_themselves(rt: HostRuntime) {
-    for (arcs, value) in GROWN {
-        let net = network(&rt, rt.alloc(), 6, arcs);
-        let outcome = stages(&rt, rt.alloc(), &net, &[1, 6], 1, &Trees(1000));
-        assert!(&rt; outcome.is(*value, *value));
+    for &(arcs, value) in GROWN {
+        let outcome = stages_on_six(&rt, rt.alloc(), arcs, &Trees(1000));
+        assert!(rt; outcome.is(value, value));
+    }
+}
+
+impl Allowed for Trees {
+    fn allowed(allowance: u64) -> Trees {
+        Trees(allowance)
     }
 }
 
 #[test]
 fn trees_that_are_left(rt: HostRuntime) {
     let (arcs, value) = GROWN[0];
-    let net = network(&rt, rt.alloc(), 6, arcs);
-    let mut before = 0u128;
-    let mut between = 0u32;
-    for allowance in 0u64..200 {
-        let outcome = stages(&rt, rt.alloc(), &net, &[1, 6], 1, &Trees(allowance));
-        assert!(&rt; outcome.is_after(before, value));
-        between = between.wrapping_add(u32::from(outcome.is_between()));
-        before = outcome.reached;
-    }
-    assert!(&rt; between > 0 && before == value);
+    assert!(rt; rises::<Trees>(&rt, rt.alloc(), arcs, value, 200));
 }
 
 impl Limited for Trees {
@@ -65,7 +61,7 @@ fn trees_agree_on_random_networks(rt: HostRuntime) {
         most: 60,
     };
     let tally = run_on_random_networks::<Trees>(&rt, rt.alloc(), draws);
-    assert!(&rt; tally.tried > 2000 && tally.between > 20);
+    assert!(rt; tally.tried > 2000 && tally.between > 20);
 }
 
 /// The columns and rows of the image.
@@ -96,10 +92,11 @@ fn add_pixel(net: &mut Network, random: &mut Random, column: u32, row: u32) -> b
 
 /// Adds the pixels. Answers whether all arcs were added.
 #[must_use]
-fn add_image(net: &mut Network, random: &mut Random) -> bool {
+fn add_image(net: &mut Network) -> bool {
+    let mut random = Random { state: 2004 };
     for row in 0..ROWS {
         for column in 0..COLUMNS {
-            if !add_pixel(net, random, column, row) {
+            if !add_pixel(net, &mut random, column, row) {
                 return false;
             }
         }
@@ -110,11 +107,11 @@ fn add_image(net: &mut Network, random: &mut Random) -> bool {
 /// No contract tells whether the trees bring anything.
 #[test]
 fn trees_alone_cut_an_image(rt: HostRuntime) {
-    let mut random = Random { state: 2004 };
     let mut net = Network::new(rt.alloc(), 2 + COLUMNS * ROWS);
-    assert!(&rt; add_image(&mut net, &mut random));
+    let is_added = add_image(&mut net);
     let outcome = stages(&rt, rt.alloc(), &net, &[1, 2], 1, &Trees(allowance(&net)));
-    assert!(&rt; 1000 < outcome.greatest && outcome.is_finished && outcome.is_possible());
+    let is_cut = 1000 < outcome.greatest && outcome.is_finished && outcome.is_possible();
+    assert!(rt; is_added && is_cut);
 }
 
 /// How many leaves the hub has, and how many paths lead to it and from it.
@@ -166,10 +163,10 @@ fn add_ways(net: &mut Network) -> bool {
 #[test]
 fn trees_are_tired_of_a_hub(rt: HostRuntime) {
     let mut net = Network::new(rt.alloc(), 3 + LEAVES + WAYS * (WAYS + 1));
-    assert!(&rt; add_leaves(&mut net) && add_ways(&mut net));
+    let is_added = add_leaves(&mut net) && add_ways(&mut net);
     let outcome = stages(&rt, rt.alloc(), &net, &[1, 2], 1, &Trees(u64::MAX / 2));
-    assert!(&rt; 0 < outcome.reached && outcome.reached < u128::from(WAYS));
-    assert!(&rt; !outcome.is_finished);
+    let is_tired = 0 < outcome.reached && outcome.reached < u128::from(WAYS);
+    assert!(rt; is_added && is_tired && !outcome.is_finished);
 }
 
 /// Where the trees say that they are finished the flow is greatest, as their contract tells. That they mostly are, none
@@ -184,12 +181,11 @@ fn trees_on_random_networks(rt: HostRuntime) {
         most: 1000,
     };
     let tally = run_on_random_networks::<Trees>(&rt, rt.alloc(), draws);
-    assert!(&rt; tally.finished > 1000 && tally.between > 100);
+    assert!(rt; tally.finished > 1000 && tally.between > 100);
 }
 
 #[test]
 fn trees_with_no_allowance(rt: HostRuntime) {
-    let net = network(&rt, rt.alloc(), 6, &[(1, 2, 3), (2, 6, 2)]);
-    let outcome = stages(&rt, rt.alloc(), &net, &[1, 6], 1, &Trees(0));
-    assert!(&rt; outcome.reached == 0 && !outcome.is_finished);
+    let outcome = stages_on_six(&rt, rt.alloc(), &[(1, 2, 3), (2, 6, 2)], &Trees(0));
+    assert!(rt; outcome.reached == 0 && !outcome.is_finished);
 }

@@ -48,31 +48,33 @@ const MOST: u128 = u64::MAX as u128;
 /// value.
 struct Ways {
     name: &'static str,
-    arcs: &'static [(u32, u32, u64)],
+    arcs: &'static [Triple],
     terminals: &'static [u32],
     k: usize,
     reached: u128,
     value: u128,
 }
 
+const TWO_LAYERS: Ways = Ways {
+    name: "two layers between, and more at the source than the sink takes",
+    arcs: &[
+        (1, 2, 5),
+        (1, 3, 4),
+        (2, 4, 3),
+        (3, 4, 2),
+        (2, 5, 1),
+        (3, 5, 9),
+        (4, 6, 4),
+        (5, 6, 3),
+    ],
+    terminals: &[1, 6],
+    k: 1,
+    reached: 7,
+    value: 7,
+};
+
 const WAYS: &[Ways] = &[
-    Ways {
-        name: "two layers between, and more at the source than the sink takes",
-        arcs: &[
-            (1, 2, 5),
-            (1, 3, 4),
-            (2, 4, 3),
-            (3, 4, 2),
-            (2, 5, 1),
-            (3, 5, 9),
-            (4, 6, 4),
-            (5, 6, 3),
-        ],
-        terminals: &[1, 6],
-        k: 1,
-        reached: 7,
-        value: 7,
-    },
+    TWO_LAYERS,
     Ways {
         name: "a node that has to be lifted for the farther way",
         arcs: &[
@@ -212,36 +214,45 @@ const WAYS: &[Ways] = &[
     },
 ];
 
+/// What waves that may take so much reach on such a network.
+fn waves_on(rt: &impl Abort, alloc: Global, ways: &Ways, allowance: u64) -> Outcome {
+    let net = network(rt, alloc, 12, ways.arcs);
+    stages(rt, alloc, &net, ways.terminals, ways.k, &Waves(allowance))
+}
+
 #[test]
 fn waves_that_end_of_themselves(rt: HostRuntime) {
     for ways in WAYS {
-        let net = network(&rt, rt.alloc(), 12, ways.arcs);
-        let waves = Waves(100_000);
-        let outcome = stages(&rt, rt.alloc(), &net, ways.terminals, ways.k, &waves);
-        assert!(&rt; outcome.is(ways.reached, ways.value), "{}", ways.name);
+        let outcome = waves_on(&rt, rt.alloc(), ways, 100_000);
+        expect(&rt, outcome.is(ways.reached, ways.value), ways.name);
     }
 }
 
-/// In how many runs waves that may take more and more clear what they have sent. The last run reaches all.
-fn count_cleared(rt: &impl Abort, alloc: Global, ways: &Ways) -> u32 {
-    let net = network(rt, alloc, 12, ways.arcs);
+/// In how many runs waves that may take more and more clear what they have sent. The last run reaches all. Nothing where
+/// a run reaches too much, or the last too little.
+fn count_cleared(rt: &impl Abort, alloc: Global, ways: &Ways) -> Option<u32> {
     let mut cleared = 0u32;
     let mut last = 0u128;
     for allowance in 0u64..400 {
-        let outcome = stages(rt, alloc, &net, ways.terminals, ways.k, &Waves(allowance));
-        assert!(rt; outcome.is_after(0, ways.value));
+        let outcome = waves_on(rt, alloc, ways, allowance);
+        if !outcome.is_after(0, ways.value) {
+            return None;
+        }
         // With so much the source has sent all that it can: what comes to no sink and not home is cleared.
         let is_cleared = outcome.reached == 0 && allowance >= 8 + 2 * 2 * 2 + 2;
         cleared = cleared.wrapping_add(u32::from(is_cleared));
         last = outcome.reached;
     }
-    assert!(rt; last == ways.value);
-    cleared
+    if last == ways.value {
+        Some(cleared)
+    } else {
+        None
+    }
 }
 
 #[test]
 fn waves_that_are_left(rt: HostRuntime) {
-    assert!(&rt; count_cleared(&rt, rt.alloc(), &WAYS[0]) > 0);
+    assert!(rt; count_cleared(&rt, rt.alloc(), &TWO_LAYERS) > Some(0));
 }
 
 impl Limited for Both {
@@ -263,7 +274,7 @@ fn waves_agree_on_random_networks(rt: HostRuntime) {
         most: 60,
     };
     let tally = run_on_random_networks::<Both>(&rt, rt.alloc(), draws);
-    assert!(&rt; tally.tried > 3000 && tally.carried > 1000 && tally.between > 100);
+    assert!(rt; tally.tried > 3000 && tally.carried > 1000 && tally.between > 100);
 }
 
 /// How many steps for each arc waves may take in the larger networks, in both directions and to settle: an eighth of
@@ -291,7 +302,8 @@ const WIDTH: u32 = 16;
 /// Joins the nodes in layers: each with four of the next layer, the first layer with the source, and the last with the
 /// sink, which are nodes 1 and 2. Answers whether all arcs were added.
 #[must_use]
-fn add_layers(net: &mut Network, random: &mut Random) -> bool {
+fn add_layers(net: &mut Network, state: u64) -> bool {
+    let mut random = Random { state };
     for place in 0..LAYERS * WIDTH {
         let node = 3 + place;
         let next = (place / WIDTH + 1) * WIDTH + 3;
@@ -314,13 +326,16 @@ fn add_layers(net: &mut Network, random: &mut Random) -> bool {
     true
 }
 
+/// Whether waves reach all in layers that a number determines.
+fn are_filled_layers(rt: &impl Abort, alloc: Global, state: u64) -> bool {
+    let mut net = Network::new(alloc, LAYERS * WIDTH + 2);
+    add_layers(&mut net, state) && waves_reach_all(rt, alloc, &net, &[1, 2], 1)
+}
+
 #[test]
 fn waves_fill_layers(rt: HostRuntime) {
     for state in 1u64..20 {
-        let mut random = Random { state };
-        let mut net = Network::new(rt.alloc(), LAYERS * WIDTH + 2);
-        assert!(&rt; add_layers(&mut net, &mut random));
-        assert!(&rt; waves_reach_all(&rt, rt.alloc(), &net, &[1, 2], 1));
+        assert!(rt; are_filled_layers(&rt, rt.alloc(), state));
     }
 }
 
@@ -340,28 +355,33 @@ fn add_street(net: &mut Network, random: &mut Random, one: u32, other: u32) -> b
 
 /// Adds the streets of a map to the east and to the south. Answers whether all were added.
 #[must_use]
-fn add_streets(net: &mut Network, random: &mut Random) -> bool {
+fn add_streets(net: &mut Network, state: u64) -> bool {
+    let mut random = Random { state };
     for place in 0..SIDE * SIDE {
         let node = 1 + place;
-        if place % SIDE + 1 < SIDE && !add_street(net, random, node, node + 1) {
+        if place % SIDE + 1 < SIDE && !add_street(net, &mut random, node, node + 1) {
             return false;
         }
-        if place + SIDE < SIDE * SIDE && !add_street(net, random, node, node + SIDE) {
+        if place + SIDE < SIDE * SIDE && !add_street(net, &mut random, node, node + SIDE) {
             return false;
         }
     }
     true
 }
 
+/// Two crossroads in the west and two in the east.
+const ENDS: &[u32] = &[SIDE * 5 + 1, SIDE * 12 + 1, SIDE * 5, SIDE * 12];
+
+/// Whether waves reach all from the west to the east of a map that a number determines.
+fn are_filled_roads(rt: &impl Abort, alloc: Global, state: u64) -> bool {
+    let mut net = Network::new(alloc, SIDE * SIDE);
+    add_streets(&mut net, state) && waves_reach_all(rt, alloc, &net, ENDS, 2)
+}
+
 #[test]
 fn waves_fill_roads(rt: HostRuntime) {
     for state in 1u64..20 {
-        let mut random = Random { state };
-        let mut net = Network::new(rt.alloc(), SIDE * SIDE);
-        assert!(&rt; add_streets(&mut net, &mut random));
-        // From two crossroads in the west to two in the east.
-        let terminals = [SIDE * 5 + 1, SIDE * 12 + 1, SIDE * 5, SIDE * 12];
-        assert!(&rt; waves_reach_all(&rt, rt.alloc(), &net, &terminals, 2));
+        assert!(rt; are_filled_roads(&rt, rt.alloc(), state));
     }
 }
 
@@ -388,6 +408,5 @@ fn add_growing_paths(net: &mut Network) -> bool {
 #[test]
 fn waves_fill_growing_paths(rt: HostRuntime) {
     let mut net = Network::new(rt.alloc(), 2 + 2 * CHAIN);
-    assert!(&rt; add_growing_paths(&mut net));
-    assert!(&rt; waves_reach_all(&rt, rt.alloc(), &net, &[1, 2], 1));
+    assert!(rt; add_growing_paths(&mut net) && waves_reach_all(&rt, rt.alloc(), &net, &[1, 2], 1));
 }

@@ -1,4 +1,4 @@
-ghost use Rattle.std.specs.Prelude.{◌≡◌, ◌*◌, ◌<◌, length};
+ghost use Rattle.std.specs.Prelude.{◌*◌, ◌<◌, length};
 ghost use Rattle.flow_net.specs.Flows.{Fits};
 
 use flow_net::*;

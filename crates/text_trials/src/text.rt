@@ -242,15 +242,14 @@ fn lines_of_the_greatest_length(rt: HostRuntime) {
 /// The bytes of a solution of one flow line more than there may be: 4, and 8 for each flow line.
 const TOO_MANY_BYTES: usize = 4 + 8 * (MOST_FLOW_LINES + 1);
 
-/// Adds the flow lines of such a solution, and answers whether there is memory.
+/// Puts such a solution into an empty text, and answers whether there is memory.
 #[must_use]
-fn add_too_many_flow_lines(text: &mut Vec<u8>) -> bool {
+fn put_too_many_flow_lines(text: &mut Vec<u8>) -> bool {
+    let mut is_put = text.extend_from_slice(b"s 0\n").is_ok();
     for _ in 0..MOST_FLOW_LINES + 1 {
-        if text.extend_from_slice(b"f 1 2 0\n").is_err() {
-            return false;
-        }
+        is_put = is_put && text.extend_from_slice(b"f 1 2 0\n").is_ok();
     }
-    true
+    is_put
 }
 
 /// Feeds a solution in pieces of so many bytes: how many were taken and how many flow lines were kept before the first
@@ -280,19 +279,18 @@ fn is_refused_after(alloc: Global, text: &[u8], len: usize, taken: usize, kept: 
 {
     let mut reader = SolutionReader::new(alloc, 2);
     let refused = first_refused(&mut reader, text, len);
-    refused == Some((taken, kept, TOO_MANY_FLOW_LINES))
-        && keeps_refusing(reader, TOO_MANY_FLOW_LINES)
+    let stays = keeps_refusing(reader, TOO_MANY_FLOW_LINES);
+    stays && refused == Some((taken, kept, TOO_MANY_FLOW_LINES))
 }
 
 /// The same of a solution to a problem of two nodes with one flow line more than there may be.
 fn is_too_long(alloc: Global, len: usize, taken: usize, kept: usize) -> bool
     requires { 0 < len }
 {
-    let Ok(mut text) = b"s 0\n".to_vec(alloc) else {
-        return false;
-    };
-    let is_whole = add_too_many_flow_lines(&mut text) && text.len() == TOO_MANY_BYTES;
-    is_whole && is_refused_after(alloc, text.as_slice(), len, taken, kept)
+    let mut text: Vec<u8> = Vec::new(alloc);
+    let is_put = put_too_many_flow_lines(&mut text);
+    let is_refused = is_refused_after(alloc, text.as_slice(), len, taken, kept);
+    is_put && is_refused && text.len() == TOO_MANY_BYTES
 }
 
 /// Ends a test where it isn't so.

@@ -131,33 +131,33 @@ fn lends_after(reader: &mut ProblemReader, piece: &[u8], arcs: &[Triple]) -> boo
 const LENT: &[Triple] = &[(1, 2, 7), (2, 3, 9)];
 
 /// Whether a reader of problems lends no arc, then one, then both.
-fn lends_arcs(alloc: Global) -> bool {
-    let mut reader = ProblemReader::new(alloc);
+fn lends_arcs(reader: &mut ProblemReader) -> bool {
     reader.feed(b"p max 3 2").is_ok()
         && reader.net().is_none()
-        && lends_after(&mut reader, b"\nn 1 s\nn 3 t\na 1 2 7\na 2 3 9", &LENT[..1])
-        && lends_after(&mut reader, b"\n", LENT)
+        && lends_after(reader, b"\nn 1 s\nn 3 t\na 1 2 7\na 2 3 9", &LENT[..1])
+        && lends_after(reader, b"\n", LENT)
 }
 
 #[test]
 fn arcs_are_lent(rt: HostRuntime) {
-    assert!(rt; lends_arcs(rt.alloc()));
+    let mut reader = ProblemReader::new(rt.alloc());
+    assert!(rt; lends_arcs(&mut reader));
 }
 
 /// Whether a reader of solutions lends a flow line, and none that hasn't ended.
-fn lends_line(alloc: Global) -> bool {
+fn lends_line(reader: &mut SolutionReader) -> bool {
     let line = FlowLine {
         src: 1,
         dst: 2,
         flow: 7,
     };
-    let mut reader = SolutionReader::new(alloc, 3);
     reader.feed(b"s 7\nf 1 2 7\nf 2 3").is_ok() && reader.lines() == [line].as_slice()
 }
 
 #[test]
 fn flow_lines_are_lent(rt: HostRuntime) {
-    assert!(rt; lends_line(rt.alloc()));
+    let mut reader = SolutionReader::new(rt.alloc(), 3);
+    assert!(rt; lends_line(&mut reader));
 }
 
 /// A problem whose first arc lines have the usual form or nearly so, with the longest numbers that such lines have.

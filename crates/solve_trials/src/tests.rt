@@ -645,7 +645,9 @@ fn is_narrow_chain(rt: &impl Abort, alloc: Global, net: &Network) -> bool {
 #[test]
 fn a_long_chain(rt: HostRuntime) {
     let mut net = Network::new(rt.alloc(), 100_000);
-    assert!(rt; add_chain(&mut net) && is_narrow_chain(&rt, rt.alloc(), &net));
+    let is_added = add_chain(&mut net);
+    let is_narrow = is_narrow_chain(&rt, rt.alloc(), &net);
+    assert!(rt; is_added && is_narrow);
 }
 
 /// Adds a star: a path over each of its nodes. Answers whether all arcs were added.
@@ -670,5 +672,7 @@ fn greatest_of_star(rt: &impl Abort, alloc: Global, net: &Network) -> u128 {
 #[test]
 fn a_star(rt: HostRuntime) {
     let mut net = Network::new(rt.alloc(), 200_002);
-    assert!(rt; add_star(&mut net) && greatest_of_star(&rt, rt.alloc(), &net) == 200_000);
+    let is_added = add_star(&mut net);
+    let value = greatest_of_star(&rt, rt.alloc(), &net);
+    assert!(rt; is_added && value == 200_000);
 }

@@ -160,9 +160,10 @@ fn is_as_told(rt: &impl Abort, alloc: Global, unit: &Unit) -> bool {
         return false;
     }
     let mut net = Network::new(alloc, unit.nodes);
-    add_units(&mut net, unit.arcs)
-        && is_balanced(alloc, &net) == Some(unit.is_balanced)
-        && grown_within(rt, alloc, &net, 1000) == Some(unit.connectivity)
+    let is_added = add_units(&mut net, unit.arcs);
+    let balanced = is_balanced(alloc, &net);
+    let grown = grown_within(rt, alloc, &net, 1000);
+    is_added && balanced == Some(unit.is_balanced) && grown == Some(unit.connectivity)
 }
 
 #[test]
@@ -194,7 +195,9 @@ fn add_ring(net: &mut Network, is_turned: bool) -> bool {
 /// Whether such a ring of 500 nodes has connectivity 1, without a step for a flow.
 fn is_grown_round(rt: &impl Abort, alloc: Global, is_turned: bool) -> bool {
     let mut net = Network::new(alloc, 500);
-    add_ring(&mut net, is_turned) && grown_within(rt, alloc, &net, 0) == Some(1)
+    let is_added = add_ring(&mut net, is_turned);
+    let grown = grown_within(rt, alloc, &net, 0);
+    is_added && grown == Some(1)
 }
 
 #[test]

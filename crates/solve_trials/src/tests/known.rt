@@ -2,15 +2,15 @@
 use super::*;
 
 /// A network, and what the solvers are to say of it. The first `k` terminals are the sources. The least source side and
-/// the least sink side have a 1 for each node inside, and so as many digits as there are nodes.
+/// the least sink side have a 1 for each node inside, and so as many numbers as there are nodes.
 struct Known {
     name: &'static str,
     arcs: &'static [Triple],
     terminals: &'static [u32],
     k: usize,
     value: u128,
-    side: &'static str,
-    back: &'static str,
+    side: &'static [u8],
+    back: &'static [u8],
 }
 
 const KNOWN: &[Known] = &[
@@ -20,8 +20,8 @@ const KNOWN: &[Known] = &[
         terminals: &[1, 4],
         k: 1,
         value: 5,
-        side: "1000",
-        back: "0001",
+        side: &[1, 0, 0, 0],
+        back: &[0, 0, 0, 1],
     },
     Known {
         name: "two arcs in a row",
@@ -29,8 +29,8 @@ const KNOWN: &[Known] = &[
         terminals: &[1, 3],
         k: 1,
         value: 2,
-        side: "100",
-        back: "001",
+        side: &[1, 0, 0],
+        back: &[0, 0, 1],
     },
     Known {
         name: "a wider first arc",
@@ -38,8 +38,8 @@ const KNOWN: &[Known] = &[
         terminals: &[1, 3],
         k: 1,
         value: 2,
-        side: "110",
-        back: "001",
+        side: &[1, 1, 0],
+        back: &[0, 0, 1],
     },
     Known {
         name: "parallel and opposite arcs",
@@ -47,8 +47,8 @@ const KNOWN: &[Known] = &[
         terminals: &[1, 2],
         k: 1,
         value: 5,
-        side: "10",
-        back: "01",
+        side: &[1, 0],
+        back: &[0, 1],
     },
     Known {
         name: "two sources",
@@ -56,8 +56,8 @@ const KNOWN: &[Known] = &[
         terminals: &[1, 2, 4],
         k: 2,
         value: 3,
-        side: "1110",
-        back: "0001",
+        side: &[1, 1, 1, 0],
+        back: &[0, 0, 0, 1],
     },
     Known {
         name: "a self-loop",
@@ -65,8 +65,8 @@ const KNOWN: &[Known] = &[
         terminals: &[1, 2],
         k: 1,
         value: 1_000_000_000_000,
-        side: "10",
-        back: "01",
+        side: &[1, 0],
+        back: &[0, 1],
     },
     Known {
         name: "two pairs apart",
@@ -74,8 +74,8 @@ const KNOWN: &[Known] = &[
         terminals: &[1, 4, 2, 3],
         k: 2,
         value: 12,
-        side: "1001",
-        back: "0110",
+        side: &[1, 0, 0, 1],
+        back: &[0, 1, 1, 0],
     },
     Known {
         name: "an arc between sources",
@@ -83,8 +83,8 @@ const KNOWN: &[Known] = &[
         terminals: &[1, 2, 3],
         k: 2,
         value: 1,
-        side: "110",
-        back: "001",
+        side: &[1, 1, 0],
+        back: &[0, 0, 1],
     },
     Known {
         name: "a node that no source reaches",
@@ -92,8 +92,8 @@ const KNOWN: &[Known] = &[
         terminals: &[1, 3],
         k: 1,
         value: 1,
-        side: "1000",
-        back: "0011",
+        side: &[1, 0, 0, 0],
+        back: &[0, 0, 1, 1],
     },
     Known {
         name: "no arcs",
@@ -101,8 +101,8 @@ const KNOWN: &[Known] = &[
         terminals: &[1, 3],
         k: 1,
         value: 0,
-        side: "100",
-        back: "001",
+        side: &[1, 0, 0],
+        back: &[0, 0, 1],
     },
     Known {
         name: "the largest capacities",
@@ -110,8 +110,8 @@ const KNOWN: &[Known] = &[
         terminals: &[1, 2],
         k: 1,
         value: 55_340_232_221_128_654_845,
-        side: "10",
-        back: "01",
+        side: &[1, 0],
+        back: &[0, 1],
     },
     Known {
         name: "arcs from the sink",
@@ -119,8 +119,8 @@ const KNOWN: &[Known] = &[
         terminals: &[1, 2],
         k: 1,
         value: 1,
-        side: "100",
-        back: "010",
+        side: &[1, 0, 0],
+        back: &[0, 1, 0],
     },
     Known {
         name: "two paths and a thin one between",
@@ -134,8 +134,8 @@ const KNOWN: &[Known] = &[
         terminals: &[1, 4],
         k: 1,
         value: 2_000_000_000_000,
-        side: "1000",
-        back: "0001",
+        side: &[1, 0, 0, 0],
+        back: &[0, 0, 0, 1],
     },
     Known {
         name: "two nodes without an arc",
@@ -143,8 +143,8 @@ const KNOWN: &[Known] = &[
         terminals: &[1, 2],
         k: 1,
         value: 0,
-        side: "10",
-        back: "01",
+        side: &[1, 0],
+        back: &[0, 1],
     },
     Known {
         name: "a self-loop and a capacity above a million millions",
@@ -152,8 +152,8 @@ const KNOWN: &[Known] = &[
         terminals: &[1, 2],
         k: 1,
         value: 1_000_000_000_001,
-        side: "10",
-        back: "01",
+        side: &[1, 0],
+        back: &[0, 1],
     },
     Known {
         name: "a ring of capacities of 0",
@@ -161,8 +161,8 @@ const KNOWN: &[Known] = &[
         terminals: &[1, 3],
         k: 1,
         value: 0,
-        side: "100",
-        back: "001",
+        side: &[1, 0, 0],
+        back: &[0, 0, 1],
     },
     Known {
         name: "three parallel arcs",
@@ -174,8 +174,8 @@ const KNOWN: &[Known] = &[
         terminals: &[1, 2],
         k: 1,
         value: 3_000_000_000_000,
-        side: "10",
-        back: "01",
+        side: &[1, 0],
+        back: &[0, 1],
     },
     Known {
         name: "two arcs and one back",
@@ -183,8 +183,8 @@ const KNOWN: &[Known] = &[
         terminals: &[1, 2],
         k: 1,
         value: 2,
-        side: "10",
-        back: "01",
+        side: &[1, 0],
+        back: &[0, 1],
     },
     Known {
         name: "a self-loop alone",
@@ -192,8 +192,8 @@ const KNOWN: &[Known] = &[
         terminals: &[1, 2],
         k: 1,
         value: 0,
-        side: "10",
-        back: "01",
+        side: &[1, 0],
+        back: &[0, 1],
     },
     Known {
         name: "an arc that ends before the sink",
@@ -201,8 +201,8 @@ const KNOWN: &[Known] = &[
         terminals: &[1, 3],
         k: 1,
         value: 0,
-        side: "110",
-        back: "001",
+        side: &[1, 1, 0],
+        back: &[0, 0, 1],
     },
     Known {
         name: "an arc from the sink alone",
@@ -210,8 +210,8 @@ const KNOWN: &[Known] = &[
         terminals: &[1, 2],
         k: 1,
         value: 0,
-        side: "10",
-        back: "01",
+        side: &[1, 0],
+        back: &[0, 1],
     },
     Known {
         name: "one arc",
@@ -219,8 +219,8 @@ const KNOWN: &[Known] = &[
         terminals: &[1, 2],
         k: 1,
         value: 100_000,
-        side: "10",
-        back: "01",
+        side: &[1, 0],
+        back: &[0, 1],
     },
 ];
 
@@ -230,8 +230,7 @@ fn are_inside(marks: &[bool; 6], side: &[u8]) -> bool {
         return false;
     }
     for place in 0..side.len() {
-        let digit = if marks[place] { b'1' } else { b'0' };
-        if side[place] != digit {
+        if u8::from(marks[place]) != side[place] {
             return false;
         }
     }
@@ -246,10 +245,9 @@ fn answers(rt: &impl Abort, alloc: Global, known: &Known) -> bool {
     }
     let net = network(rt, alloc, nodes as u32, known.arcs);
     let answer = solve(rt, alloc, &net, known.terminals, known.k);
-    let has_side = are_inside(&answer.side, known.side.as_bytes());
-    let has_sides = has_side && are_inside(&answer.back, known.back.as_bytes());
-    let is_known = has_sides && answer.agree && answer.value == known.value;
-    is_known && agrees(rt, alloc, &net, known.terminals, known.k)
+    let agrees = agrees(rt, alloc, &net, known.terminals, known.k);
+    let has_sides = are_inside(&answer.side, known.side) && are_inside(&answer.back, known.back);
+    agrees && has_sides && answer.agree && answer.value == known.value
 }
 
 #[test]

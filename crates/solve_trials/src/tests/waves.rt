@@ -329,7 +329,9 @@ fn add_layers(net: &mut Network, state: u64) -> bool {
 /// Whether waves reach all in layers that a number determines.
 fn are_filled_layers(rt: &impl Abort, alloc: Global, state: u64) -> bool {
     let mut net = Network::new(alloc, LAYERS * WIDTH + 2);
-    add_layers(&mut net, state) && waves_reach_all(rt, alloc, &net, &[1, 2], 1)
+    let is_added = add_layers(&mut net, state);
+    let is_filled = waves_reach_all(rt, alloc, &net, &[1, 2], 1);
+    is_added && is_filled
 }
 
 #[test]
@@ -375,7 +377,9 @@ const ENDS: &[u32] = &[SIDE * 5 + 1, SIDE * 12 + 1, SIDE * 5, SIDE * 12];
 /// Whether waves reach all from the west to the east of a map that a number determines.
 fn are_filled_roads(rt: &impl Abort, alloc: Global, state: u64) -> bool {
     let mut net = Network::new(alloc, SIDE * SIDE);
-    add_streets(&mut net, state) && waves_reach_all(rt, alloc, &net, ENDS, 2)
+    let is_added = add_streets(&mut net, state);
+    let is_filled = waves_reach_all(rt, alloc, &net, ENDS, 2);
+    is_added && is_filled
 }
 
 #[test]
@@ -408,5 +412,7 @@ fn add_growing_paths(net: &mut Network) -> bool {
 #[test]
 fn waves_fill_growing_paths(rt: HostRuntime) {
     let mut net = Network::new(rt.alloc(), 2 + 2 * CHAIN);
-    assert!(rt; add_growing_paths(&mut net) && waves_reach_all(&rt, rt.alloc(), &net, &[1, 2], 1));
+    let is_added = add_growing_paths(&mut net);
+    let is_filled = waves_reach_all(&rt, rt.alloc(), &net, &[1, 2], 1);
+    assert!(rt; is_added && is_filled);
 }

@@ -12,7 +12,6 @@ use flow_text::{FlowLine, SolutionReader, arc_line};
 use flow_tools::{Job, run_on_texts};
 use std::alloc::Global;
 use std::process::Abort;
-use std::test::Fail;
 
 /// How many nodes each network has, and how many arcs: three for each node.
 const NODES: u32 = 3000;
@@ -67,16 +66,18 @@ fn arc_at(seed: u64, place: u32) -> Arc
     }
 }
 
-/// The problem that a number determines, its arcs in turns of a step.
-fn problem_text(alloc: Global, seed: u64, step: u32) -> Result<Vec<u8>, Fail>
+/// Puts the problem that a number determines into an empty text, its arcs in turns of a step, and answers whether there
+/// is memory.
+#[must_use]
+fn put_problem(text: &mut Vec<u8>, seed: u64, step: u32) -> bool
     requires { step < ARCS }
 {
-    let mut text = HEAD.to_vec(alloc)?;
+    let mut is_put = text.extend_from_slice(HEAD).is_ok();
     for i in 0..ARCS {
-        let arc = arc_at(seed, i * step % ARCS);
-        text.extend_from_slice(arc_line(arc).as_slice())?;
+        let line = arc_line(arc_at(seed, i * step % ARCS));
+        is_put = text.extend_from_slice(line.as_slice()).is_ok() && is_put;
     }
-    Ok(text)
+    is_put
 }
 
 /// Its network.
@@ -134,11 +135,12 @@ fn is_scattered_once_arranged(
     Some(is_scattered(net, names[0], names[1763]))
 }
 
-/// The same of the network that a number determines, its arcs far apart; nothing without memory.
-fn is_scattered_arranged(alloc: Global, seed: u64) -> Option<bool> {
-    let mut net = network(alloc, seed, FAR_STEP)?;
+/// The same of the network that a number determines, its arcs far apart.
+fn is_scattered_arranged(rt: &impl Abort, alloc: Global, seed: u64) -> Option<bool> {
+    let mut net = network(alloc, seed, FAR_STEP).expect(rt, "memory");
     let n = net.nodes() as usize;
-    let mut cells = Vec::from_elem(alloc, 0u32, 3 * n + 3 * net.len() as usize + 1).ok()?;
+    let len = 3 * n + 3 * net.len() as usize + 1;
+    let mut cells = Vec::from_elem(alloc, 0u32, len).expect(rt, "memory");
     if net.nodes() != NODES {
         return None;
     }
@@ -178,7 +180,7 @@ fn follows_the_file(alloc: Global, seed: u64, solution: &[u8]) -> Option<bool> {
 }
 
 /// Jobs whose answers are the same in whichever order the arcs come.
-const JOBS: [Job; 7] = [
+const JOBS: &[Job] = &[
     VALUE,
     CUT,
     CUT_SINK,
@@ -190,32 +192,37 @@ const JOBS: [Job; 7] = [
 
 /// The one order counts as none, and the other as an order.
 #[test]
-fn arcs_far_apart_are_scattered(rt: HostRuntime) -> Result<(), Fail> {
+fn arcs_far_apart_are_scattered(rt: HostRuntime) {
     for seed in 0..4 {
-        assert_eq!(rt; is_scattered_in_steps(rt.alloc(), seed, 1), Some(false));
-        assert_eq!(rt;
-            is_scattered_in_steps(rt.alloc(), seed, FAR_STEP),
-            Some(true)
-        );
+        let near = is_scattered_in_steps(rt.alloc(), seed, 1);
+        let far = is_scattered_in_steps(rt.alloc(), seed, FAR_STEP);
+        assert!(rt; near == Some(false) && far == Some(true));
     }
-    Ok(())
 }
 
 /// An arrangement counts as an order: so its names and the places of its arcs bring something.
 #[test]
-fn arranged_problems_are_in_order(rt: HostRuntime) -> Result<(), Fail> {
+fn arranged_problems_are_in_order(rt: HostRuntime) {
     for seed in 0..4 {
-        let scattered = is_scattered_arranged(rt.alloc(), seed);
-        assert_eq!(rt; scattered, Some(false));
+        assert!(rt; is_scattered_arranged(&rt, rt.alloc(), seed) == Some(false));
     }
-    Ok(())
 }
 
-/// Whether each job answers two problems alike, and well.
+/// Whether a job answers two problems alike, and well.
+fn is_alike(alloc: Global, job: Job, ordered: &[u8], scattered: &[u8]) -> bool {
+    match (
+        answer(alloc, job, ordered, b""),
+        answer(alloc, job, scattered, b""),
+    ) {
+        (Some(one), Some(other)) => one.as_slice() == other.as_slice(),
+        _ => false,
+    }
+}
+
+/// Whether each job does.
 fn are_alike(alloc: Global, ordered: &[u8], scattered: &[u8]) -> bool {
-    for job in JOBS {
-        let answered = answer(alloc, job, ordered, b"");
-        if answered.is_none() || answered != answer(alloc, job, scattered, b"") {
+    for &job in JOBS {
+        if !is_alike(alloc, job, ordered, scattered) {
             return false;
         }
     }
@@ -232,16 +239,22 @@ fn is_solved(alloc: Global, seed: u64, ordered: &[u8], scattered: &[u8]) -> bool
         && answer(alloc, CHECK, scattered, solution.as_slice()).is_some()
 }
 
+/// Whether the problem that a number determines is answered in no order as in order.
+fn is_answered_alike(alloc: Global, seed: u64) -> bool {
+    let mut ordered: Vec<u8> = Vec::new(alloc);
+    let mut scattered: Vec<u8> = Vec::new(alloc);
+    let is_ordered = put_problem(&mut ordered, seed, 1);
+    let is_scattered = put_problem(&mut scattered, seed, FAR_STEP);
+    let are_alike = are_alike(alloc, ordered.as_slice(), scattered.as_slice());
+    let is_solved = is_solved(alloc, seed, ordered.as_slice(), scattered.as_slice());
+    is_ordered && is_scattered && are_alike && is_solved
+}
+
 /// The values and the cuts are the same, and a flow found in the arranged network is told by lines in the file's own
 /// names and order, and greatest there.
 #[test]
-fn files_in_no_order_are_answered_as_those_in_order(rt: HostRuntime) -> Result<(), Fail> {
-    let alloc = rt.alloc();
+fn files_in_no_order_are_answered_as_those_in_order(rt: HostRuntime) {
     for seed in 0..4 {
-        let ordered = problem_text(alloc, seed, 1)?;
-        let scattered = problem_text(alloc, seed, FAR_STEP)?;
-        assert!(rt; are_alike(alloc, ordered.as_slice(), scattered.as_slice()));
-        assert!(rt; is_solved(alloc, seed, ordered.as_slice(), scattered.as_slice()));
+        assert!(rt; is_answered_alike(rt.alloc(), seed));
     }
-    Ok(())
 }

@@ -8,6 +8,7 @@ use flow_net::{Arc, FlowTable, MOST_ARCS, Network};
 use flow_solve::{Levels, Paths, work_len};
 use flow_tools::connectivity;
 use std::alloc::Global;
+use std::process::Abort;
 
 /// How many sets there are of so many nodes.
 const SETS: [u32; 9] = [1, 2, 4, 8, 16, 32, 64, 128, 256];
@@ -39,20 +40,17 @@ fn least_of_sets(net: &Network) -> u64 {
     least
 }
 
-/// The connectivity by either method; nothing if memory is refused.
-fn answer(alloc: Global, net: &Network) -> Option<(u64, u64)>
+/// The connectivity by either method.
+fn answer(rt: &impl Abort, alloc: Global, net: &Network) -> (u64, u64)
     requires { All (λ a. a.cap ≡ 1) net.now.arcs }
 {
     let _ = net.nodes();
-    let Ok(mut flow) = FlowTable::new(alloc, net) else {
-        return None;
-    };
-    let Ok(mut work) = Vec::from_elem(alloc, 0u32, work_len(net.nodes(), net.len())) else {
-        return None;
-    };
+    let mut flow = FlowTable::new(alloc, net).expect(rt, "memory");
+    let cells = work_len(net.nodes(), net.len());
+    let mut work = Vec::from_elem(alloc, 0u32, cells).expect(rt, "memory");
     let levels = connectivity::<Levels>(net, false, &[], &[], &mut flow, work.as_mut_slice());
     let paths = connectivity::<Paths>(net, false, &[], &[], &mut flow, work.as_mut_slice());
-    Some((levels, paths))
+    (levels, paths)
 }
 
 /// Adds an arc of capacity 1, and answers whether the network can have it and there is memory.
@@ -92,12 +90,12 @@ fn random_network(alloc: Global, seed: u64) -> Option<Network> {
 
 /// Whether the connectivity of a network is a number, by either method; with `both` that of the network both ways.
 #[tactic(auto, using(crate::proofs::Units::unit_capacities))]
-fn has(alloc: Global, mut net: Network, both: bool, connectivity: u64) -> bool {
+fn has(rt: &impl Abort, alloc: Global, mut net: Network, both: bool, connectivity: u64) -> bool {
     if both && (net.len() > MOST_ARCS || net.both_ways().is_err()) {
         return false;
     }
     let net = net.unit();
-    answer(alloc, &net) == Some((connectivity, connectivity))
+    answer(rt, alloc, &net) == (connectivity, connectivity)
 }
 
 /// Adds an arc from each node to each other of some consecutive ones, and answers whether all were added.
@@ -118,7 +116,7 @@ fn agrees_with_all_sets(rt: HostRuntime) {
     for seed in 0..3000u64 {
         let net = random_network(rt.alloc(), seed).expect(&rt, "memory");
         let least = least_of_sets(&net);
-        assert_eq!(&rt; (seed, has(rt.alloc(), net, false, least)), (seed, true));
+        assert!(rt; has(&rt, rt.alloc(), net, false, least), "{seed}");
     }
 }
 
@@ -164,59 +162,81 @@ fn two_rings(alloc: Global, between: u32) -> Option<Network> {
 fn two_rings_with_chords(rt: HostRuntime) {
     for &(between, connectivity) in &[(0u32, 0u64), (1, 1), (2, 2), (3, 2), (40, 2)] {
         let net = two_rings(rt.alloc(), between).expect(&rt, "memory");
-        let is_so = has(rt.alloc(), net, true, connectivity);
-        assert_eq!(&rt; (between, is_so), (between, true));
+        assert!(rt; has(&rt, rt.alloc(), net, true, connectivity), "{between}");
     }
 }
 
 #[test]
 fn parallel_arcs(rt: HostRuntime) {
     let mut net = Network::new(rt.alloc(), 3);
+    let mut is_built = true;
     for _ in 0..1000u32 {
-        assert!(&rt; add(&mut net, 1, 2) && add(&mut net, 2, 3) && add(&mut net, 3, 1));
+        is_built = add(&mut net, 1, 2) && add(&mut net, 2, 3) && add(&mut net, 3, 1) && is_built;
     }
-    assert!(&rt; has(rt.alloc(), net, false, 1000));
+    let is_so = has(&rt, rt.alloc(), net, false, 1000);
+    assert!(rt; is_built && is_so);
 }
 
 #[test]
 fn a_star_both_ways(rt: HostRuntime) {
     let mut net = Network::new(rt.alloc(), 5000);
+    let mut is_built = true;
     for i in 2u32..5001 {
-        assert!(&rt; add(&mut net, 1, i));
+        is_built = add(&mut net, 1, i) && is_built;
     }
-    assert!(&rt; has(rt.alloc(), net, true, 1));
+    let is_so = has(&rt, rt.alloc(), net, true, 1);
+    assert!(rt; is_built && is_so);
 }
 
 #[test]
 fn disconnected(rt: HostRuntime) {
     let mut net = Network::new(rt.alloc(), 20);
-    assert!(&rt; join_all(&mut net, 1, 11) && join_all(&mut net, 11, 21));
-    assert!(&rt; has(rt.alloc(), net, false, 0));
+    let is_built = join_all(&mut net, 1, 11) && join_all(&mut net, 11, 21);
+    let is_so = has(&rt, rt.alloc(), net, false, 0);
+    assert!(rt; is_built && is_so);
 }
 
 #[test]
 fn complete(rt: HostRuntime) {
     let mut net = Network::new(rt.alloc(), 20);
-    assert!(&rt; join_all(&mut net, 1, 21));
-    assert!(&rt; has(rt.alloc(), net, false, 19));
+    let is_built = join_all(&mut net, 1, 21);
+    let is_so = has(&rt, rt.alloc(), net, false, 19);
+    assert!(rt; is_built && is_so);
+}
+
+/// Adds two halves of thirty nodes with three arcs between, and answers whether all arcs were added.
+#[must_use]
+fn add_halves(net: &mut Network) -> bool {
+    join_all(net, 1, 31)
+        && join_all(net, 31, 61)
+        && add(net, 3, 40)
+        && add(net, 17, 41)
+        && add(net, 30, 59)
 }
 
 #[test]
 fn two_halves_with_few_arcs_between(rt: HostRuntime) {
     let mut net = Network::new(rt.alloc(), 60);
-    let joined = join_all(&mut net, 1, 31) && join_all(&mut net, 31, 61);
-    let linked = add(&mut net, 3, 40) && add(&mut net, 17, 41) && add(&mut net, 30, 59);
-    assert!(&rt; joined && linked);
-    assert!(&rt; has(rt.alloc(), net, true, 3));
+    let is_built = add_halves(&mut net);
+    let is_so = has(&rt, rt.alloc(), net, true, 3);
+    assert!(rt; is_built && is_so);
+}
+
+/// Adds two halves of twenty nodes, with ten arcs from the one to the other and two back, and answers whether all arcs
+/// were added.
+#[must_use]
+fn add_thin_halves(net: &mut Network) -> bool {
+    let mut is_built = join_all(net, 1, 21) && join_all(net, 21, 41);
+    for i in 1u32..11 {
+        is_built = add(net, i, i + 20) && is_built;
+    }
+    is_built && add(net, 40, 20) && add(net, 39, 20)
 }
 
 #[test]
 fn thin_in_one_direction_alone(rt: HostRuntime) {
     let mut net = Network::new(rt.alloc(), 40);
-    let mut is_built = join_all(&mut net, 1, 21) && join_all(&mut net, 21, 41);
-    for i in 1u32..11 {
-        is_built = add(&mut net, i, i + 20) && is_built;
-    }
-    assert!(&rt; add(&mut net, 40, 20) && add(&mut net, 39, 20) && is_built);
-    assert!(&rt; has(rt.alloc(), net, false, 2));
+    let is_built = add_thin_halves(&mut net);
+    let is_so = has(&rt, rt.alloc(), net, false, 2);
+    assert!(rt; is_built && is_so);
 }

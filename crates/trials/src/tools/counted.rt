@@ -5,8 +5,6 @@ use crate::tools::runs::SOLVE;
 use flow_tools::{Counted, Failed, Input, Output, put_all, run};
 use std::alloc::Global;
 use std::io::{ErrorKind, Read, Write};
-use std::process::Abort;
-use std::test::Fail;
 
 /// A reader of a text that delivers 16 bytes at most, fails at the read with one number, counted from 1, and works
 /// again.
@@ -88,11 +86,11 @@ fn fails_once(input: &mut Counted<FailsOnce<'_>>) -> bool {
 }
 
 #[test]
-fn one_pull_is_one_read(rt: HostRuntime) -> Result<(), Fail> {
+fn one_pull_is_one_read(rt: HostRuntime) {
     let mut input = Counted::new(FailsOnce::new(NET_A, 2));
-    assert!(rt; fails_once(&mut input));
-    assert_eq!(rt; input.into_inner().reads, 3);
-    Ok(())
+    let is_so = fails_once(&mut input);
+    let reader = input.into_inner();
+    assert!(rt; is_so && reader.reads == 3);
 }
 
 /// Whether the second of three puts alone fails, and the output has failed from then on.
@@ -105,11 +103,11 @@ fn takes_again(out: &mut Counted<TakesAgain>) -> bool {
 }
 
 #[test]
-fn one_put_is_one_write(rt: HostRuntime) -> Result<(), Fail> {
+fn one_put_is_one_write(rt: HostRuntime) {
     let mut out = Counted::new(TakesAgain::new(rt.alloc(), 2));
-    assert!(rt; takes_again(&mut out));
-    assert_eq!(rt; out.into_inner().writes, 3);
-    Ok(())
+    let is_so = takes_again(&mut out);
+    let writer = out.into_inner();
+    assert!(rt; is_so && writer.writes == 3);
 }
 
 /// Whether a text of 44 bytes, put into a writer that fails where it is told to, ends like this after so many writes,
@@ -129,12 +127,11 @@ fn is_put(
 
 /// The 44 bytes of a text are three writes of 16 bytes at most.
 #[test]
-fn nothing_is_put_after_a_failure(rt: HostRuntime) -> Result<(), Fail> {
+fn nothing_is_put_after_a_failure(rt: HostRuntime) {
     for k in 1..4u64 {
         assert!(rt; is_put(rt.alloc(), k, Err(Failed), k, (k - 1) * 16));
     }
     assert!(rt; is_put(rt.alloc(), 4, Ok(()), 3, 44));
-    Ok(())
 }
 
 /// Whether a solve of net A, from a reader and into a writer that fail where they are told to, tells this message after
@@ -161,18 +158,16 @@ fn is_stopped(
 
 /// The 62 bytes of net A are four reads of 16 bytes at most, and the fifth tells the end.
 #[test]
-fn nothing_is_pulled_after_a_failure(rt: HostRuntime) -> Result<(), Fail> {
+fn nothing_is_pulled_after_a_failure(rt: HostRuntime) {
     for k in 1..6u64 {
         assert!(rt; is_stopped(rt.alloc(), k, 0, k, 0, b"flow: read failed\n"));
     }
-    Ok(())
 }
 
 /// The answer is put in three writes; the message goes elsewhere.
 #[test]
-fn a_run_puts_nothing_after_a_failure(rt: HostRuntime) -> Result<(), Fail> {
+fn a_run_puts_nothing_after_a_failure(rt: HostRuntime) {
     for k in 1..4u64 {
         assert!(rt; is_stopped(rt.alloc(), 0, k, 5, k, b"flow: write failed\n"));
     }
-    Ok(())
 }

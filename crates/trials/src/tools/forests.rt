@@ -9,6 +9,7 @@ use flow_net::{FlowTable, MOST_ARCS, Network};
 use flow_solve::{Levels, Method, connectivity_by_forests, work_len};
 use flow_tools::connectivity;
 use std::alloc::Global;
+use std::process::Abort;
 
 /// The method by levels without a step to spare: the forests end where they begin.
 struct NoStepToSpare;
@@ -72,22 +73,19 @@ impl Method for FewStepsToSpare {
     }
 }
 
-/// The connectivity by forests, by the plain way, and by forests that are broken off; nothing if memory is refused.
-fn answers(alloc: Global, net: &Network) -> Option<(u64, u64, u64)>
+/// The connectivity by forests, by the plain way, and by forests that are broken off.
+fn answers(rt: &impl Abort, alloc: Global, net: &Network) -> [u64; 3]
     requires { All (λ a. a.cap ≡ 1) net.now.arcs }
 {
     let _ = net.nodes();
-    let Ok(mut flow) = FlowTable::new(alloc, net) else {
-        return None;
-    };
-    let Ok(mut cells) = Vec::from_elem(alloc, 0u32, work_len(net.nodes(), net.len())) else {
-        return None;
-    };
+    let mut flow = FlowTable::new(alloc, net).expect(rt, "memory");
+    let len = work_len(net.nodes(), net.len());
+    let mut cells = Vec::from_elem(alloc, 0u32, len).expect(rt, "memory");
     let work = cells.as_mut_slice();
     let grown = connectivity::<Levels>(net, false, &[], &[], &mut flow, work);
     let plain = connectivity::<NoStepToSpare>(net, false, &[], &[], &mut flow, work);
     let broken_off = connectivity::<FewStepsToSpare>(net, false, &[], &[], &mut flow, work);
-    Some((grown, plain, broken_off))
+    [grown, plain, broken_off]
 }
 
 /// The connectivity by forests alone; nothing if it takes more steps than it may, or memory is refused.
@@ -138,16 +136,13 @@ fn random_network(alloc: Global, seed: u64) -> Option<Network> {
 
 /// Whether the three ways agree on a network that a number determines, forests within the steps that a run gives it.
 #[tactic(auto, using(crate::proofs::Units::unit_capacities))]
-fn agree(alloc: Global, seed: u64) -> bool {
+fn agree(rt: &impl Abort, alloc: Global, seed: u64) -> bool {
     let Some(net) = random_network(alloc, seed) else {
         return false;
     };
     let net = net.unit();
-    match answers(alloc, &net) {
-        Some((grown, plain, broken_off)) => {
-            let within = grown_within(alloc, &net, Levels::spare_steps(&net));
-            grown == plain && plain == broken_off && within == Some(grown)
-        }
+    match grown_within(alloc, &net, Levels::spare_steps(&net)) {
+        Some(grown) => answers(rt, alloc, &net) == [grown; 3],
         None => false,
     }
 }
@@ -155,6 +150,6 @@ fn agree(alloc: Global, seed: u64) -> bool {
 #[test]
 fn forests_agree_with_a_solve_for_each_node(rt: HostRuntime) {
     for seed in 0..4000u64 {
-        assert_eq!(&rt; (seed, agree(rt.alloc(), seed)), (seed, true));
+        assert!(rt; agree(&rt, rt.alloc(), seed), "{seed}");
     }
 }

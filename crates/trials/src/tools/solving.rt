@@ -6,7 +6,6 @@ use flow_tools::Job;
 use flow_tools::memory::Script;
 use std::alloc::Global;
 use std::process::Abort;
-use std::test::Fail;
 
 /// A job, a problem, and what the run must put.
 type Answer = (Job, &'static [u8], &'static [u8]);
@@ -137,76 +136,154 @@ const FAULTS: &[Told] = &[
     ),
 ];
 
-/// Runs a job on a text that comes in whole pieces, by single bytes, and by lines.
-fn expect(rt: &impl Abort, alloc: Global, job: Job, text: &[u8], out: &[u8], err: &[u8]) {
-    let pieces = Script::new(text, 4096, false, 0);
-    assert!(rt; is_answered(alloc, job, pieces, out, err));
-    let bytes = Script::new(text, 1, false, 0);
-    assert!(rt; is_answered(alloc, job, bytes, out, err));
-    let lines = Script::new(text, 4096, true, 0);
-    assert!(rt; is_answered(alloc, job, lines, out, err));
+/// Whether a text that comes in whole pieces, by single bytes, and by lines, is answered so.
+fn answers(alloc: Global, job: Job, text: &[u8], out: &[u8], err: &[u8]) -> bool {
+    is_answered(alloc, job, Script::new(text, 4096, false, 0), out, err)
+        && is_answered(alloc, job, Script::new(text, 1, false, 0), out, err)
+        && is_answered(alloc, job, Script::new(text, 4096, true, 0), out, err)
 }
 
 #[test]
-fn problems_are_solved(rt: HostRuntime) -> Result<(), Fail> {
+fn problems_are_solved(rt: HostRuntime) {
     for &(job, problem, out) in SOLUTIONS {
-        expect(&rt, rt.alloc(), job, problem, out, b"");
+        assert!(rt; answers(rt.alloc(), job, problem, out, b""));
     }
-    Ok(())
 }
 
 #[test]
-fn problems_are_cut(rt: HostRuntime) -> Result<(), Fail> {
+fn problems_are_cut(rt: HostRuntime) {
     for &(job, problem, out) in CUTS {
-        expect(&rt, rt.alloc(), job, problem, out, b"");
+        assert!(rt; answers(rt.alloc(), job, problem, out, b""));
     }
-    Ok(())
 }
 
 #[test]
-fn faults_are_told(rt: HostRuntime) -> Result<(), Fail> {
+fn faults_are_told(rt: HostRuntime) {
     for &(job, text, message) in FAULTS {
-        expect(&rt, rt.alloc(), job, text, b"", message);
+        assert!(rt; answers(rt.alloc(), job, text, b"", message));
     }
-    Ok(())
 }
 
 /// A text whose first line begins with `front`, goes on with one byte again and again up to a length, and then with
-/// `back`.
-fn padded(alloc: Global, front: &[u8], byte: u8, len: usize, back: &[u8]) -> Result<Vec<u8>, Fail> {
-    let mut text = front.to_vec(alloc)?;
-    text.resize(len, byte)?;
-    text.extend_from_slice(back)?;
-    Ok(text)
+/// `back`; and what a job puts and tells of it.
+struct Padded {
+    name: &'static str,
+    front: &'static [u8],
+    byte: u8,
+    len: usize,
+    back: &'static [u8],
+    job: Job,
+    out: &'static [u8],
+    err: &'static [u8],
 }
 
-/// A line's bytes are counted up to its byte 10: a line that has the most may have blanks behind, and a byte more is a
-/// fault, whichever bytes it has.
-#[test]
-fn lines_of_the_most_bytes(rt: HostRuntime) -> Result<(), Fail> {
-    let too_long = b"flow: line 1: line too long\n".as_slice();
-    let front = b"p max 2 0".as_slice();
-    let back = b"\nn 1 s\nn 2 t\n".as_slice();
-    let longest = padded(rt.alloc(), front, b' ', LONGEST_LINE, back)?;
-    expect(&rt, rt.alloc(), CUT, &longest, b"s 0\nn 1\n", b"");
-    let longer = padded(rt.alloc(), front, b' ', LONGEST_LINE + 1, back)?;
-    expect(&rt, rt.alloc(), CUT, &longer, b"", too_long);
-    let mut blanks = padded(rt.alloc(), b"", b' ', LONGEST_LINE + 1, b"\n")?;
-    blanks.extend_from_slice(NET_A)?;
-    expect(&rt, rt.alloc(), SOLVE, &blanks, b"", too_long);
-    Ok(())
+const PADDED: &[Padded] = &[
+    // A line's bytes are counted up to its byte 10: a line that has the most may have blanks behind, and a byte more is
+    // a fault, whichever bytes it has.
+    Padded {
+        name: "a line of the most bytes",
+        front: b"p max 2 0",
+        byte: b' ',
+        len: LONGEST_LINE,
+        back: b"\nn 1 s\nn 2 t\n",
+        job: CUT,
+        out: b"s 0\nn 1\n",
+        err: b"",
+    },
+    Padded {
+        name: "a line of a byte more",
+        front: b"p max 2 0",
+        byte: b' ',
+        len: LONGEST_LINE + 1,
+        back: b"\nn 1 s\nn 2 t\n",
+        job: CUT,
+        out: b"",
+        err: b"flow: line 1: line too long\n",
+    },
+    Padded {
+        name: "a line of too many blanks before net A",
+        front: b"",
+        byte: b' ',
+        len: LONGEST_LINE + 1,
+        back: b"\np max 4 5\nn 1 s\nn 4 t\na 1 2 3\na 1 3 2\na 2 3 1\na 2 4 2\na 3 4 3\n",
+        job: SOLVE,
+        out: b"",
+        err: b"flow: line 1: line too long\n",
+    },
+    // Zeros before a number don't count, and digits do.
+    Padded {
+        name: "zeros before a number",
+        front: b"p max ",
+        byte: b'0',
+        len: LONGEST_LINE - 3,
+        back: b"2 0\nn 1 s\nn 2 t\n",
+        job: CUT,
+        out: b"s 0\nn 1\n",
+        err: b"",
+    },
+    Padded {
+        name: "a number of the most digits",
+        front: b"p max ",
+        byte: b'9',
+        len: LONGEST_LINE - 3,
+        back: b"9 0\n",
+        job: SOLVE,
+        out: b"",
+        err: b"flow: line 1: number of nodes out of range\n",
+    },
+    Padded {
+        name: "net A with byte 13 before each line end, without its last byte 10, behind a comment of 10,001 bytes",
+        front: b"c",
+        byte: 200,
+        len: 10_001,
+        back: b"\np max 4 5\r\nn 1 s\r\nn 4 t\r\na 1 2 3\r\na 1 3 2\r\na 2 3 1\r\na 2 4 2\r\na 3 4 3\r",
+        job: SOLVE,
+        out: SOLVED_A,
+        err: b"",
+    },
+    Padded {
+        name: "a comment of 1,000,001 bytes at the end of the input",
+        front: b"c",
+        byte: 255,
+        len: 1_000_001,
+        back: b"",
+        job: SOLVE,
+        out: b"",
+        err: b"flow: line 2: problem line missing\n",
+    },
+    Padded {
+        name: "net A behind a comment of 1,000,001 bytes",
+        front: b"c",
+        byte: 255,
+        len: 1_000_001,
+        back: b"\np max 4 5\nn 1 s\nn 4 t\na 1 2 3\na 1 3 2\na 2 3 1\na 2 4 2\na 3 4 3\n",
+        job: SOLVE,
+        out: SOLVED_A,
+        err: b"",
+    },
+];
+
+/// Puts the text into an empty one, and answers whether there is memory.
+#[must_use]
+fn put_padded(text: &mut Vec<u8>, padded: &Padded) -> bool {
+    text.extend_from_slice(padded.front).is_ok()
+        && text.resize(padded.len, padded.byte).is_ok()
+        && text.extend_from_slice(padded.back).is_ok()
 }
 
-/// Zeros before a number don't count, and digits do.
+/// Whether the text is answered as told.
+fn is_padded(alloc: Global, padded: &Padded) -> bool {
+    let mut text: Vec<u8> = Vec::new(alloc);
+    let is_put = put_padded(&mut text, padded);
+    let is_answered = answers(alloc, padded.job, text.as_slice(), padded.out, padded.err);
+    is_put && is_answered
+}
+
 #[test]
-fn numbers_of_the_most_digits(rt: HostRuntime) -> Result<(), Fail> {
-    let (front, len) = (b"p max ".as_slice(), LONGEST_LINE - 3);
-    let zeros = padded(rt.alloc(), front, b'0', len, b"2 0\nn 1 s\nn 2 t\n")?;
-    expect(&rt, rt.alloc(), CUT, &zeros, b"s 0\nn 1\n", b"");
-    let nines = padded(rt.alloc(), front, b'9', len, b"9 0\n")?;
-    let out_of_range = b"flow: line 1: number of nodes out of range\n";
-    expect(&rt, rt.alloc(), SOLVE, &nines, b"", out_of_range);
-    Ok(())
+fn lines_that_are_padded(rt: HostRuntime) {
+    for padded in PADDED {
+        assert!(rt; is_padded(rt.alloc(), padded), "{}", padded.name);
+    }
 }
 
 /// What is told of a beginning of net A that has at most so many bytes, and more than the row before. A line that was
@@ -241,43 +318,17 @@ fn told_of_beginning(len: usize) -> &'static [u8] {
     b""
 }
 
-#[test]
-fn each_beginning_of_a_problem(rt: HostRuntime) -> Result<(), Fail> {
-    assert_eq!(rt; NET_A.len(), 62);
-    for j in 0..61usize {
-        expect(
-            &rt,
-            rt.alloc(),
-            SOLVE,
-            &NET_A[..j],
-            b"",
-            told_of_beginning(j),
-        );
-    }
-    for j in 61..63usize {
-        expect(&rt, rt.alloc(), SOLVE, &NET_A[..j], SOLVED_A, b"");
-    }
-    Ok(())
+/// Whether a solve of the first `len` bytes of net A puts the answer, or tells what is to be told.
+fn is_beginning(alloc: Global, len: usize) -> bool {
+    let (text, _) = NET_A.split_at(len.min(NET_A.len()));
+    let told = told_of_beginning(len);
+    let put = if told.is_empty() { SOLVED_A } else { b"" };
+    answers(alloc, SOLVE, text, put, told)
 }
 
-/// Net A with byte 13 before each line end, behind a comment of 10,001 bytes, and without its last byte 10.
 #[test]
-fn carriage_returns_behind_a_long_comment(rt: HostRuntime) -> Result<(), Fail> {
-    let net =
-        b"\np max 4 5\r\nn 1 s\r\nn 4 t\r\na 1 2 3\r\na 1 3 2\r\na 2 3 1\r\na 2 4 2\r\na 3 4 3\r";
-    let text = padded(rt.alloc(), b"c", 200, 10_001, net)?;
-    expect(&rt, rt.alloc(), SOLVE, &text, SOLVED_A, b"");
-    Ok(())
-}
-
-/// A comment of 1,000,001 bytes, with byte 10 before net A, and without it at the end of the input.
-#[test]
-fn a_comment_of_a_million_bytes(rt: HostRuntime) -> Result<(), Fail> {
-    let mut text = padded(rt.alloc(), b"c", 255, 1_000_001, b"")?;
-    let missing = b"flow: line 2: problem line missing\n";
-    expect(&rt, rt.alloc(), SOLVE, &text, b"", missing);
-    text.push(b'\n')?;
-    text.extend_from_slice(NET_A)?;
-    expect(&rt, rt.alloc(), SOLVE, &text, SOLVED_A, b"");
-    Ok(())
+fn each_beginning_of_a_problem(rt: HostRuntime) {
+    for len in 0..63usize {
+        assert!(rt; NET_A.len() == 62 && is_beginning(rt.alloc(), len));
+    }
 }

@@ -519,8 +519,8 @@ trait Allowed: Stage {
     fn allowed(allowance: u64) -> Self;
 }
 
-/// Whether a stage reaches more and more on a network of six nodes, the more it may take, up to this value, and at times
-/// something and not all.
+/// Whether a stage reaches more and more on a network of six nodes, the more it may take, up to this value, and at
+/// times something and not all.
 fn rises<S: Allowed + Drop>(
     rt: &impl Abort,
     alloc: Global,

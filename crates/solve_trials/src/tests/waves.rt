@@ -228,8 +228,8 @@ fn waves_that_end_of_themselves(rt: HostRuntime) {
     }
 }
 
-/// In how many runs waves that may take more and more clear what they have sent. The last run reaches all. Nothing where
-/// a run reaches too much, or the last too little.
+/// In how many runs waves that may take more and more clear what they have sent. The last run reaches all. Nothing
+/// where a run reaches too much, or the last too little.
 fn count_cleared(rt: &impl Abort, alloc: Global, ways: &Ways) -> Option<u32> {
     let mut cleared = 0u32;
     let mut last = 0u128;

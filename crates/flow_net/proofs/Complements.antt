@@ -48,10 +48,12 @@ count_reversed p q (a ∷ arcs) e =
       count_reversed p q arcs e,
     ) refl
 
-pub leaves_reversed : (X : ℕ → Bool) (arcs : List Arc) → count_by (leaves X) (map reversed arcs) ≡ count_by (enters X) arcs
+pub leaves_reversed : (X : ℕ → Bool) (arcs : List Arc)
+    → count_by (leaves X) (map reversed arcs) ≡ count_by (enters X) arcs
 leaves_reversed X arcs = count_reversed (leaves X) (enters X) arcs (λ a. refl)
 
-pub enters_reversed : (X : ℕ → Bool) (arcs : List Arc) → count_by (enters X) (map reversed arcs) ≡ count_by (leaves X) arcs
+pub enters_reversed : (X : ℕ → Bool) (arcs : List Arc)
+    → count_by (enters X) (map reversed arcs) ≡ count_by (leaves X) arcs
 enters_reversed X arcs = count_reversed (enters X) (leaves X) arcs (λ a. refl)
 
 -- the arcs with exactly one end in a set are those that leave it and those that enter it

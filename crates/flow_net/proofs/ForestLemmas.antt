@@ -1,6 +1,6 @@
 -- Forests from one root that have no arc in common.
 use Rattle.std.proofs.Common.{◌≡◌, ℕ, zero, suc, ◌+◌, ◌-◌, ◌≤◌, ◌<◌, Bool, true, false, cond, not, ◌&&◌}
-use Rattle.std.proofs.Common.{List, [], ◌∷◌, length, map, get_or, refl, ◌∙◌, sym, ap, inl, inr, ◌⊎◌, arith}
+use Rattle.std.proofs.Common.{List, [], ◌∷◌, length, map, get_or, ◌∙◌, sym, ap, inl, inr, arith}
 use Rattle.std.specs.List.{count_by}
 use Rattle.std.proofs.lemmas.Bool.{cases_Bool, cases_lt, eqb-true, false≢true}
 use Rattle.std.proofs.lemmas.List.Sums.{sum_by-cons, sum_by-append}
@@ -10,7 +10,6 @@ use Rattle.flow_net.specs.Arcs.{no_arc, enters}
 use Rattle.flow_net.specs.Limits.{IsNet}
 use Rattle.flow_net.specs.DerivedNets.{unit, reversed, both_ways}
 use Rattle.flow_net.specs.NodeSets.{just}
-use Rattle.flow_net.specs.Flows.{IsFeasible, HasValue}
 use Rattle.flow_net.specs.Cuts.{leaves, IsCut}
 use Rattle.flow_net.specs.Connectivity.{leaving, crossing, IsProper}
 use Rattle.flow_net.specs.Forests.{entering, count_marked, marked_entering, IsEntered, AreEntered, HasSpread}
@@ -107,7 +106,7 @@ end_entered net r k c i u w done Y n g l d o m s b e = elim (cases_Bool (Y (arc_
     passes : (p q : Bool) → p ≡ false → q ≡ true → (q && not p) ≡ true
     passes p q e f = grind arith
 
--- a node that no fewer than k arcs part from those it has come to: a set that has it has one of these, or is entered by k
+-- a node that k arcs or more part from those it has come to: a set that has it has one of these, or is entered by k
 joined_entered : (net : Net) (r k c w : ℕ) (u done Y : ℕ → Bool) → HasSpread net r k u c done
     → ((X : ℕ → Bool) → IsCut done (just w) X → k ≤ leaving net X) → Y w ≡ true → Y r ≡ false
     → IsEntered net k u (c + 1) Y
@@ -186,7 +185,8 @@ entered_leaves net r k c u l g X p i =
     let o : X v ≡ false = p.outside.3 in
     omega (
       arith,
-      entered_enters net r k c c u (omega arith) l g (λ w. not (X w)) v (p.outside.1, p.outside.2) (ap not o) (ap not i),
+      entered_enters net r k c c u (omega arith) l g (λ w. not (X w)) v (p.outside.1, p.outside.2) (ap not o)
+          (ap not i),
       count_by_agree (enters (λ w. not (X w))) (leaves X) net.arcs (enters_others X),
     )
 

@@ -5,11 +5,11 @@
     python3 scripts/planted.py --gather TEMPORARY FOLDER
 
 A wrong body is a file crates/CRATE/planted/NAME.edit, in the form of those in must-fail/: a line 'file:' and pairs of
-lines 'old:' and 'new:'. The gate tries each of must-fail/ in a check of its own. Here edits of different functions
-share one: callers go by contracts, so each function is still reported by itself. Edits of one function are in different
-groups, and where it can be so those of one that calls another, which may wait for its proof; an edit that has waited
-is tried again in a later group. Each check also tries an edit that changes nothing, which has to get through, and sees
-that no goal failed of a function that was left as it is.
+lines 'old:' and 'new:'. The gate tries each of must-fail/ in a check of its own. Here many share one. Each is made of a
+copy of its function, with the same contract and a copy of its proofs: the copy is called planted_NAME and stands at the
+end of the file, so the function itself stays as it is, with all that call it, and copies of one function stand side by
+side. A method of a trait can't be copied; it is edited where it stands. Each check also tries a copy that changes
+nothing, which has to be proved, and sees that no goal failed of a function that was left as it is.
 
 What was refused is remembered, by the sums of all that it rests on, in the user's folder of caches.
 
@@ -29,11 +29,8 @@ import shutil
 import subprocess
 import sys
 import tempfile
-import threading
 import time
-from collections import Counter
 from concurrent.futures import ThreadPoolExecutor
-from contextlib import ExitStack
 from pathlib import Path
 
 ROOT = Path(__file__).resolve().parent.parent
@@ -43,46 +40,81 @@ CACHE = Path(os.environ.get("XDG_CACHE_HOME") or Path.home() / ".cache") / "flow
 # What a proof file says where a name is gone: that refusal shows nothing of the contract.
 NAME_IS_GONE = re.compile(r"has no field|is not in scope|has no `|was not admitted")
 # Where a function begins, an export for C among them.
-FUNCTION = re.compile(r'^ *(?:pub(?:\(\w+\))? )?(?:const )?(?:extern "C" )?fn (\w+)', re.M)
-REFUSED, WAITS, THROUGH = "refused", "waits", "through"
-# What a function's text calls, by name.
-CALL = re.compile(r"\b(\w+)(?:::<[^()]*>)?\(")
+FUNCTION = re.compile(r'^( *)(?:pub(?:\(\w+\))? )?(?:const )?(?:extern "C" )?fn (\w+)', re.M)
+# Where functions of a type begin, with the type's name, and the name of the trait before it if they are a trait's.
+TYPE = re.compile(r"^(?:impl(?:<[^{]*?>)? (?:(\w+)(?:<[^{]*?>)? for )?|pub trait (?=(\w+)))(\w+)[^{]*\{$", re.M)
+REFUSED, THROUGH = "refused", "through"
 # The most edits of a group: more would keep one processor busy for longer than all others.
-MOST = 24
+MOST = 28
+
+
+class Function:
+    """A function as it stands in a file of a crate: its text, with attributes and comments, and what tells where else
+    it is named."""
+
+    def __init__(self, file, text, place):
+        start = [it for it in FUNCTION.finditer(text) if it.start() <= text.index("\n", place)][-1]
+        indent, self.name = start.groups()
+        self.begin, self.end = start.start(), text.index(f"\n{indent}}}\n", start.start()) + len(indent) + 3
+        lines = text[: self.begin].splitlines(True)
+        while lines and lines[-1].startswith((f"{indent}#[", f"{indent}///")):
+            self.begin -= len(lines.pop())
+        self.head = [it for it in TYPE.finditer(text) if it.start() < self.begin][-1] if indent else None
+        self.is_of_trait = bool(self.head and (self.head[1] or self.head[2]))
+        modules = [part for part in Path(file).with_suffix("").parts[1:] if part not in ("lib", "main")]
+        self.path = [*modules, *([self.head[3] + (self.head[1] or "")] if self.head else []), self.name]
+
+    def copied(self, body, name):
+        """The text of a copy of the function with this body, by another name."""
+        text = re.sub(rf"\bfn {self.name}\b", f"fn {name}", body, count=1)
+        return f"\n{self.head[0]}\n{text}}}\n" if self.head else f"\n{text}"
+
+    def proofs(self, crate, name):
+        """The function's proof files as those of a copy with another name."""
+        path, told = [crate, "proofs", *self.path], {}
+        for file in sorted((ROOT / "crates" / "/".join(path)).glob("*.antt")):
+            text = file.read_text().replace(f"Rattle.{'.'.join(path)}.", f"Rattle.{'.'.join([*path[:-1], name])}.")
+            told["/".join([*path[1:-1], name, file.name])] = text
+        return told
 
 
 class Edit:
-    """A wrong body: a file of the crate, what it changes there, and the function that this stands in, with all that its
-    text calls."""
+    """A wrong body: a file of the crate, what it changes there, and the function that this stands in."""
 
-    def __init__(self, name, file, pairs, function, calls=()):
-        self.name, self.file, self.pairs, self.function, self.calls = name, file, pairs, function, calls
+    def __init__(self, crate, name, file, pairs, function):
+        self.crate, self.name, self.file, self.pairs, self.function = crate, name, file, pairs, function
+        self.tried = function.name if function.is_of_trait else f"planted_{name}"
 
     def within(self, text):
-        """The text of the file with this edit, or None where the edit doesn't fit it."""
+        """A text with this edit, or None where the edit doesn't fit it."""
         for old, new in self.pairs:
             if text.count(old) != 1:
                 return None
             text = text.replace(old, new)
         return text
 
-    def is_of(self, crate, path):
-        """Whether this is an edit of the function that a check calls by this path: the file's modules and its own."""
-        modules = [part for part in Path(self.file).with_suffix("").parts[1:] if part not in ("lib", "main")]
-        parts = path.split("::")
-        return parts[-1] == self.function and parts[: len(modules) + 1] == [crate, *modules]
+    def body(self):
+        """Its function's text with this edit, or None where what it changes doesn't stand there, or elsewhere too."""
+        text = read(self.crate, self.file)
+        return self.within(text) and self.within(text[self.function.begin : self.function.end])
 
-    def calls_or_is_called(self, other):
-        """Whether the function of one of both calls that of the other, which then may wait for its proof."""
-        return other.function in self.calls or self.function in other.calls
+    def add_to(self, texts):
+        """Adds what it makes of the crate's files to these texts."""
+        text = texts.get(self.file) or read(self.crate, self.file)
+        if self.function.is_of_trait:
+            texts[self.file] = self.within(text)
+        else:
+            texts[self.file] = text + self.function.copied(self.body(), self.tried)
+            texts.update(self.function.proofs(self.crate, self.tried))
+
+    def is_at(self, path):
+        """Whether a check calls what it tries by this path: the file's modules and the function."""
+        return path.split("::") == [self.crate, *self.function.path[:-1], self.tried]
 
 
-def function_at(text, place):
-    """The name of the function in which a place of a text stands, and the names of what it calls."""
-    starts = [*FUNCTION.finditer(text)]
-    last = max(at for at, start in enumerate(starts) if start.start() <= text.index("\n", place))
-    end = starts[last + 1].start() if last + 1 < len(starts) else len(text)
-    return starts[last][1], {*CALL.findall(text[starts[last].end() : end])}
+def read(crate, file):
+    """The text of a crate's file."""
+    return (ROOT / "crates" / crate / file).read_text()
 
 
 def edits_of(crate):
@@ -92,108 +124,58 @@ def edits_of(crate):
         said = path.read_text()
         file = re.search(r"^file: (.*)$", said, re.M)[1]
         pairs = re.findall(r"^old: (.*)\nnew: (.*)$", said, re.M)
-        text = (ROOT / "crates" / crate / file).read_text()
-        edits.append(Edit(path.stem, file, pairs, *function_at(text, text.find(pairs[0][0]))))
+        text = read(crate, file)
+        edits.append(Edit(crate, path.stem, file, pairs, Function(file, text, max(text.find(pairs[0][0]), 0))))
     return edits
 
 
-class Group:
-    """Edits of a crate that are tried at once, no two of a function, and the texts that they make."""
-
-    def __init__(self, crate):
-        self.crate, self.edits, self.texts = crate, [], {}
-
-    def with_edit(self, edit):
-        """The text of the edit's file with it, beside the others, or None where it can't be tried beside them."""
-        if any((edit.file, edit.function) == (other.file, other.function) for other in self.edits):
-            return None
-        return edit.within(self.texts.get(edit.file) or (ROOT / "crates" / self.crate / edit.file).read_text())
-
-    def add(self, edit):
-        self.texts[edit.file] = self.with_edit(edit)
-        self.edits.append(edit)
-
-    def waits_for(self, edit):
-        """How many edits of the group may wait for this one, or it for them."""
-        return sum(map(edit.calls_or_is_called, self.edits))
-
-
-class Groups:
-    """The groups of a crate that aren't begun, and the edits of others that wait for the proof of another function."""
-
-    def __init__(self, groups):
-        self.left, self.waiting, self.lock = list(groups), [], threading.Lock()
-
-    def begin(self):
-        """The next group, with the edits that wait, as far as they don't wait there again."""
-        with self.lock:
-            group = self.left.pop(0)
-            for edit in [*self.waiting]:
-                if group.with_edit(edit) is not None and not group.waits_for(edit):
-                    group.add(edit)
-                    self.waiting.remove(edit)
-        return group
-
-    def wait(self, edits):
-        """Keeps edits that wait for a later group."""
-        with self.lock:
-            self.waiting += edits
-
-
-def spread(crate, edits, count):
-    """The edits in so many groups that are about as large, and how many pairs of a group may wait for each other. There
-    are at least as many groups as a function has edits."""
-    of = lambda edit: (edit.file, edit.function)
-    turns = Counter(map(of, edits))
-    groups, pairs = [Group(crate) for _ in range(count)], 0
-    for edit in sorted(edits, key=lambda it: (-turns[of(it)], of(it))):
-        fits = [group for group in groups if group.with_edit(edit) is not None]
+def groups_of(edits):
+    """The edits in as few groups as may be. Beside a method that is edited where it stands there is none of its file,
+    which may call it and would have to wait for its proof."""
+    groups = [[] for _ in range(-(-len(edits) // MOST))]
+    in_place = lambda it: it.function.is_of_trait
+    for edit in sorted(edits, key=lambda it: (not in_place(it), it.file, it.function.name)):
+        meets = lambda other: other.file == edit.file and (in_place(other) or in_place(edit))
+        fits = [group for group in groups if not any(map(meets, group))]
         if not fits:
-            groups.append(Group(crate))
-        group = min(fits or groups[-1:], key=lambda it: (it.waits_for(edit), len(it.edits)))
-        pairs += group.waits_for(edit)
-        group.add(edit)
-    return [group for group in groups if group.edits], pairs
+            groups.append([])
+        min(fits or groups[-1:], key=len).append(edit)
+    return groups
 
 
-def groups_of(crate, edits):
-    """The edits in groups that take few checks, and those that don't fit their file. Edits that wait may take a check
-    more, and each of them takes about a third of one."""
-    fit = [edit for edit in edits if Group(crate).with_edit(edit) is not None]
-    turns = Counter((edit.file, edit.function) for edit in fit)
-    fewest = max([1, -(-len(fit) // MOST), *turns.values()])
-    found = [spread(crate, fit, count) for count in range(fewest, fewest + 4)]
-    groups, _ = min(found, key=lambda it: len(it[0]) + (1 + it[1] / 3 if it[1] else 0))
-    return groups, [edit for edit in edits if edit not in fit]
+def idle(edits):
+    """An edit that changes nothing: a copy of the shortest of the functions of these edits, of those with proofs."""
+    copied = [it for it in edits if not it.function.is_of_trait]
+    proved = [it for it in copied if it.function.proofs(it.crate, "")]
+    edit = min(proved or copied, key=lambda it: it.function.end - it.function.begin)
+    return Edit(edit.crate, "nothing", edit.file, [], edit.function)
 
 
-def verdict(edit, crate, functions, said):
+def verdict(edit, functions, said):
     """What a check came to for an edit, and why. Of the functions that it names it has to say something of this one."""
-    lines = [line for path, line in functions if edit.is_of(crate, path) and line != "proved"]
+    lines = [line for path, line in functions if edit.is_at(path) and line != "proved"]
     goals = [line for line in lines if "did not prove" in line]
     if goals:
         return REFUSED, goals[0].partition("did not prove ")[2]
     if "not proved" in lines:
-        place = rf"^\./proofs/\S*/{edit.function}/\w+\.antt:\d+:\d+: error: (.*)$"
+        place = rf"^\./proofs/\S*/{edit.tried}/\w+\.antt:\d+:\d+: error: (.*)$"
         errors = re.findall(place, said, re.M)
         told = [error for error in errors if not NAME_IS_GONE.search(error)]
         return (REFUSED, told[0]) if told else (THROUGH, f"no goal of its function failed: {' '.join(errors)[:200]}")
-    if lines and all("not proved" in line for line in lines):
-        return WAITS, lines[0]
-    return THROUGH, lines[0] if lines else "its function is still proved"
+    return THROUGH, lines[0] if lines else "it is still proved"
 
 
-def faults(group, crate, functions, said):
-    """What shows that the check can't be believed: one of the functions that were left as they are was refused, or an
-    edit that changes one of them in nothing wasn't told to have got through."""
+def faults(edits, functions, said):
+    """What shows that the check of a group can't be believed: one of the functions that were left as they are was
+    refused, or the copy that changes nothing wasn't proved."""
+    crate = edits[0].crate
     if not functions:
         return [f"the check of {crate} came to nothing: {said.strip()[:400]}"]
-    others = [it for it in functions if not any(edit.is_of(crate, it[0]) for edit in group)]
+    others = [it for it in functions if not any(edit.is_at(it[0]) for edit in edits)]
     found = [f"{path} is as it was, and {line}" for path, line in others if line == "not proved" or "did not" in line]
-    proved = [path for path, line in others if line == "proved" and path.startswith(f"{crate}::")]
-    idle = Edit("", "src/lib.rt", [], proved[0].split("::")[-1]) if proved else None
-    if not idle or verdict(idle, crate, others, said)[0] != THROUGH:
-        found.append(f"an edit of {crate} that changes nothing didn't get through")
+    nothing = idle(edits)
+    if [line for path, line in others if nothing.is_at(path)] != ["proved"]:
+        found.append(f"a copy of {nothing.function.name} of {crate} that changes nothing wasn't proved")
     return found
 
 
@@ -276,13 +258,16 @@ class Copy:
         """What a check says with these texts in the place of the crate's own."""
         self.begin_anew()
         for file, text in texts.items():
+            (self.folder / file).parent.mkdir(parents=True, exist_ok=True)
             (self.folder / file).write_text(text)
         ran = subprocess.run(
             self.words, cwd=self.folder, stdin=subprocess.DEVNULL, text=True, stdout=subprocess.PIPE,
             stderr=subprocess.STDOUT, errors="replace",
         )
         for file in texts:
-            shutil.copy(ROOT / "crates" / self.crate / file, self.folder / file)
+            (self.folder / file).unlink()
+            if (ROOT / "crates" / self.crate / file).exists():
+                shutil.copy(ROOT / "crates" / self.crate / file, self.folder / file)
         return ran.stdout
 
 
@@ -299,18 +284,20 @@ def link_tree(one, other):
 
 
 def edits_to_try(crate):
-    """The edits of a crate that aren't known to be refused, what each is remembered by, and how many are known."""
+    """The edits of a crate that aren't known to be refused, those that don't fit their function, what each is
+    remembered by, and how many are known."""
     base = sum_of(crates_below()[crate]).hexdigest()
     edits = edits_of(crate)
     names = {edit: hashlib.sha256(f"{base} {edit.name} {edit.file} {edit.pairs}".encode()).hexdigest()
              for edit in edits}
     todo = [edit for edit in edits if not (CACHE / names[edit]).exists()]
-    return todo, names, len(edits) - len(todo)
+    fit = [edit for edit in todo if edit.body() is not None]
+    return fit, [edit for edit in todo if edit not in fit], names, len(edits) - len(todo)
 
 
 def needs_proof(crate, begin, groups):
-    """Whether a crate is proved before so many groups, lest each of them does that: nothing was collected of it."""
-    return bool(begin) and groups > 1 and not (begin / crate).is_dir()
+    """Whether a crate is proved before these groups, lest each of them does that: nothing was collected of it."""
+    return bool(begin) and len(groups) > 1 and not (begin / crate).is_dir()
 
 
 def prove(crate, begin):
@@ -331,12 +318,12 @@ class Tried:
         for name in ("said", "refused", "failed", "checks"):
             setattr(self, name, getattr(self, name) + getattr(other, name))
 
-    def hear(self, crate, group, names, heard):
-        """Takes in what a check of a group said. The edits that wait for the proof of another function."""
+    def hear(self, edits, names, heard):
+        """Takes in what a check of a group said."""
         functions = re.findall(r"^fn (\S+): (.*)$", heard, re.M)
-        wrong = faults(group.edits, crate, functions, heard)
-        results = [(edit, *verdict(edit, crate, functions, heard)) for edit in group.edits]
-        wrong += [f"{crate}/{edit.name} GOT THROUGH: {why}" for edit, came, why in results if came == THROUGH]
+        wrong = faults(edits, functions, heard)
+        results = [(edit, *verdict(edit, functions, heard)) for edit in edits]
+        wrong += [f"{edit.crate}/{edit.name} GOT THROUGH: {why}" for edit, came, why in results if came == THROUGH]
         for edit, came, _ in results:
             self.refused += came == REFUSED
             if came == REFUSED and not wrong:
@@ -344,40 +331,20 @@ class Tried:
         self.said += wrong
         self.failed += len(wrong)
         self.checks += 1
-        return [edit for edit, came, _ in results if came == WAITS]
 
 
-def try_group(crate, begin, groups, names, proof=None, copy=None):
-    """Tries the next of a crate's groups, once a proof that it waits for is done, in a copy that has proved the crate
-    already or in one of its own."""
+def try_groups(crate, begin, groups, names, proof=None):
+    """Tries groups of a crate one after another in one copy, once a proof that they wait for is done."""
     if proof:
         proof.result()
     tried = Tried()
     with tempfile.TemporaryDirectory(prefix="flow-planted-") as folder:
-        copy = copy or Copy(crate, folder, begin)
-        group = groups.begin()
-        groups.wait(tried.hear(crate, group, names, copy.check(group.texts)))
-    return tried
-
-
-def try_all(crate, begin, groups, names, copy):
-    """Tries a crate's groups one after another, in one copy."""
-    tried = Tried()
-    while groups.left:
-        tried.add(try_group(crate, begin, groups, names, None, copy))
-    return tried
-
-
-def try_again(pool, crate, begin, groups, names, copy):
-    """Tries those of a crate's edits again that still wait for another function's proof, as long as fewer do so."""
-    tried = Tried()
-    while groups.waiting:
-        waited, groups = groups.waiting, Groups(groups_of(crate, groups.waiting)[0])
-        tried.add(pool.submit(try_all, crate, begin, groups, names, copy).result())
-        if len(groups.waiting) == len(waited):
-            tried.said += [f"{crate}/{edit.name} waits for a function that isn't edited" for edit in waited]
-            tried.failed += len(waited)
-            break
+        copy = Copy(crate, folder, begin)
+        for edits in groups:
+            texts = {}
+            for edit in [*edits, idle(edits)]:
+                edit.add_to(texts)
+            tried.hear(edits, names, copy.check(texts))
     return tried
 
 
@@ -426,33 +393,23 @@ def main(words):
     crates = [crate for crate in crates_below() if crate in words or not words]
     if any(word not in crates for word in words):
         sys.exit(__doc__)
-    passed = lacking = 0
-    found = []
-    for crate in crates:
-        todo, names, known = edits_to_try(crate)
-        groups, misfits = groups_of(crate, todo)
-        found.append((crate, Groups(groups), len(groups), misfits, names, known))
+    found = [(crate, *edits_to_try(crate)) for crate in crates]
+    found = [(crate, groups_of(todo), misfits, names, known) for crate, todo, misfits, names, known in found]
     # (where groups wait for a proof of the crate, those of other crates go first; else the most edits take longest)
-    found.sort(key=lambda it: (needs_proof(it[0], begin, it[2]), -it[2]))
-    with ExitStack() as kept, ThreadPoolExecutor(int(os.environ.get("RT_JOBS") or 1)) as pool:
-        proofs = {it[0]: pool.submit(prove, it[0], begin) for it in found if needs_proof(it[0], begin, it[2])}
-        copies, tried = {}, {it[0]: [] for it in found}
-        # (the crates take turns, so that an edit which waits finds a later group of its crate)
-        for turn in range(max(it[2] for it in found)):
-            for crate, groups, count, _, names, _ in found:
-                if begin and turn < count:
-                    tried[crate].append(pool.submit(try_group, crate, begin, groups, names, proofs.get(crate)))
-                elif not begin and turn == 0 < count:
-                    folder = kept.enter_context(tempfile.TemporaryDirectory(prefix="flow-planted-"))
-                    copies[crate] = Copy(crate, folder, None)
-                    tried[crate].append(pool.submit(try_all, crate, begin, groups, names, copies[crate]))
-        for crate, groups, _, misfits, names, known in found:
+    found.sort(key=lambda it: (needs_proof(it[0], begin, it[1]), -len(it[1])))
+    passed = lacking = 0
+    with ThreadPoolExecutor(int(os.environ.get("RT_JOBS") or 1)) as pool:
+        proofs = {it[0]: pool.submit(prove, it[0], begin) for it in found if needs_proof(it[0], begin, it[1])}
+        tried = {}
+        for crate, groups, _, names, _ in found:
+            parts = [[group] for group in groups] if begin else [groups] if groups else []
+            tried[crate] = [pool.submit(try_groups, crate, begin, part, names, proofs.get(crate)) for part in parts]
+        for crate, _, misfits, _, known in found:
             came = Tried()
-            came.said = [f"{crate}/{edit.name} doesn't fit its file" for edit in misfits]
+            came.said = [f"{crate}/{edit.name} doesn't fit its function" for edit in misfits]
             came.failed = len(misfits)
             for part in tried[crate]:
                 came.add(part.result())
-            came.add(try_again(pool, crate, begin, groups, names, copies.get(crate)))
             print("\n".join([*came.said, ""]), end="")
             told = [f"{known + came.refused} refused", *([f"{known} of them in earlier runs"] if known else []),
                     *([f"{came.checks} checks"] if came.checks else [])]

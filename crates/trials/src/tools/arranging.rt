@@ -153,7 +153,10 @@ fn answer(alloc: Global, job: Job, problem: &[u8], solution: &[u8]) -> Option<Ve
     let mut out: Vec<u8> = Vec::new(alloc);
     let mut err: Vec<u8> = Vec::new(alloc);
     let ended = run_on_texts(alloc, job, problem, solution, &mut out, &mut err);
-    if ended == Ok(0) { Some(out) } else { None }
+    match ended {
+        Ok(0) => Some(out),
+        _ => None,
+    }
 }
 
 /// Whether each flow line stands where the arc of its two nodes stands in the scattered problem.

@@ -16,7 +16,7 @@ use flow_tools::{FlowNetwork, NodeFlows, fill, is_greatest};
 use std::alloc::Global;
 
 /// What is said of a flow, as a number, and the number that goes with it.
-#[derive(Clone, Copy, Debug, PartialEq, Eq)]
+#[derive(Clone, Copy)]
 pub struct Checked {
     /// 0 a flow of the greatest value, 1 a feasible flow of a smaller one, 2 an arc's flow passes its capacity, 3 what
     /// enters a node isn't what leaves it.

@@ -6,7 +6,7 @@ ghost use Rattle.flow_c.specs.declared.refusals.Refusal.TheVariants.{Memory};
 use flow_net::OutOfMemory;
 
 /// Why there is no answer.
-#[derive(Clone, Copy, Debug, PartialEq, Eq)]
+#[derive(Clone, Copy)]
 pub enum Refusal {
     /// Too few or too many nodes.
     Nodes,

@@ -16,7 +16,7 @@ use memchr::memchr;
 use std::marker::Model;
 
 /// Why a line is refused.
-#[derive(Clone, Copy, Debug, PartialEq, Eq)]
+#[derive(Clone, Copy)]
 pub(crate) enum Refusal {
     /// The line has a fault.
     Code(FaultCode),

@@ -125,7 +125,9 @@ def edits_of(crate):
         file = re.search(r"^file: (.*)$", said, re.M)[1]
         pairs = re.findall(r"^old: (.*)\nnew: (.*)$", said, re.M)
         text = read(crate, file)
-        edits.append(Edit(crate, path.stem, file, pairs, Function(file, text, max(text.find(pairs[0][0]), 0))))
+        place = text.find(pairs[0][0])
+        # (one that stands nowhere doesn't fit the last function either)
+        edits.append(Edit(crate, path.stem, file, pairs, Function(file, text, place if place >= 0 else len(text) - 1)))
     return edits
 
 
@@ -146,6 +148,8 @@ def groups_of(edits):
 def idle(edits):
     """An edit that changes nothing: a copy of the shortest of the functions of these edits, of those with proofs."""
     copied = [it for it in edits if not it.function.is_of_trait]
+    if not copied:
+        sys.exit(f"{edits[0].crate} needs an edit of a function that is no trait's, to see what copies are worth")
     proved = [it for it in copied if it.function.proofs(it.crate, "")]
     edit = min(proved or copied, key=lambda it: it.function.end - it.function.begin)
     return Edit(edit.crate, "nothing", edit.file, [], edit.function)

@@ -146,8 +146,10 @@ def groups_of(edits):
 
 
 def idle(edits):
-    """An edit that changes nothing: a copy of the shortest of the functions of these edits, of those with proofs."""
-    copied = [it for it in edits if not it.function.is_of_trait]
+    """An edit that changes nothing: a copy of the shortest of the functions of these edits, of those with proofs; where
+    they are methods of traits alone, of another edit's function."""
+    can_be_copied = lambda it: not it.function.is_of_trait
+    copied = [*filter(can_be_copied, edits)] or [*filter(can_be_copied, edits_of(edits[0].crate))]
     if not copied:
         sys.exit(f"{edits[0].crate} needs an edit of a function that is no trait's, to see what copies are worth")
     proved = [it for it in copied if it.function.proofs(it.crate, "")]

@@ -1,4 +1,5 @@
 pub mod Joined
 pub mod Marks
+pub mod Rows
 pub mod Taken
 pub mod Degrees

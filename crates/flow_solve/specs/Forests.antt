@@ -1,11 +1,11 @@
 -- Forests that grow from one root: what their cells hold, and the flows by which they come to nodes without an arc.
-use Rattle.std.specs.Prelude.{◌≡◌, ℕ, zero, suc, ◌+◌, ◌*◌, ◌/◌, ◌%◌, ◌≤◌, ◌<◌, ◌==◌, Bool, false, not, ◌&&◌}
+use Rattle.std.specs.Prelude.{◌≡◌, ℕ, zero, suc, ◌+◌, ◌-◌, ◌*◌, ◌/◌, ◌%◌, ◌≤◌, ◌<◌, ◌==◌, Bool, false, not, ◌&&◌}
 use Rattle.std.specs.Prelude.{List, length, slice_index, slice_index_or, ◌≢◌, Option, MatchOption, IsTrue, IsFalse}
-use Rattle.std.specs.Prelude.{nat_le}
+use Rattle.std.specs.Prelude.{◌∷◌, nat_le, nat_lt, if◌then◌else◌}
 use Rattle.std.specs.Int.{bit_at}
 use Rattle.std.specs.List.{count_by}
 use Rattle.flow_net.specs.declared.networks.Arc.{Arc}
-use Rattle.flow_net.specs.Nets.{Net, IsNode}
+use Rattle.flow_net.specs.Nets.{Net, IsNode, arc_at}
 use Rattle.flow_net.specs.Arcs.{no_arc, enters}
 use Rattle.flow_net.specs.NodeSets.{just}
 use Rattle.flow_net.specs.Flows.{out_of, into, IsFeasible}
@@ -16,6 +16,7 @@ use Rattle.flow_net.specs.Limits.{IsNet}
 use Rattle.flow_net.specs.Residual.{Table, residual}
 use Rattle.flow_solve.specs.declared.forests.Ground.{Ground}
 use Rattle.flow_solve.specs.declared.forests.rows.TheConstants.{TAKEN}
+use Rattle.flow_solve.specs.declared.forests.growing.Lead.{Lead}
 use Rattle.flow_solve.specs.declared.forests.joining.Budgeted.{Budgeted}
 use Rattle.flow_solve.specs.declared.residual.half_arcs.Direction.{Direction}
 use Rattle.flow_solve.specs.declared.residual.half_arcs.Direction.TheVariants.{Forwards, Backwards}
@@ -48,10 +49,9 @@ abbrev pub facing : Direction → Net → Net
 facing Forwards net = turned net
 facing Backwards net = net
 
--- the half-arc leads that way
-abbrev pub LeadsOn : Direction → ℕ → Type 0
-LeadsOn Forwards h = h % 2 ≡ 1
-LeadsOn Backwards h = h % 2 ≡ 0
+-- the network along whose arcs forests grow
+abbrev pub ahead : Ground → Net
+ahead ground = facing ground.direction ground.net.now
 
 -- cells hold bits, 32 each, one for each node: whether it is marked
 abbrev pub marked_in : List ℕ → ℕ → Bool
@@ -67,7 +67,7 @@ pub record HasMarked (w : ℕ) (before after : List ℕ) : Type 0 where
   pub here : IsTrue (marked_in after w)
   pub others : (v : ℕ) → v ≢ w → marked_in after v ≡ marked_in before v
 
--- the highest bit of a cell tells whether a forest has taken the arc with its number; the rest is a hint
+-- the highest bit of a cell tells whether a forest has taken the arc of the cell
 abbrev pub taken_in : List ℕ → ℕ → Bool
 taken_in rows i = nat_le TAKEN (slice_index rows i)
 
@@ -75,20 +75,91 @@ taken_in rows i = nat_le TAKEN (slice_index rows i)
 abbrev pub KeepsTaken : List ℕ → List ℕ → Type 0
 KeepsTaken before after = (i : ℕ) → IsTrue (taken_in before i) → IsTrue (taken_in after i)
 
--- where forests grow: a network, a root, and marks for each node
+-- rows stand one after the other
+abbrev pub Rises : List ℕ → Type 0
+Rises first = (u v : ℕ) → u ≤ v → v < length first → slice_index first u ≤ slice_index first v
+
+-- a cell stands in the row of a node
+abbrev pub StandsIn : List ℕ → ℕ → ℕ → Type 0
+StandsIn first v i = (1 ≤ v) × (v < length first) × (slice_index first (v - 1) ≤ i) × (i < slice_index first v)
+
+-- the node that a number in a cell tells of: the number itself, or the end of the arc before the one with the number
+abbrev pub node_told : Bool → Net → ℕ → ℕ
+node_told numbered net k = if numbered then (slice_index_or (no_arc ∷ net.arcs) k no_arc).dst else k
+
+-- an arc from a node to another
+abbrev pub IsBetween : Arc → ℕ → ℕ → Type 0
+IsBetween a v w = (a.src ≡ v) × (a.dst ≡ w)
+
+-- Rows tell of a network: its arcs are those that lead from the node of a row to one that a cell of the row tells of,
+-- and as many of them leave each set as of another's.
+pub record Tells (numbered : Bool) (net : Net) (first rows : List ℕ) (told : Net) : Type 0 where
+  pub limits : IsNet told
+  pub nodes : told.nodes ≡ net.nodes
+  pub size : length told.arcs ≡ length rows
+  pub same : (X : ℕ → Bool) → leaving told X ≡ leaving net X
+  pub arc : (v i : ℕ) → StandsIn first v i → 1 ≤ node_told numbered net (slice_index rows i % TAKEN)
+      → IsBetween (arc_at told i) v (node_told numbered net (slice_index rows i % TAKEN))
+
+-- Rows that are being filled tell of a network: an empty cell of a self-loop, and any other of an arc from the node of
+-- its row to the node that it has.
+pub record AreRows (n : ℕ) (first cells : List ℕ) (told : Net) : Type 0 where
+  pub limits : IsNet told
+  pub nodes : told.nodes ≡ n
+  pub size : length told.arcs ≡ length cells
+  pub plain : (i : ℕ) → slice_index cells i < TAKEN
+  pub empty : (i : ℕ) → slice_index cells i ≡ 0 → (arc_at told i).src ≡ (arc_at told i).dst
+  pub arc : (v i : ℕ) → StandsIn first v i → 1 ≤ slice_index cells i → IsBetween (arc_at told i) v (slice_index cells i)
+
+-- rows tell of more arcs than before: of so many more that leave a set
+abbrev pub AreMore : ℕ → List ℕ → List ℕ → List ℕ → ((ℕ → Bool) → ℕ) → Type 0
+AreMore n first before after count = (told : Net) → AreRows n first before told
+    → (more : Net) × AreRows n first after more × ((X : ℕ → Bool) → leaving more X ≡ leaving told X + count X)
+
+-- the arc leaves a set, from a node of some that follow each other
+abbrev pub leaves_from : ℕ → ℕ → (ℕ → Bool) → Arc → Bool
+leaves_from from to X a = (nat_le from a.src && nat_lt a.src to) && leaves X a
+
+-- where forests grow: a network, a root, where each row begins, and marks for each node
 pub record IsStand (ground : Ground) (done : List ℕ) : Type 0 where
   pub limits : IsNet ground.net.now
   pub root : IsNode ground.net.now ground.root
+  pub firsts : length ground.first.now ≡ ground.net.now.nodes + 1
   pub size : ground.net.now.nodes ≤ 32 * length done
 
--- c forests are done, and have taken arcs
+-- a cell before another whose arc leads on from a node of its row to one that a search for it didn't find marked; the
+-- arc isn't taken, if not all are looked at
+pub record IsLead (ground : Ground) (rows done : List ℕ) (from end : ℕ) (all : Bool) (lead : Lead) : Type 0 where
+  pub after : from ≤ lead.cell
+  pub before : lead.cell < end
+  pub cell : lead.cell < length rows
+  pub free : IsFalse all → slice_index rows lead.cell < TAKEN
+  pub behind : lead.behind
+      ≡ node_told ground.numbered (ahead ground) (slice_index rows lead.cell % TAKEN)
+  pub size : lead.behind ≤ 32 * length done
+
+-- where forests grow before searches have what they need, and afterwards
+abbrev pub at_stage : Ground → Bool → Ground
+at_stage ground ready = record {
+  net = ground.net;
+  root = ground.root;
+  direction = ground.direction;
+  first = ground.first;
+  paired = ground.paired;
+  beside = ground.beside;
+  numbered = ready && not ground.paired;
+  dense = ground.dense;
+}
+
+-- c forests are done, and have taken arcs of which the rows tell
 abbrev pub IsGrove : Ground → ℕ → ℕ → List ℕ → Type 0
-IsGrove ground k c rows = AreEntered (facing ground.direction ground.net.now) ground.root k (taken_in rows) c
+IsGrove ground k c rows = (told : Net) × Tells ground.numbered (ahead ground) ground.first.now rows told
+    × AreEntered told ground.root k (taken_in rows) c
 
 -- c forests are done, and one more has come to some nodes
 abbrev pub IsForest : Ground → ℕ → ℕ → List ℕ → List ℕ → Type 0
-IsForest ground k c rows done =
-    HasSpread (facing ground.direction ground.net.now) ground.root k (taken_in rows) c (marked_in done)
+IsForest ground k c rows done = (told : Net) × Tells ground.numbered (ahead ground) ground.first.now rows told
+    × HasSpread told ground.root k (taken_in rows) c (marked_in done)
 
 -- it has come to more
 pub record HasGrown (ground : Ground) (rows done rows' done' : List ℕ) : Type 0 where

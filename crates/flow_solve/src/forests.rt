@@ -28,7 +28,7 @@
 //! | `4·n + 1` | four hints for each node |
 //! | `n` | the nodes that the forest goes back to; the queue of a search; while rows are filled, where they end |
 //! | `1` | spare |
-ghost use Rattle.std.specs.Prelude.{◌≡◌, ℕ, ◌+◌, ◌*◌, ◌≤◌, ◌<◌, ◌-◌, IfSome, IsTrue, if◌then◌else◌, length};
+ghost use Rattle.std.specs.Prelude.{◌≡◌, ℕ, ◌+◌, ◌*◌, ◌≤◌, ◌<◌, ◌-◌, IfSome, IsTrue, true, if◌then◌else◌, List, length};
 ghost use Rattle.std.specs.List.{All};
 ghost use Rattle.flow_net.specs.Nets.{IsNode};
 ghost use Rattle.flow_net.specs.Flows.{Fits};
@@ -36,7 +36,7 @@ ghost use Rattle.flow_net.specs.LeastCuts.{IsConnectivity};
 ghost use Rattle.flow_net.specs.Limits.{IsNet};
 ghost use Rattle.flow_solve.specs.Bounds.{work_cells};
 ghost use Rattle.flow_solve.specs.Forests.{AreAbove, IsEulerian, IsForest, IsGrove, IsReached, IsStand};
-ghost use Rattle.flow_solve.specs.Forests.{KeepsTaken, PaysIfAny, marked_in};
+ghost use Rattle.flow_solve.specs.Forests.{PaysIfAny, at_stage, marked_in};
 
 pub(crate) mod degrees;
 mod growing;
@@ -50,7 +50,7 @@ use flow_net::{FlowTable, Network};
 use growing::{Front, begin, grow, is_whole, next_node, reach};
 use joining::{Budgeted, raise};
 use marks::unmark_all;
-use rows::fill_rows;
+use rows::{fill_rows, number_arcs};
 
 /// Where forests grow.
 #[derive(Clone, Copy)]
@@ -62,27 +62,27 @@ pub(crate) struct Ground<'a> {
     /// Which way a search goes from a node to those that a forest has come to. Backwards, the forests grow along arcs;
     /// forwards, against them.
     pub direction: Direction,
-    /// Whether rows are made of pairs, as [`rows`] says.
+    /// Where the row of each node begins, and at the end where that of the last one ends.
+    pub first: &'a [u32],
+    /// Whether each arc is there both ways, its opposite half of the arcs away.
     pub paired: bool,
-    /// Whether the pair of an arc and that of its opposite are put down one after the other, and so stand near.
+    /// Whether an arc and its opposite are put down one after the other, so that they stand near.
     pub beside: bool,
+    /// Whether rows have the numbers of arcs in place of nodes, as [`rows`] says.
+    pub numbered: bool,
+    /// Whether nodes have so many arcs that it pays to know which of their rows are taken.
+    pub dense: bool,
 }
 
 /// Begins a forest, and lets it grow as far as it comes by itself.
-fn begin_forest(
-    ground: Ground<'_>,
-    rows: &mut [u32],
-    done: &mut [u32],
-    hints: &mut [u32],
-    is_last: bool,
-) -> Front
+fn begin_forest(ground: Ground<'_>, rows: &mut [u32], done: &mut [u32], hints: &mut [u32]) -> Front
     requires stand { IsStand ground done.old }
     ensures stand { IsStand ground.entry done.new }
     ensures done { IsTrue (marked_in done.new ground.entry.root) }
     ensures forest { (k c : ℕ) → IsGrove ground.entry k c rows.old → IsForest ground.entry k c rows.new done.new }
 {
     let front = begin(ground, done, hints);
-    grow(ground, rows, done, hints, front, is_last)
+    grow(ground, rows, done, hints, front)
 }
 
 /// Joins the nodes that a forest hasn't come to, one after the other, and lets the forest grow on from each, as long as
@@ -120,7 +120,7 @@ fn complete(
         front = next_node(ground, rows, done, hints, front);
         least = raise(ground, rows, done, seen, hints, flow, front.node, least)?;
         front = reach(ground, done, hints, front);
-        front = grow(ground, rows, done, hints, front, false);
+        front = grow(ground, rows, done, hints, front);
     }
     if least.value > count && !is_whole(nodes, done) {
         return None;
@@ -140,14 +140,14 @@ fn forests_for(least: u64, is_even: bool) -> u64
     }
 }
 
-/// Fills the rows anew, unless they are as searches need them.
-fn fill_again(ground: Ground<'_>, is_paired: bool, rows: &mut [u32], hints: &mut [u32])
-    ensures { KeepsTaken rows.old rows.new }
+/// Puts down what searches need, unless it is there already. Answers false where the rows tell of no arcs any more.
+fn make_ready(ground: Ground<'_>, ready: bool, rows: &mut [u32], hints: &mut [u32]) -> bool
+    requires rows { length rows.old ≡ length ground.net.now.arcs }
+    requires hints { length hints.old ≡ length ground.net.now.arcs + 4 * ground.net.now.nodes + 1 }
+    ensures { IsTrue result → (k c : ℕ) (done : List ℕ) → IsForest (at_stage ground.entry ready) k c rows.old done
+        → IsForest (at_stage ground.entry true) k c rows.new done }
 {
-    if is_paired == ground.paired {
-        return;
-    }
-    fill_rows(ground, rows, &[], hints);
+    ready || number_arcs(ground, rows, hints)
 }
 
 /// Lets as many forests grow as there have to be. `known` holds the least number so far and how many looks and pushes
@@ -166,7 +166,8 @@ fn run_pass(
     requires unit { All (λ a. a.cap ≡ 1) ground.net.now.arcs }
     requires limits { IsNet ground.net.now }
     requires root { IsNode ground.net.now ground.root }
-    requires cells { ground.net.now.nodes ≤ length cells.old }
+    requires cells { 6 * ground.net.now.nodes + length ground.net.now.arcs + 2 ≤ length cells.old }
+    requires rows { length rows.old ≡ length ground.net.now.arcs }
     requires even { IsTrue is_even → IsEulerian ground.net.now }
     requires reached { IsReached ground.net.now known.value }
     ensures fits { Fits ground.entry.net.now flow.new.flows }
@@ -176,22 +177,34 @@ fn run_pass(
     ensures paid { PaysIfAny flow.old known.left flow.new result }
 {
     let nodes = ground.net.nodes();
-    let (marks, hints) = cells.split_at_mut(nodes as usize);
-    let mut paired = true;
-    rows.fill(0);
-    fill_rows(Ground { paired, ..ground }, rows, marks, hints);
+    let (marks, cells) = cells.split_at_mut(nodes as usize);
+    let (first, cells) = cells.split_at_mut(nodes as usize + 1);
+    let (hints, _spare) = cells.split_at_mut(ground.net.len() as usize + 4 * nodes as usize + 1);
     let (done, seen) = marks.split_at_mut(nodes as usize / 2);
     unmark_all(seen);
+    if !fill_rows(ground, first, rows, hints) {
+        return None;
+    }
+    let ground = Ground { first, ..ground };
+    let mut ready = false;
     let mut least = known;
     let mut count = 0;
     while count < forests_for(least.value, is_even) {
-        let is_last = count + 1 == forests_for(least.value, is_even);
-        let now = Ground { paired, ..ground };
-        let front = begin_forest(now, rows, done, hints, is_last);
+        let now = Ground {
+            numbered: ready & !ground.paired,
+            ..ground
+        };
+        let front = begin_forest(now, rows, done, hints);
         if !is_whole(nodes, done) {
-            fill_again(ground, paired, rows, hints);
-            paired = ground.paired;
-            least = complete(ground, rows, done, seen, hints, flow, count, front, least)?;
+            if !make_ready(ground, ready, rows, hints) {
+                return None;
+            }
+            ready = true;
+            let now = Ground {
+                numbered: !ground.paired,
+                ..ground
+            };
+            least = complete(now, rows, done, seen, hints, flow, count, front, least)?;
         }
         count += 1;
     }
@@ -242,7 +255,7 @@ pub fn connectivity_by_forests(
     ensures still_fits { Fits net.now flow.new.flows }
 {
     let m = net.len() as usize;
-    let (rows, cells) = work.split_at_mut(2 * m);
+    let (rows, cells) = work.split_at_mut(m);
     let least = least_degree(net, cells);
     if least == 0 {
         return Some(0);
@@ -254,8 +267,11 @@ pub fn connectivity_by_forests(
         net,
         root: hub(net, cells),
         direction: Direction::Backwards,
+        first: &[],
         paired,
         beside: paired && (is_even || has_more_arcs(net, least)),
+        numbered: false,
+        dense: has_more_arcs(net, u64::from(net.nodes()).isqrt()),
     };
     let start = Budgeted {
         value: least,

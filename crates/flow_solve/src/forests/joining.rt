@@ -12,9 +12,9 @@ ghost use Rattle.flow_solve.specs.Steps.{OnlyLooks, PaysLooks};
 
 use crate::forests::Ground;
 use crate::forests::marks::{is_left, is_marked, mark, unmark};
-use crate::forests::rows::{FIRST, PLACE, RECORD, hint_at, queue_at, record, spot_of};
+use crate::forests::rows::{TAKEN, next_at, place_at, queue_at};
 use crate::residual::cells::{get, put};
-use crate::residual::half_arcs::{cross, far, head, near};
+use crate::residual::half_arcs::{Direction, cross, far, head, near};
 use flow_net::{FlowTable, Network};
 
 /// A number, and how many looks and pushes are left.
@@ -31,8 +31,8 @@ struct Search {
     at: u32,
     /// How many nodes it has seen: the end of its queue.
     tail: u32,
-    /// The entry of that node's row at which it has found a path.
-    entry: u32,
+    /// Which of that node's half-arcs is the first of the path that it has found.
+    place: u32,
     /// Where in the queue those nodes end that it has seen from the first one.
     near: u32,
     /// Whether a unit has been sent along a path that it has found.
@@ -78,8 +78,8 @@ fn search_over(
         return next;
     }
     mark(seen, behind);
-    put(hints, record(behind) + PLACE, over);
-    put(hints, queue_at(net.nodes(), search.tail), behind);
+    put(hints, place_at(net, behind), over);
+    put(hints, queue_at(net, search.tail), behind);
     next.tail = search.tail.saturating_add(1);
     next
 }
@@ -102,34 +102,83 @@ fn opposite(net: &Network, half: u32) -> u32
     }
 }
 
-/// Looks at the half-arc of an entry, and before it at the one against the opposite arc, on which mostly more remains;
-/// at neither if the search has seen the node that they lead to, by the hint.
-fn search_entry(
+/// The half-arcs that leave a node, as hints: those of its row, and where rows have numbers those against the arcs that
+/// lead to it.
+#[derive(Clone, Copy)]
+struct Around {
+    /// The first cell of its row.
+    from: u32,
+    /// How many cells the row has.
+    row: u32,
+    /// Where in the hints the arcs begin that lead to it.
+    into: u32,
+    /// How many half-arcs there are.
+    all: u32,
+}
+
+/// The half-arcs that leave a node.
+fn half_arcs_of(ground: Ground<'_>, hints: &[u32], node: u32) -> Around {
+    let from = get(ground.first, (node as usize).wrapping_sub(1));
+    let row = get(ground.first, node as usize).wrapping_sub(from);
+    let into = get(hints, next_at(ground.net, node));
+    let end = get(hints, next_at(ground.net, node.saturating_add(1)));
+    let against = if ground.numbered {
+        end.saturating_sub(into)
+    } else {
+        0
+    };
+    Around {
+        from,
+        row,
+        into,
+        all: row.saturating_add(against),
+    }
+}
+
+/// A half-arc that leaves a node, by its place among all of these. One that there isn't is none of the network's.
+fn half_at(ground: Ground<'_>, rows: &[u32], hints: &[u32], around: Around, place: u32) -> u32 {
+    let is_of_row = place < around.row;
+    let cell = around.from.wrapping_add(place) as usize;
+    let number = if is_of_row && ground.numbered {
+        get(rows, cell) % TAKEN
+    } else if is_of_row {
+        get(hints, cell)
+    } else {
+        get(
+            hints,
+            around.into.wrapping_add(place.wrapping_sub(around.row)) as usize,
+        )
+    };
+    let is_against = matches!(ground.direction, Direction::Forwards) == is_of_row;
+    number
+        .wrapping_sub(1)
+        .saturating_mul(2)
+        .saturating_add(u32::from(is_against))
+}
+
+/// Whether a search has seen the node that a cell of a row tells of, where rows have no numbers.
+fn is_passed(ground: Ground<'_>, rows: &[u32], seen: &[u32], around: Around, place: u32) -> bool {
+    let cell = around.from.wrapping_add(place) as usize;
+    !ground.numbered && !is_left(seen, get(rows, cell) % TAKEN)
+}
+
+/// Looks at a half-arc that leaves a node, and where each arc is there both ways before it at the one against the
+/// opposite arc, on which mostly more remains; at neither if the search has seen the node that they lead to.
+fn search_along(
     ground: Ground<'_>,
-    rows: &[u32],
     done: &[u32],
     seen: &mut [u32],
     hints: &mut [u32],
     flow: &mut FlowTable,
     search: Search,
-    entry: u32,
+    half: u32,
 ) -> Search
     requires fits { Fits ground.net.now flow.old.flows }
     requires size { ground.net.now.nodes ≤ 32 * length seen.old }
     ensures next { result.at ≡ search.at }
     ensures looks { PaysLooks flow.old search.left flow.new result.left }
 {
-    let at = spot_of(ground, entry);
-    let half = hint_at(rows, at);
-    if half >= 2 * ground.net.len() {
-        return search;
-    }
-    let behind = if ground.paired {
-        hint_at(rows, at + 1)
-    } else {
-        head(ground.net, half)
-    };
-    if !is_left(seen, behind) {
+    if half >= 2 * ground.net.len() || !is_left(seen, head(ground.net, half)) {
         return search;
     }
     if !ground.paired {
@@ -163,20 +212,23 @@ fn search_from(
     let nodes = ground.net.nodes();
     let mut next = search;
     next.at += 1;
-    let node = get(hints, queue_at(nodes, search.at));
+    let node = get(hints, queue_at(ground.net, search.at));
     if node == 0 || node > nodes {
         return next;
     }
-    let at = record(node) + FIRST;
-    let from = if search.at == 0 { search.entry } else { 0 };
+    let from = if search.at == 0 { search.place } else { 0 };
     if search.at == 1 {
         next.near = search.tail;
     }
-    for entry in get(hints, at).max(from)..get(hints, at + RECORD) {
-        next = search_entry(ground, rows, done, seen, hints, flow, next, entry);
-        if next.found.is_some() {
-            next.entry = entry;
-            return next;
+    let around = half_arcs_of(ground, hints, node);
+    for place in from..around.all {
+        if !is_passed(ground, rows, seen, around, place) {
+            let half = half_at(ground, rows, hints, around, place);
+            next = search_along(ground, done, seen, hints, flow, next, half);
+            if next.found.is_some() {
+                next.place = place;
+                return next;
+            }
         }
     }
     next
@@ -195,11 +247,11 @@ fn begin_search(
     ensures left { result.left ≡ left }
 {
     mark(seen, node);
-    put(hints, queue_at(ground.net.nodes(), 0), node);
+    put(hints, queue_at(ground.net, 0), node);
     Search {
         at: 0,
         tail: 1,
-        entry: 0,
+        place: 0,
         near: 0,
         is_worn: false,
         found: None,
@@ -261,7 +313,7 @@ fn search_on(
     if next.found.is_some() || !search.is_worn {
         return next;
     }
-    forget(ground.net.nodes(), seen, hints, next.tail);
+    forget(ground.net, seen, hints, next.tail);
     let anew = begin_search(ground, seen, hints, node, next.left);
     search_out(ground, rows, done, seen, hints, flow, anew)
 }
@@ -281,9 +333,9 @@ fn worn(search: Search, left: u64) -> Search
 }
 
 /// Makes the nodes that a search has seen unseen.
-fn forget(nodes: u32, seen: &mut [u32], hints: &[u32], tail: u32) {
+fn forget(net: &Network, seen: &mut [u32], hints: &[u32], tail: u32) {
     for at in 0..tail {
-        let node = get(hints, queue_at(nodes, at));
+        let node = get(hints, queue_at(net, at));
         unmark(seen, node);
     }
 }
@@ -329,7 +381,7 @@ fn send(
         flow.push(net, half, 1);
         left -= 2;
         at = near(net, ground.direction, half);
-        half = get(hints, record(at) + PLACE);
+        half = get(hints, place_at(net, at));
     }
     Some(left)
 }
@@ -437,14 +489,14 @@ pub(crate) fn raise(
                 return None;
             }
             let left = is_closed(ground, done, seen, flow, search.left)?;
-            forget(nodes, seen, hints, search.tail);
+            forget(ground.net, seen, hints, search.tail);
             return Some(Budgeted { value, left });
         };
         let left = send(ground, done, hints, flow, node, last, search.left)?;
         search = worn(search, left);
         value += 1;
     }
-    forget(nodes, seen, hints, search.tail);
+    forget(ground.net, seen, hints, search.tail);
     Some(Budgeted {
         value,
         left: search.left,

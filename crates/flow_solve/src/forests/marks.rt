@@ -1,6 +1,6 @@
 //! Marks of nodes: a bit for each, so that those of a million nodes stay in the cache of a processor. A forest marks
 //! the nodes that it has come to, and a search those that it has seen, each in cells of its own.
-ghost use Rattle.std.specs.Prelude.{◌≡◌, ℕ, ◌*◌, ◌≤◌, IsFalse, length};
+ghost use Rattle.std.specs.Prelude.{◌≡◌, ℕ, ◌*◌, ◌≤◌, IsFalse, IsTrue, length};
 ghost use Rattle.flow_solve.specs.Forests.{HasMarked, marked_in};
 
 use crate::residual::cells::{get, put};
@@ -20,7 +20,9 @@ pub(crate) fn is_marked(marks: &[u32], node: u32) -> bool
 
 /// Whether it is a node that isn't marked.
 #[inline(always)]
-pub(crate) fn is_left(marks: &[u32], node: u32) -> bool {
+pub(crate) fn is_left(marks: &[u32], node: u32) -> bool
+    ensures { IsTrue result → node ≤ 32 * length marks.now }
+{
     let bit = node.wrapping_sub(1) as usize;
     bit / BITS < marks.len() && (marks[bit / BITS] >> (bit % BITS)) & 1 == 0
 }

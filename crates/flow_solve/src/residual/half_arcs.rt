@@ -16,6 +16,14 @@ pub(crate) enum Direction {
     Backwards,
 }
 
+/// The other direction.
+pub(crate) fn turned(direction: Direction) -> Direction {
+    match direction {
+        Direction::Forwards => Direction::Backwards,
+        Direction::Backwards => Direction::Forwards,
+    }
+}
+
 /// The node that a half-arc leads to. No step: it reads the arc alone.
 pub(crate) fn head(net: &Network, half: u32) -> u32
     requires { half < 2 * length net.now.arcs }

@@ -1,19 +1,36 @@
 -- `run_pass`: a forest that comes to all nodes by itself is done, and any other is completed.
 use Rattle.std.proofs.Common.{arith}
-use Rattle.flow_solve.specs.Forests.{marked_in, taken_in}
-use Rattle.flow_solve.proofs.ForestLemmas.Taken.{above_enough, grove_more, steps}
+use Rattle.flow_solve.proofs.ForestLemmas.Taken.{above_enough, grove_more, grove_begun, facing_nodes}
 use Rattle.flow_solve.proofs.Payments.{paid_then}
-use Rattle.flow_solve.proofs.forests.run_pass.Goals.{then-not-is_whole+in_ok-least, else-not-is_whole}
+use Rattle.flow_solve.proofs.forests.run_pass.Goals.{then-not-is_whole+else-not-make_ready+in_ok-least, else-not-is_whole}
 use Rattle.flow_solve.proofs.forests.run_pass.Goals as goal
+
+pub loop-count-init : goal.loop-count-init
+loop-count-init c =
+    let told = c.fill_rows.ensures c.if-not-fill_rows.false in
+    record {
+      fits = c.requires.fits;
+      stand = record {
+        limits = c.requires.limits;
+        root = c.requires.root;
+        firsts = omega arith;
+        size = omega arith;
+      };
+      reached = c.requires.reached;
+      fewer = omega arith;
+      grove = grove_begun _ _ _ _ _ 0 c.fill_rows.new.rows told;
+      rows_size = omega arith;
+      hints_size = omega arith;
+      paid = record { never_lowered = omega arith; left = omega arith; steps = omega arith };
+    }
 
 pub complete-requires-clause-forest : goal.complete-requires-clause-forest
 complete-requires-clause-forest c =
-    let one = c.begin_forest-front in
     let k = c.loop-count.least.value in
-    let j = c.loop-count.invariant in
-    (steps c.args.ground j.stand.limits).more k c.loop-count.count (taken_in one.new.rows)
-    (taken_in c.fill_again.new.rows) (marked_in one.new.done) (one.ensures.forest k c.loop-count.count j.grove)
-    c.fill_again.ensures
+    let count = c.loop-count.count in
+    let one = c.begin_forest-front in
+    c.make_ready.ensures c.if-not-make_ready.false k count one.new.done
+    (one.ensures.forest k count c.loop-count.invariant.grove)
 
 pub loop-count-preserved : goal.loop-count-preserved
 loop-count-preserved c =
@@ -21,26 +38,40 @@ loop-count-preserved c =
     let one = c.begin_forest-front in
     let k = c.loop-count.least.value in
     elim c.if-not-is_whole.branch [
-      | then-not-is_whole+in_ok-least w ↦
+      | then-not-is_whole+else-not-make_ready+in_ok-least w ↦
           let r = w.in_ok-least.ensures in
-          rw (w.rows-is, w.flow-is, w.done-is, w.least-is) (record {
+          rw (w.rows-is, w.flow-is, w.hints-is, w.done-is, w.least-is, w.ready-is) (record {
             fits = r.fits;
-            stand = record { limits = j.stand.limits; root = j.stand.root; size = omega arith };
+            stand = record {
+              limits = j.stand.limits;
+              root = j.stand.root;
+              firsts = j.stand.firsts;
+              size = omega arith;
+            };
             reached = r.reached;
             fewer = omega (arith, j.fewer, r.fewer);
             grove = r.grove;
+            rows_size = omega arith;
+            hints_size = omega arith;
             paid = paid_then _ _ _ _ _ _ j.paid r.paid;
           })
       | else-not-is_whole w ↦
-          rw (w.rows-is, w.flow-is, w.done-is, w.least-is) (record {
+          rw (w.rows-is, w.flow-is, w.hints-is, w.done-is, w.least-is, w.ready-is) (record {
             fits = j.fits;
-            stand = record { limits = j.stand.limits; root = j.stand.root; size = one.ensures.stand.size };
+            stand = record {
+              limits = j.stand.limits;
+              root = j.stand.root;
+              firsts = j.stand.firsts;
+              size = one.ensures.stand.size;
+            };
             reached = j.reached;
             fewer = j.fewer;
             grove =
-                grove_more c.args.ground k c.loop-count.count one.new.rows one.new.done j.stand.limits
-                (λ more v l m. c.is_whole.ensures w.if-not-is_whole.false v l (omega (arith, m)))
+                grove_more _ _ _ _ k c.loop-count.count one.new.rows one.new.done
+                (λ more v l m. c.is_whole.ensures w.if-not-is_whole.false v l (omega (arith, m, facing_nodes c.args.ground.direction c.args.ground.net.now)))
                 (one.ensures.forest k c.loop-count.count j.grove);
+            rows_size = omega arith;
+            hints_size = omega arith;
             paid = j.paid;
           })
     ]
@@ -48,5 +79,5 @@ loop-count-preserved c =
 pub returns-clause-above : goal.returns-clause-above
 returns-clause-above c =
     let j = c.loop-count.invariant in
-    above_enough c.args.ground c.loop-count.least.value c.loop-count.count c.args.is_even c.loop-count.rows
+    above_enough c.args.ground _ _ c.loop-count.least.value c.loop-count.count c.args.is_even c.loop-count.rows
     c.requires.even j.reached j.grove (omega (arith, c.forests_for.ensures.all))

@@ -1,7 +1,7 @@
 -- `run_pass`: so many forests are done, and the steps are paid.
-use Rattle.std.proofs.Common.{◌-◌, ◌≤◌}
+use Rattle.std.proofs.Common.{◌≡◌, ◌+◌, ◌-◌, ◌*◌, ◌≤◌, length}
 use Rattle.flow_net.specs.Flows.{Fits}
-use Rattle.flow_solve.specs.Forests.{IsGrove, IsReached, IsStand}
+use Rattle.flow_solve.specs.Forests.{IsGrove, IsReached, IsStand, at_stage}
 use Rattle.flow_solve.specs.Steps.{PaysSteps}
 use Rattle.flow_solve.proofs.forests.run_pass.Given as goal
 
@@ -11,7 +11,9 @@ invariant-loop-count l = record {
   stand : IsStand l.ground l.done;
   reached : IsReached l.ground.net.now l.least.value;
   fewer : l.least.value ≤ l.fn.known.value;
-  grove : IsGrove l.ground l.least.value l.count l.rows;
+  grove : IsGrove (at_stage l.ground l.ready) l.least.value l.count l.rows;
+  rows_size : length l.rows ≡ length l.ground.net.now.arcs;
+  hints_size : length l.hints ≡ length l.ground.net.now.arcs + 4 * l.ground.net.now.nodes + 1;
   paid : PaysSteps l.fn.flow l.fn.known.left l.flow l.least.left;
 }
 

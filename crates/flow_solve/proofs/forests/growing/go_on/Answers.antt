@@ -1,8 +1,17 @@
--- `go_on`: an arc is taken, and then hints change places.
-use Rattle.flow_solve.proofs.ForestLemmas.Taken.{grown_on, grown_kept}
+-- `go_on`: an arc that isn't taken leads from the node of its row (`Taken`).
+use Rattle.std.proofs.Common.{◌∙◌, refl, sym, arith}
+use Rattle.flow_solve.proofs.ForestLemmas.Taken.{taken_grown}
 use Rattle.flow_solve.proofs.forests.growing.go_on.Goals as goal
 
-pub returns-then-not-is_last : goal.returns-then-not-is_last
-returns-then-not-is_last c =
-    let one = c.take_entry.ensures in
-    grown_on _ _ _ _ _ _ _ one (grown_kept _ _ _ _ c.exchange_entries.ensures one.stand)
+pub returns : goal.returns
+returns c =
+    let lead = c.in-Some.ensures in
+    let stand = c.requires.stand in
+    taken_grown c.args.ground c.args.rows.now c.args.done.now c.mark.new.marks c.args.node c.in-Some.lead.cell
+    c.in-Some.lead.behind stand (
+      omega (arith, c.if-node-eq0.false),
+      omega (arith, stand.firsts, c.if-node-nodes.false, c.nodes.ensures.nodes),
+      omega (arith, lead.after, c.max-from.ensures),
+      lead.before,
+    )
+    lead.cell (lead.free refl) (sym c.is_marked.ensures ∙ c.if-not-is_marked.false) (omega (arith, c.if-lead-eq0.false)) lead.behind c.mark.auto.marks c.mark.ensures

@@ -4,8 +4,8 @@ use Rattle.flow_net.specs.Flows.{Fits}
 use Rattle.flow_solve.specs.Steps.{PaysLooks}
 use Rattle.flow_solve.proofs.forests.joining.search_from.Given as goal
 
-abbrev pub invariant-loop-entry : goal.invariant-loop-entry
-invariant-loop-entry l = record {
+abbrev pub invariant-loop-place : goal.invariant-loop-place
+invariant-loop-place l = record {
   fits : Fits l.ground.net.now l.flow.flows;
   next : l.next.at ≡ l.fn.search.at + 1;
   looks : PaysLooks l.fn.flow l.fn.search.left l.flow l.next.left;

@@ -8,9 +8,8 @@
 //! left by the arcs that enter the other nodes: the forests grow in the network with each arc turned round as well,
 //! unless as many arcs leave each node as enter it.
 //!
-//! As long as forests come to all nodes by themselves no flow is wanted, and rows of pairs do, in which forests grow in
-//! least time. Where the first node has to be joined, the rows are filled anew if a search needs others, and the forest
-//! goes on as far as it has come.
+//! As long as forests come to all nodes by themselves no flow is wanted, and the rows of the nodes do. Where the first
+//! node has to be joined, the numbers of the arcs are put down for the searches.
 //!
 //! The flow is kept from node to node: one that has been joined needs no conservation, so the flow stays feasible, and
 //! at the next node its value is 0. Which way a forest grows, which node is joined next and how a path is found is
@@ -19,15 +18,14 @@
 //! more can be raised, and at the end of a forest whether it has all nodes. All looks and pushes are counted against a
 //! number that the caller sets; where it is used up, or a test fails, the answer is none.
 //!
-//! With `n` nodes and `m` arcs the cells that are lent hold the rows, a cell for each node, and hints:
+//! With `n` nodes and `m` arcs the cells that are lent hold these:
 //!
 //! | Cells | What they hold |
 //! |---|---|
-//! | `2·m` | for each arc whether a forest has taken it, and for each node its half-arcs, as [`rows`] says |
+//! | `m` | the rows: for each node the arcs that lead on from it, and which are taken, as [`rows`] says |
 //! | `n` | marks of the nodes that the forest has come to, and of those that a search has seen, as [`marks`] says |
-//! | `4·n + 1` | four hints for each node |
-//! | `n` | the nodes that the forest goes back to; the queue of a search; while rows are filled, where they end |
-//! | `1` | spare |
+//! | `n + 1` | where the row of each node begins |
+//! | `m + 4·n + 1` | hints: what searches look at, as [`rows`] says, and four numbers for each node |
 ghost use Rattle.std.specs.Prelude.{◌≡◌, ℕ, ◌+◌, ◌*◌, ◌≤◌, ◌<◌, ◌-◌, IfSome, IsTrue, true, if◌then◌else◌, List, length};
 ghost use Rattle.std.specs.List.{All};
 ghost use Rattle.flow_net.specs.Nets.{IsNode};
@@ -70,7 +68,7 @@ pub(crate) struct Ground<'a> {
     pub beside: bool,
     /// Whether rows have the numbers of arcs in place of nodes, as [`rows`] says.
     pub numbered: bool,
-    /// Whether nodes have so many arcs that it pays to know which of their rows are taken.
+    /// Whether nodes have so many arcs that forests go on in a row one behind the other.
     pub dense: bool,
 }
 
@@ -151,9 +149,7 @@ fn make_ready(ground: Ground<'_>, ready: bool, rows: &mut [u32], hints: &mut [u3
 }
 
 /// Lets as many forests grow as there have to be. `known` holds the least number so far and how many looks and pushes
-/// are left; the answer is the same afterwards, or nothing where they are used up or a test fails. Forests grow in rows
-/// of pairs as long as they come to all nodes by themselves: there they take least time. Before the first pass the
-/// first cells have the degrees, as a hint.
+/// are left; the answer is the same afterwards, or nothing where they are used up or a test fails.
 fn run_pass(
     ground: Ground<'_>,
     rows: &mut [u32],

@@ -164,7 +164,8 @@ def verdict(edit, functions, said):
     if goals:
         return REFUSED, goals[0].partition("did not prove ")[2]
     if "not proved" in lines:
-        place = rf"^\./proofs/\S*/{edit.tried}/\w+\.antt:\d+:\d+: error: (.*)$"
+        # (an error goes on below its line, and what it says of a name may stand there)
+        place = rf"^\./proofs/\S*/{edit.tried}/\w+\.antt:\d+:\d+: error: (.*(?:\n  .*)?)"
         errors = re.findall(place, said, re.M)
         told = [error for error in errors if not NAME_IS_GONE.search(error)]
         return (REFUSED, told[0]) if told else (THROUGH, f"no goal of its function failed: {' '.join(errors)[:200]}")

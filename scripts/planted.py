@@ -44,8 +44,9 @@ FUNCTION = re.compile(r'^( *)(?:pub(?:\(\w+\))? )?(?:const )?(?:extern "C" )?fn 
 # Where functions of a type begin, with the type's name, and the name of the trait before it if they are a trait's.
 TYPE = re.compile(r"^(?:impl(?:<[^{]*?>)? (?:(\w+)(?:<[^{]*?>)? for )?|pub trait (?=(\w+)))(\w+)[^{]*\{$", re.M)
 REFUSED, THROUGH = "refused", "through"
-# The most edits of a group: more would keep one processor busy for longer than all others.
-MOST = 28
+# The most edits of a group. Each takes half a minute before its first edit; more of these would keep one processor busy
+# for longer than what runs beside.
+MOST = 56
 
 
 class Function:

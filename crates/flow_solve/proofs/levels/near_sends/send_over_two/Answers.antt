@@ -19,6 +19,10 @@ carry-requires-3-clause-room c =
     c.fit_last-amount.ensures.looks.flows in
     omega (arith, second, one, kept, c.fit_last-amount.ensures.room)
 
+pub carry-requires-2-clause-apart : goal.carry-requires-2-clause-apart
+carry-requires-2-clause-apart c =
+    omega (arith, c.tail.ensures.tail, c.if-tail-here.false, c.head-node.ensures.head, c.if-here-node.false)
+
 pub overflow_add-sending : goal.overflow_add-sending
 overflow_add-sending c =
     let task = c.args.sending.now.task in let net = task.packed.net.now in let s = task.s.now in let t = task.t.now in

@@ -4,6 +4,9 @@ use Rattle.flow_solve.specs.levels.Phases.{path_of}
 use Rattle.flow_solve.proofs.LevelLemmas.Descents.{rooms_after}
 use Rattle.flow_solve.proofs.levels.walking.augment.Goals as goal
 
+pub returns-clause-filling : goal.returns-clause-filling
+returns-clause-filling c = c.least_on-depth.ensures.filling
+
 -- nothing on the first with the least
 pub returns-clause-filled : goal.returns-clause-filled
 returns-clause-filled c =

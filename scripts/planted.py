@@ -132,17 +132,28 @@ def edits_of(crate):
     return edits
 
 
+def waits_for(edit, other):
+    """Whether a function may have to wait for the proof of a method that another edit changes where it stands: it is
+    the same one, or stands in the same file and names the method, or the type that it is of."""
+    method = other.function
+    if not method.is_of_trait or edit.file != other.file:
+        return False
+    text = read(edit.crate, edit.file)[edit.function.begin : edit.function.end]
+    names = (method.name, method.head[3])
+    return edit.function.path == method.path or any(re.search(rf"\b{name}\b", text) for name in names)
+
+
 def groups_of(edits):
-    """The edits in as few groups as may be. Beside a method that is edited where it stands there is none of its file,
-    which may call it and would have to wait for its proof."""
+    """The edits in as few groups as may be, none beside a method that its function may have to wait for."""
     groups = [[] for _ in range(-(-len(edits) // MOST))]
-    in_place = lambda it: it.function.is_of_trait
-    for edit in sorted(edits, key=lambda it: (not in_place(it), it.file, it.function.name)):
-        meets = lambda other: other.file == edit.file and (in_place(other) or in_place(edit))
+    for edit in sorted(edits, key=lambda it: (not it.function.is_of_trait, it.file, it.function.name)):
+        meets = lambda other: waits_for(edit, other) or waits_for(other, edit)
         fits = [group for group in groups if not any(map(meets, group))]
         if not fits:
             groups.append([])
-        min(fits or groups[-1:], key=len).append(edit)
+        # (methods that are edited where they stand go together, lest each group has one that others wait for)
+        most = max if edit.function.is_of_trait else min
+        most(fits or groups[-1:], key=len).append(edit)
     return groups
 
 

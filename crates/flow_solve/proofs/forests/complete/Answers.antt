@@ -70,7 +70,8 @@ returns-clause-grove c =
     grove_more _ _ _ _ c.loop-front.least.value c.args.count c.loop-front.rows c.loop-front.done
     (λ more. elim c.else-least-count-2.branch [
       | else-least-count-2-via-then-least-count-2+else-not-is_whole w ↦
-          λ v l m. w.is_whole.ensures w.if-not-is_whole.false v l (omega (arith, m, facing_nodes c.args.ground.direction c.args.ground.net.now))
+          λ v l m. w.is_whole.ensures w.if-not-is_whole.false v l
+          (omega (arith, m, facing_nodes c.args.ground.direction c.args.ground.net.now))
       | else-least-count-2-via-else-least-count-2 w ↦ absurd (omega (arith, more, w.if-least-count-2.false))
     ])
     c.loop-front.invariant.forest

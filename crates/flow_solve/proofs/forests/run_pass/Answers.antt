@@ -2,7 +2,8 @@
 use Rattle.std.proofs.Common.{arith}
 use Rattle.flow_solve.proofs.ForestLemmas.Taken.{above_enough, grove_more, grove_begun, facing_nodes}
 use Rattle.flow_solve.proofs.Payments.{paid_then}
-use Rattle.flow_solve.proofs.forests.run_pass.Goals.{then-not-is_whole+else-not-make_ready+in_ok-least, else-not-is_whole}
+use Rattle.flow_solve.proofs.forests.run_pass.Goals.{then-not-is_whole+else-not-make_ready+in_ok-least}
+use Rattle.flow_solve.proofs.forests.run_pass.Goals.{else-not-is_whole}
 use Rattle.flow_solve.proofs.forests.run_pass.Goals as goal
 
 pub loop-count-init : goal.loop-count-init
@@ -68,7 +69,8 @@ loop-count-preserved c =
             fewer = j.fewer;
             grove =
                 grove_more _ _ _ _ k c.loop-count.count one.new.rows one.new.done
-                (λ more v l m. c.is_whole.ensures w.if-not-is_whole.false v l (omega (arith, m, facing_nodes c.args.ground.direction c.args.ground.net.now)))
+                (λ more v l m. c.is_whole.ensures w.if-not-is_whole.false v l
+                (omega (arith, m, facing_nodes c.args.ground.direction c.args.ground.net.now)))
                 (one.ensures.forest k c.loop-count.count j.grove);
             rows_size = omega arith;
             hints_size = omega arith;

@@ -14,4 +14,5 @@ returns c =
       omega (arith, lead.after, c.max-from.ensures),
       lead.before,
     )
-    lead.cell (lead.free refl) (sym c.is_marked.ensures ∙ c.if-not-is_marked.false) (omega (arith, c.if-lead-eq0.false)) lead.behind c.mark.auto.marks c.mark.ensures
+    lead.cell (lead.free refl) (sym c.is_marked.ensures ∙ c.if-not-is_marked.false)
+    (omega (arith, c.if-lead-eq0.false)) lead.behind c.mark.auto.marks c.mark.ensures

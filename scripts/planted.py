@@ -415,7 +415,7 @@ def main(words):
     found = [(crate, *edits_to_try(crate)) for crate in crates]
     found = [(crate, groups_of(todo), misfits, names, known) for crate, todo, misfits, names, known in found]
     # (where groups wait for a proof of the crate, those of other crates go first; else the most edits take longest)
-    found.sort(key=lambda it: (needs_proof(it[0], begin, it[1]), -len(it[1])))
+    found.sort(key=lambda it: (needs_proof(it[0], begin, it[1]), -sum(map(len, it[1]))))
     passed = lacking = 0
     with ThreadPoolExecutor(int(os.environ.get("RT_JOBS") or 1)) as pool:
         proofs = {it[0]: pool.submit(prove, it[0], begin) for it in found if needs_proof(it[0], begin, it[1])}

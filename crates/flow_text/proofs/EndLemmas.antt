@@ -88,6 +88,12 @@ module _ {K : Type 0} (rules : Rules K) (known_of : List (List ℕ) → K) where
   closes-refused b count (Code code) h = closes-fault b _ h
   closes-refused b count Memory h = tt
 
+-- what a refusal tells at a line, its fault tells
+pub tells-from : (count : ℕ) (refusal : Refusal) (fault : Option (ℕ × FaultCode)) → TellsAt count refusal fault
+    → Tells (fault_from count refusal) fault
+tells-from count (Code code) fault h = h
+tells-from count Memory fault h = tt
+
 -- what is answered where a text is accepted, and where it isn't
 pub accepted-fine : {A : Type 0} (said found : A) (fault : Option (ℕ × FaultCode)) → fault ≡ None → found ≡ said
     → accepted said fault ≡ Ok found

@@ -26,6 +26,21 @@ decimal_20 n h = length-decimal-le_wide 20 n (omega arith) (omega arith) (omega 
 decimal_39 : (n : ℕ) → n < 2 ^ 128 → length (decimal n) ≤ 39
 decimal_39 n h = length-decimal-le_wide 39 n (omega arith) (omega arith) (omega arith)
 
+-- a line of one number, and one of three
+pub one_number : (word : String) (a : ℕ) → codes word ++ codes " " ++ decimal a ++ codes "\n" ≡ line_of word (a ∷ [])
+unfolding line_of
+one_number word a = simp append_assoc
+
+regroup_three : (w s a b c e : List ℕ)
+    → w ++ s ++ a ++ s ++ b ++ s ++ c ++ e ≡ w ++ ((s ++ a) ++ ((s ++ b) ++ ((s ++ c) ++ []))) ++ e
+regroup_three w s a b c e = simp append_assoc
+
+pub three_numbers : (word : String) (a b c : ℕ)
+    → codes word ++ codes " " ++ decimal a ++ codes " " ++ decimal b ++ codes " " ++ decimal c ++ codes "\n"
+    ≡ line_of word (a ∷ b ∷ c ∷ [])
+unfolding line_of
+three_numbers word a b c = regroup_three (codes word) (codes " ") (decimal a) (decimal b) (decimal c) (codes "\n")
+
 -- a line of four numbers, as it grows
 regroup : (w s a b c d e : List ℕ)
     → (((((w ++ s ++ a) ++ s ++ b) ++ s ++ c) ++ s ++ d) ++ e)

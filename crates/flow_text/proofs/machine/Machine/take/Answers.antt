@@ -3,7 +3,7 @@
 use Rattle.std.proofs.Common.{arith, subst, ◌+◌, drop, List, ℕ}
 use Rattle.std.proofs.lemmas.List.{take_rest, length-drop}
 use Rattle.flow_text.specs.Rules.{early_fault}
-use Rattle.flow_text.specs.Reading.{TellsAt, HasRead, Takes}
+use Rattle.flow_text.specs.Reading.{TellsAt, HasRead, BuffersTail, Takes}
 use Rattle.flow_text.proofs.ReaderLemmas.{HasRead-ends, Tells-ends}
 use Rattle.flow_text.proofs.PieceLemmas.{LineEndsAt-from, no_end_left, text-more, text-all, text-last, Takes-from}
 use Rattle.flow_text.proofs.machine.Machine.take.Goals as goal
@@ -26,7 +26,9 @@ loop-at-preserved g c =
 pub returns-in-Ok-None : goal.returns-in-Ok-None
 returns-in-Ok-None g c = λ known_of adds b r.
     let none = rw (c.in-Ok-None.field-0-is, take_rest c.args.piece.now c.loop-at.start) at c.in-Ok-None.ensures in
-    let kept = rw (take_rest c.args.piece.now c.loop-at.start, none.1) at c.buffer.ensures in
+    let rest = subst (λ (tail : List ℕ). BuffersTail c.end_first.new.self tail c.buffer.result c.buffer.new.self)
+    (take_rest c.args.piece.now c.loop-at.start) c.buffer.ensures in
+    let kept = rw none.1 at rest in
     subst (λ (text : List ℕ). Takes g.J.Judge.rules known_of text c.buffer.result c.buffer.new.self)
     (text-last b c.args.piece.now c.loop-at.start)
     (Takes-from g.J.Judge.rules known_of c.loop-at.self _ _ _ _ (no_end_left _ none.0)

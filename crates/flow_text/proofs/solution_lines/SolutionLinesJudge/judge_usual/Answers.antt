@@ -11,3 +11,7 @@ returns-in-Ok-true c =
     (record { src = c.in-Some.src; dst = c.in-Some.dst; flow = c.in-Some.flow }) c.in-Some.at u kept.0 kept.1
     kept.2 in
     (u.first, of.0, kept.3 ∙ of.1)
+
+-- one that is not kept changes nothing
+pub returns-in-Ok-false : goal.returns-in-Ok-false
+returns-in-Ok-false c = rw c.in-Ok-false.field-0-test at c.in-Ok-false.ensures

@@ -1,0 +1,8 @@
+use Rattle.std.proofs.Common.{ap, ◌∙◌, ◌++◌}
+use Rattle.flow_text.proofs.OutputLemmas.{three_numbers}
+use Rattle.flow_text.proofs.output.push_flow_line.Goals as goal
+
+pub returns : goal.returns
+returns g c =
+    c.push_pair.ensures
+    ∙ ap (λ xs. c.args.lines.now.items ++ xs) (three_numbers "f" c.args.src c.args.dst c.args.flow)

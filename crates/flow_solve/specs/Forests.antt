@@ -1,7 +1,7 @@
 -- Forests that grow from one root: what their cells hold, and the flows by which they come to nodes without an arc.
 use Rattle.std.specs.Prelude.{◌≡◌, ℕ, zero, suc, ◌+◌, ◌-◌, ◌*◌, ◌/◌, ◌%◌, ◌≤◌, ◌<◌, ◌==◌, Bool, false, not, ◌&&◌}
 use Rattle.std.specs.Prelude.{List, length, slice_index, slice_index_or, ◌≢◌, Option, MatchOption, IsTrue, IsFalse}
-use Rattle.std.specs.Prelude.{◌∷◌, nat_le, nat_lt, if◌then◌else◌}
+use Rattle.std.specs.Prelude.{◌∷◌, nat_le, if◌then◌else◌}
 use Rattle.std.specs.Int.{bit_at}
 use Rattle.std.specs.List.{count_by}
 use Rattle.flow_net.specs.declared.networks.Arc.{Arc}
@@ -115,10 +115,6 @@ pub record AreRows (n : ℕ) (first cells : List ℕ) (told : Net) : Type 0 wher
 abbrev pub AreMore : ℕ → List ℕ → List ℕ → List ℕ → ((ℕ → Bool) → ℕ) → Type 0
 AreMore n first before after count = (told : Net) → AreRows n first before told
     → (more : Net) × AreRows n first after more × ((X : ℕ → Bool) → leaving more X ≡ leaving told X + count X)
-
--- the arc leaves a set, from a node of some that follow each other
-abbrev pub leaves_from : ℕ → ℕ → (ℕ → Bool) → Arc → Bool
-leaves_from from to X a = (nat_le from a.src && nat_lt a.src to) && leaves X a
 
 -- where forests grow: a network, a root, where each row begins, and marks for each node
 pub record IsStand (ground : Ground) (done : List ℕ) : Type 0 where

@@ -186,20 +186,15 @@ fn run_pass(
     let mut least = known;
     let mut count = 0;
     while count < forests_for(least.value, is_even) {
-        let now = Ground {
-            numbered: ready & !ground.paired,
-            ..ground
-        };
+        let mut now = ground;
+        now.numbered = ready & !ground.paired;
         let front = begin_forest(now, rows, done, hints);
         if !is_whole(nodes, done) {
             if !make_ready(ground, ready, rows, hints) {
                 return None;
             }
             ready = true;
-            let now = Ground {
-                numbered: !ground.paired,
-                ..ground
-            };
+            now.numbered = !ground.paired;
             least = complete(now, rows, done, seen, hints, flow, count, front, least)?;
         }
         count += 1;

@@ -1,6 +1,7 @@
 //! A forest that grows in depth, and the nodes that it comes to.
 //!
-//! It reads the cells of the rows alone, and an arc is taken where its cell stands. In a dense network each forest goes
+//! It reads the cells of the rows alone, and an arc is taken where its cell stands. It goes back by the cells of the
+//! arcs over which it came to where it is. In a dense network each forest goes
 //! on in a row behind the arc that the one before has taken there, and the first begins somewhere in it: else forests
 //! would pass over the same cells again, and grow alike.
 ghost use Rattle.std.specs.Prelude.{◌≡◌, ℕ, ◌+◌, ◌*◌, ◌<◌, ◌≤◌, false, IfSome, IsTrue, length};
@@ -22,6 +23,8 @@ pub(crate) struct Front {
     pub near: u32,
     /// The node from which it grows next.
     pub node: u32,
+    /// The cell from which it goes on in that node's row, or one before the row.
+    pub place: u32,
 }
 
 /// A cell whose arc leads on to a node that the forest hasn't come to.
@@ -83,52 +86,48 @@ fn lead_from(
 }
 
 /// Where a forest goes on in a node's row, as a hint: in a dense network behind the arc that the one before has taken.
-fn place_to_go_on(ground: Ground<'_>, hints: &[u32], node: u32) -> u32 {
-    let place = get(hints, place_at(ground.net, node));
-    if place == 0 && ground.dense && !ground.numbered {
-        return get(hints, next_at(ground.net, node));
+fn place_to_go_on(ground: Ground<'_>, hints: &[u32], front: Front) -> u32 {
+    if front.place == 0 && ground.dense && !ground.numbered {
+        return get(hints, next_at(ground.net, front.node));
     }
-    place
+    front.place
 }
 
-/// Keeps the place in a node's row behind an arc that has been taken.
+/// Keeps in a dense network the place behind the arc that has been taken in a node's row, for the next forest.
 fn keep_place(ground: Ground<'_>, hints: &mut [u32], node: u32, place: u32) {
-    put(hints, place_at(ground.net, node), place);
     if ground.dense && !ground.numbered {
         put(hints, next_at(ground.net, node), place);
     }
 }
 
 /// Goes on from a node over the next arc that isn't taken and leads to a node that the forest hasn't come to, and takes
-/// the arc. Answers that node, or none.
+/// the arc. Answers its cell and that node, or none.
 #[inline(always)]
 fn go_on(
     ground: Ground<'_>,
     rows: &mut [u32],
     done: &mut [u32],
     hints: &mut [u32],
-    node: u32,
-) -> Option<u32>
+    front: Front,
+) -> Option<Lead>
     requires stand { IsStand ground done.old }
     ensures { HasGrown ground.entry rows.old done.old rows.new done.new }
 {
+    let node = front.node;
     if node == 0 || node > ground.net.nodes() || !is_marked(done, node) {
         return None;
     }
     let begin = ground.first[node as usize - 1];
     let end = ground.first[node as usize];
-    let from = place_to_go_on(ground, hints, node).max(begin);
-    let Some(lead) = lead_from(ground, rows, done, begin, from, end) else {
-        put(hints, place_at(ground.net, node), 0);
-        return None;
-    };
+    let from = place_to_go_on(ground, hints, front).max(begin);
+    let lead = lead_from(ground, rows, done, begin, from, end)?;
     if lead.behind == 0 {
         return None;
     }
     rows[lead.cell as usize] += TAKEN;
     mark(done, lead.behind);
     keep_place(ground, hints, node, lead.cell.wrapping_add(1));
-    Some(lead.behind)
+    Some(lead)
 }
 
 /// The front once the forest has come to a node.
@@ -139,13 +138,36 @@ fn come_to(net: &Network, hints: &mut [u32], front: Front, node: u32) -> Front
 {
     // Brings the network's limits, `IsNet`, into the proof.
     let _ = net.nodes();
-    put(hints, place_at(net, node), 0);
     put(hints, near_at(net, front.near), node);
     Front {
         count: front.count + 1,
         near: front.near.saturating_add(1),
         node,
+        place: 0,
     }
+}
+
+/// The front back at the node from which the forest came to the one at a depth above `depth`: at `root` where there is
+/// none before it, and else behind the arc over which the forest came to it.
+fn go_back(
+    ground: Ground<'_>,
+    rows: &[u32],
+    hints: &[u32],
+    front: Front,
+    root: u32,
+    depth: u32,
+) -> Front
+    ensures { result.count ≡ front.count }
+{
+    let mut back = front;
+    back.place = get(hints, queue_at(ground.net, depth)).wrapping_add(1);
+    back.node = if depth == 0 {
+        root
+    } else {
+        let cell = get(hints, queue_at(ground.net, depth - 1));
+        node_in(ground, get(rows, cell as usize) % TAKEN)
+    };
+    back
 }
 
 /// Lets the forest grow in depth from a node, until it has come to all nodes that it can come to.
@@ -161,17 +183,17 @@ pub(crate) fn grow(
     ensures count { front.count ≤ result.count }
 {
     let nodes = ground.net.nodes();
+    let root = front.node;
     let mut front = front;
     let mut depth = 0u32;
     while front.count < nodes {
-        let node = front.node;
-        if let Some(next) = go_on(ground, rows, done, hints, node) {
-            put(hints, queue_at(ground.net, depth), node);
+        if let Some(lead) = go_on(ground, rows, done, hints, front) {
+            put(hints, queue_at(ground.net, depth), lead.cell);
             depth += 1;
-            front = come_to(ground.net, hints, front, next);
+            front = come_to(ground.net, hints, front, lead.behind);
         } else if depth > 0 {
             depth -= 1;
-            front.node = get(hints, queue_at(ground.net, depth));
+            front = go_back(ground, rows, hints, front, root, depth);
         } else {
             return front;
         }
@@ -188,10 +210,14 @@ pub(crate) fn begin(ground: Ground<'_>, done: &mut [u32], hints: &mut [u32]) -> 
 {
     unmark_all(done);
     mark(done, ground.root);
+    for place in 0..ground.net.nodes() {
+        put(hints, place_at(ground.net, place + 1), 0);
+    }
     let nowhere = Front {
         count: 0,
         near: 0,
         node: 0,
+        place: 0,
     };
     come_to(ground.net, hints, nowhere, ground.root)
 }

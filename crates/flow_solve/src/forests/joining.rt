@@ -332,11 +332,12 @@ fn worn(search: Search, left: u64) -> Search
     }
 }
 
-/// Makes the nodes that a search has seen unseen.
-fn forget(net: &Network, seen: &mut [u32], hints: &[u32], tail: u32) {
+/// Makes the nodes that a search has seen unseen, and forgets by which half-arcs.
+fn forget(net: &Network, seen: &mut [u32], hints: &mut [u32], tail: u32) {
     for at in 0..tail {
         let node = get(hints, queue_at(net, at));
         unmark(seen, node);
+        put(hints, place_at(net, node), 0);
     }
 }
 

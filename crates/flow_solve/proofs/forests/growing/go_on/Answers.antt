@@ -5,10 +5,10 @@ use Rattle.flow_solve.proofs.forests.growing.go_on.Goals as goal
 
 pub returns : goal.returns
 returns c =
-    let lead = c.in-Some.ensures in
+    let lead = c.in_ok-lead.ensures in
     let stand = c.requires.stand in
-    taken_grown c.args.ground c.args.rows.now c.args.done.now c.mark.new.marks c.args.node c.in-Some.lead.cell
-    c.in-Some.lead.behind stand (
+    taken_grown c.args.ground c.args.rows.now c.args.done.now c.mark.new.marks c.args.front.node
+    c.in_ok-lead.lead.cell c.in_ok-lead.lead.behind stand (
       omega (arith, c.if-node-eq0.false),
       omega (arith, stand.firsts, c.if-node-nodes.false, c.nodes.ensures.nodes),
       omega (arith, lead.after, c.max-from.ensures),

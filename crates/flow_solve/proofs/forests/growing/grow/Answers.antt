@@ -18,8 +18,8 @@ loop-front-preserved c =
     let j = c.loop-front.invariant in
     record {
       grown = grown_on _ _ _ _ _ _ _ j.grown c.go_on.ensures;
-      count = j.count;
-      depth = omega (arith, j.depth);
+      count = omega (arith, j.count, c.go_back-front.ensures);
+      depth = omega (arith, j.depth, c.go_back-front.ensures);
     }
 
 pub returns-else-depth-gt0-clause-grown : goal.returns-else-depth-gt0-clause-grown

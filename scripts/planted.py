@@ -13,12 +13,12 @@ nothing, which has to be proved, and sees that no goal failed of a function that
 
 What was refused is remembered, by the sums of all that it rests on, in the user's folder of caches.
 
-After the gate --begin FOLDER names what the gate's own edits began with: --gather TEMPORARY FOLDER, run beside the gate
-until it is ended, collects that out of the gate's temporary folder. Each check begins with that then, and reads the
-libraries that the gate has left in out/rlib; it is called as the gate calls it, since `rt check` builds libraries of
-its own, over which nothing of that holds. A crate of which nothing is collected, since the gate had kept its proof, is
-proved once before its groups, or with the only one. Without --begin the groups of a crate are tried one after another,
-and the first one proves it. RT_JOBS checks run at a time.
+A check is of the group's copies alone, and of what they call. After the gate --begin FOLDER names what the gate's own
+edits began with: --gather TEMPORARY FOLDER, run beside the gate until it is ended, collects that out of the gate's
+temporary folder. Each check begins with that then, and reads the libraries that the gate has left in out/rlib; it is
+called as the gate calls it, since `rt check` builds libraries of its own, over which nothing of that holds. Of a crate
+that has no edits in must-fail/, or whose proof the gate had kept, nothing is collected. Without --begin the groups of a
+crate are tried one after another. RT_JOBS checks run at a time.
 
 The last line is 'planted: N passed, M failed'.
 """
@@ -46,7 +46,7 @@ TYPE = re.compile(r"^(?:impl(?:<[^{]*?>)? (?:(\w+)(?:<[^{]*?>)? for )?|pub trait
 REFUSED, THROUGH = "refused", "through"
 # The most edits of a group. Each takes half a minute before its first edit; more of these would keep one processor busy
 # for longer than what runs beside.
-MOST = 56
+MOST = 64
 
 
 class Function:
@@ -108,9 +108,9 @@ class Edit:
             texts[self.file] = text + self.function.copied(self.body(), self.tried)
             texts.update(self.function.proofs(self.crate, self.tried))
 
-    def is_at(self, path):
-        """Whether a check calls what it tries by this path: the file's modules and the function."""
-        return path.split("::") == [self.crate, *self.function.path[:-1], self.tried]
+    def path(self):
+        """The path by which a check calls what it tries: the file's modules and the function."""
+        return "::".join([self.crate, *self.function.path[:-1], self.tried])
 
 
 def read(crate, file):
@@ -171,7 +171,7 @@ def idle(edits):
 
 def verdict(edit, functions, said):
     """What a check came to for an edit, and why. Of the functions that it names it has to say something of this one."""
-    lines = [line for path, line in functions if edit.is_at(path) and line != "proved"]
+    lines = [line for path, line in functions if path == edit.path() and line != "proved"]
     goals = [line for line in lines if "did not prove" in line]
     if goals:
         return REFUSED, goals[0].partition("did not prove ")[2]
@@ -190,10 +190,10 @@ def faults(edits, functions, said):
     crate = edits[0].crate
     if not functions:
         return [f"the check of {crate} came to nothing: {said.strip()[:400]}"]
-    others = [it for it in functions if not any(edit.is_at(it[0]) for edit in edits)]
+    others = [it for it in functions if not it[0] in [edit.path() for edit in edits]]
     found = [f"{path} is as it was, and {line}" for path, line in others if line == "not proved" or "did not" in line]
     nothing = idle(edits)
-    if [line for path, line in others if nothing.is_at(path)] != ["proved"]:
+    if [line for path, line in others if path == nothing.path()] != ["proved"]:
         found.append(f"a copy of {nothing.function.name} of {crate} that changes nothing wasn't proved")
     return found
 
@@ -273,14 +273,17 @@ class Copy:
             shutil.rmtree(self.folder / "out" / "incremental", ignore_errors=True)
             link_tree(self.begin / self.crate, self.folder / "out" / "incremental")
 
-    def check(self, texts):
-        """What a check says with these texts in the place of the crate's own."""
+    def check(self, edits):
+        """What a check says of these edits."""
+        texts = {}
+        for edit in edits:
+            edit.add_to(texts)
         self.begin_anew()
         for file, text in texts.items():
             (self.folder / file).parent.mkdir(parents=True, exist_ok=True)
             (self.folder / file).write_text(text)
         ran = subprocess.run(
-            self.words, cwd=self.folder, stdin=subprocess.DEVNULL, text=True, stdout=subprocess.PIPE,
+            [*self.words, *(f"--only={edit.path()}" for edit in edits)], cwd=self.folder, stdin=subprocess.DEVNULL, text=True, stdout=subprocess.PIPE,
             stderr=subprocess.STDOUT, errors="replace",
         )
         for file in texts:
@@ -314,19 +317,6 @@ def edits_to_try(crate):
     return fit, [edit for edit in todo if edit not in fit], names, len(edits) - len(todo)
 
 
-def needs_proof(crate, begin, groups):
-    """Whether a crate is proved before these groups, lest each of them does that: nothing was collected of it."""
-    return bool(begin) and len(groups) > 1 and not (begin / crate).is_dir()
-
-
-def prove(crate, begin):
-    """Proves a crate, and keeps what its groups begin with."""
-    with tempfile.TemporaryDirectory(prefix="flow-planted-") as folder:
-        copy = Copy(crate, folder, begin)
-        copy.check({})
-        link_tree(copy.folder / "out" / "incremental", begin / crate)
-
-
 class Tried:
     """What came of edits: what is to be said, how many were refused, how many not, and in how many checks."""
 
@@ -352,18 +342,13 @@ class Tried:
         self.checks += 1
 
 
-def try_groups(crate, begin, groups, names, proof=None):
-    """Tries groups of a crate one after another in one copy, once a proof that they wait for is done."""
-    if proof:
-        proof.result()
+def try_groups(crate, begin, groups, names):
+    """Tries groups of a crate one after another in one copy."""
     tried = Tried()
     with tempfile.TemporaryDirectory(prefix="flow-planted-") as folder:
         copy = Copy(crate, folder, begin)
         for edits in groups:
-            texts = {}
-            for edit in [*edits, idle(edits)]:
-                edit.add_to(texts)
-            tried.hear(edits, names, copy.check(texts))
+            tried.hear(edits, names, copy.check([*edits, idle(edits)]))
     return tried
 
 
@@ -414,15 +399,14 @@ def main(words):
         sys.exit(__doc__)
     found = [(crate, *edits_to_try(crate)) for crate in crates]
     found = [(crate, groups_of(todo), misfits, names, known) for crate, todo, misfits, names, known in found]
-    # (where groups wait for a proof of the crate, those of other crates go first; else the most edits take longest)
-    found.sort(key=lambda it: (needs_proof(it[0], begin, it[1]), -sum(map(len, it[1]))))
+    # (the most edits take longest)
+    found.sort(key=lambda it: -sum(map(len, it[1])))
     passed = lacking = 0
     with ThreadPoolExecutor(int(os.environ.get("RT_JOBS") or 1)) as pool:
-        proofs = {it[0]: pool.submit(prove, it[0], begin) for it in found if needs_proof(it[0], begin, it[1])}
         tried = {}
         for crate, groups, _, names, _ in found:
             parts = [[group] for group in groups] if begin else [groups] if groups else []
-            tried[crate] = [pool.submit(try_groups, crate, begin, part, names, proofs.get(crate)) for part in parts]
+            tried[crate] = [pool.submit(try_groups, crate, begin, part, names) for part in parts]
         for crate, _, misfits, _, known in found:
             came = Tried()
             came.said = [f"{crate}/{edit.name} doesn't fit its function" for edit in misfits]

@@ -45,7 +45,7 @@ mod rows;
 use crate::residual::half_arcs::Direction;
 use degrees::{are_balanced, are_even, goes_both_ways, least_degree};
 use flow_net::{FlowTable, Network};
-use growing::{Front, begin, grow, is_whole, next_node, reach};
+use growing::{Front, begin, grow, is_whole, next_node, reach, set_places_back};
 use joining::{Budgeted, raise};
 use marks::unmark_all;
 use rows::{fill_rows, number_arcs};
@@ -112,6 +112,7 @@ fn complete(
 {
     let nodes = ground.net.nodes();
     flow.clear();
+    set_places_back(ground.net, hints);
     let mut front = begun;
     let mut least = known;
     while front.count < nodes && least.value > count {

@@ -308,14 +308,6 @@ pub grown_marked : {dist via queue dist' via' queue' : List ℕ} {a b : Progress
     → GoesOn dist via queue a dist' via' queue' b → (p : ℕ) → IsMarked dist p → IsMarked dist' p
 grown_marked g p m = omega (arith, (g.kept p m).0)
 
-pub grown_none : (dist via queue : List ℕ) (a : Progress) → GoesOn dist via queue a dist via queue a
-grown_none dist via queue a = record {
-  kept = λ p m. (refl, refl);
-  ahead = λ i l. refl;
-  more = omega arith;
-  count = λ until k. k;
-}
-
 pub grown_on : {dist via queue dist' via' queue' dist'' via'' queue'' : List ℕ} {a b c : Progress}
     → GoesOn dist via queue a dist' via' queue' b → GoesOn dist' via' queue' b dist'' via'' queue'' c
     → GoesOn dist via queue a dist'' via'' queue'' c

@@ -210,9 +210,6 @@ pub(crate) fn begin(ground: Ground<'_>, done: &mut [u32], hints: &mut [u32]) -> 
 {
     unmark_all(done);
     mark(done, ground.root);
-    for place in 0..ground.net.nodes() {
-        put(hints, place_at(ground.net, place + 1), 0);
-    }
     let nowhere = Front {
         count: 0,
         near: 0,
@@ -232,6 +229,13 @@ pub(crate) fn reach(ground: Ground<'_>, done: &mut [u32], hints: &mut [u32], fro
 {
     mark(done, front.node);
     come_to(ground.net, hints, front, front.node)
+}
+
+/// Sets the places back from which the rows of nodes are looked at for the next node to be joined.
+pub(crate) fn set_places_back(net: &Network, hints: &mut [u32]) {
+    for place in 0..net.nodes() {
+        put(hints, place_at(net, place + 1), 0);
+    }
 }
 
 /// The next node that an arc of a node leads to and that the forest hasn't come to, if there is one.

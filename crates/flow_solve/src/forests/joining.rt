@@ -120,18 +120,21 @@ struct Around {
 fn half_arcs_of(ground: Ground<'_>, hints: &[u32], node: u32) -> Around {
     let from = get(ground.first, (node as usize).wrapping_sub(1));
     let row = get(ground.first, node as usize).wrapping_sub(from);
+    if !ground.numbered {
+        return Around {
+            from,
+            row,
+            into: 0,
+            all: row,
+        };
+    }
     let into = get(hints, next_at(ground.net, node));
     let end = get(hints, next_at(ground.net, node.saturating_add(1)));
-    let against = if ground.numbered {
-        end.saturating_sub(into)
-    } else {
-        0
-    };
     Around {
         from,
         row,
         into,
-        all: row.saturating_add(against),
+        all: row.saturating_add(end.saturating_sub(into)),
     }
 }
 
@@ -162,8 +165,9 @@ fn is_passed(ground: Ground<'_>, rows: &[u32], seen: &[u32], around: Around, pla
     !ground.numbered && !is_left(seen, get(rows, cell) % TAKEN)
 }
 
-/// Looks at a half-arc that leaves a node, and where each arc is there both ways before it at the one against the
-/// opposite arc, on which mostly more remains; at neither if the search has seen the node that they lead to.
+/// Looks at a half-arc that leaves a node. Where each arc is there both ways, at the one against the opposite arc before
+/// it, on which mostly more remains; the row has told that the search hasn't seen the node that they lead to. Elsewhere
+/// a half-arc to a node that it has seen is passed over.
 fn search_along(
     ground: Ground<'_>,
     done: &[u32],
@@ -178,10 +182,13 @@ fn search_along(
     ensures next { result.at ≡ search.at }
     ensures looks { PaysLooks flow.old search.left flow.new result.left }
 {
-    if half >= 2 * ground.net.len() || !is_left(seen, head(ground.net, half)) {
+    if half >= 2 * ground.net.len() {
         return search;
     }
     if !ground.paired {
+        if !is_left(seen, head(ground.net, half)) {
+            return search;
+        }
         return search_over(ground, done, seen, hints, flow, search, half);
     }
     let opposite = opposite(ground.net, half);

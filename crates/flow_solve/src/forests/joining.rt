@@ -12,9 +12,9 @@ ghost use Rattle.flow_solve.specs.Steps.{OnlyLooks, PaysLooks};
 
 use crate::forests::Ground;
 use crate::forests::marks::{is_left, is_marked, mark, unmark};
-use crate::forests::rows::{TAKEN, next_at, place_at, queue_at};
+use crate::forests::rows::{TAKEN, ends_of, next_at, place_at, queue_at};
 use crate::residual::cells::{get, put};
-use crate::residual::half_arcs::{Direction, cross, far, head, near};
+use crate::residual::half_arcs::{far, near};
 use flow_net::{FlowTable, Network};
 
 /// A number, and how many looks and pushes are left.
@@ -43,8 +43,9 @@ struct Search {
     left: u64,
 }
 
-/// Looks at a half-arc that leads from a node that the search has seen to one that isn't seen. If something remains on
-/// it the search sees that node, or has found a path if the forest has come to it.
+/// Looks at a half-arc between a node that the search has seen and one that it hasn't. If something remains on it the
+/// search sees that node, or has found a path if the forest has come to it. The flow along an arc of capacity 1 tells
+/// what remains on both of its half-arcs, so the arc itself isn't read.
 #[inline(always)]
 fn search_over(
     ground: Ground<'_>,
@@ -54,152 +55,155 @@ fn search_over(
     flow: &mut FlowTable,
     search: Search,
     half: u32,
+    behind: u32,
 ) -> Search
     requires fits { Fits ground.net.now flow.old.flows }
-    requires size { ground.net.now.nodes ≤ 32 * length seen.old }
     requires half { half < 2 * length ground.net.now.arcs }
+    requires node { (1 ≤ behind) × (behind ≤ 32 * length seen.old) }
     ensures next { result.at ≡ search.at }
     ensures looks { PaysLooks flow.old search.left flow.new result.left }
 {
-    let net = ground.net;
     let mut next = search;
     if search.left == 0 {
         return next;
     }
     next.left -= 1;
-    let over = cross(ground.direction, half);
-    let (_, room) = flow.look(net, over);
-    if room == 0 {
+    let (_, along) = flow.look(ground.net, half / 2 * 2 + 1);
+    if (along == 0) != (half % 2 == 0) {
         return next;
     }
-    let behind = head(net, half);
     if is_marked(done, behind) {
-        next.found = Some(over);
+        next.found = Some(half);
         return next;
     }
     mark(seen, behind);
-    put(hints, place_at(net, behind), over);
-    put(hints, queue_at(net, search.tail), behind);
+    put(hints, place_at(ground.net, behind), half);
+    put(hints, queue_at(ground.net, search.tail), behind);
     next.tail = search.tail.saturating_add(1);
     next
 }
 
-/// The half-arc against the opposite arc, where the second half of the arcs are those of the first turned round. It
-/// leaves the node that this one leaves, as a hint.
-fn opposite(net: &Network, half: u32) -> u32
-    requires { half < 2 * length net.now.arcs }
-    ensures { result < 2 * length net.now.arcs }
+/// Looks at the half-arcs over which a search may go on from a node by a cell of its row, where each arc is there both
+/// ways, unless it has seen the node that the cell tells of: at the one along the opposite arc before the one against
+/// the arc, since mostly more remains on it.
+#[inline(always)]
+fn search_both(
+    ground: Ground<'_>,
+    rows: &[u32],
+    done: &[u32],
+    seen: &mut [u32],
+    hints: &mut [u32],
+    flow: &mut FlowTable,
+    search: Search,
+    cell: usize,
+) -> Search
+    requires fits { Fits ground.net.now flow.old.flows }
+    ensures next { result.at ≡ search.at }
+    ensures looks { PaysLooks flow.old search.left flow.new result.left }
 {
-    let opposite = if half < net.len() {
-        half + net.len() + 1
-    } else {
-        half - net.len() + 1
-    };
-    if opposite < 2 * net.len() {
-        opposite
-    } else {
-        half
+    let behind = get(rows, cell) % TAKEN;
+    if behind == 0 || !is_left(seen, behind) {
+        return search;
     }
+    let len = ground.net.len();
+    let arc = get(hints, cell).wrapping_sub(1);
+    let shift = len / 2;
+    let opposite = if arc < shift {
+        arc + shift
+    } else {
+        arc - shift
+    };
+    if arc >= len || opposite >= len {
+        return search;
+    }
+    let next = search_over(
+        ground,
+        done,
+        seen,
+        hints,
+        flow,
+        search,
+        2 * opposite,
+        behind,
+    );
+    if next.found.is_some() || next.tail > search.tail {
+        return next;
+    }
+    search_over(ground, done, seen, hints, flow, next, 2 * arc + 1, behind)
 }
 
-/// The half-arcs that leave a node, as hints: those of its row, and where rows have numbers those against the arcs that
-/// lead to it.
+/// The arcs at a node, as hints: those of its row, and where rows have numbers those that lead to it.
 #[derive(Clone, Copy)]
 struct Around {
     /// The first cell of its row.
     from: u32,
     /// How many cells the row has.
     row: u32,
-    /// Where in the hints the arcs begin that lead to it.
-    into: u32,
-    /// How many half-arcs there are.
+    /// How many arcs there are.
     all: u32,
+    /// Where in the hints the arcs that lead to it would begin, had they the places from 0 on.
+    into: u32,
 }
 
-/// The half-arcs that leave a node.
-fn half_arcs_of(ground: Ground<'_>, hints: &[u32], node: u32) -> Around {
+/// The arcs at a node.
+fn arcs_at(ground: Ground<'_>, hints: &[u32], node: u32) -> Around {
     let from = get(ground.first, (node as usize).wrapping_sub(1));
     let row = get(ground.first, node as usize).wrapping_sub(from);
-    if !ground.numbered {
-        return Around {
-            from,
-            row,
-            into: 0,
-            all: row,
-        };
-    }
-    let into = get(hints, next_at(ground.net, node));
-    let end = get(hints, next_at(ground.net, node.saturating_add(1)));
-    Around {
+    let mut around = Around {
         from,
         row,
-        into,
-        all: row.saturating_add(end.saturating_sub(into)),
-    }
-}
-
-/// A half-arc that leaves a node, by its place among all of these. One that there isn't is none of the network's.
-fn half_at(ground: Ground<'_>, rows: &[u32], hints: &[u32], around: Around, place: u32) -> u32 {
-    let is_of_row = place < around.row;
-    let cell = around.from.wrapping_add(place) as usize;
-    let number = if is_of_row && ground.numbered {
-        get(rows, cell) % TAKEN
-    } else if is_of_row {
-        get(hints, cell)
-    } else {
-        get(
-            hints,
-            around.into.wrapping_add(place.wrapping_sub(around.row)) as usize,
-        )
+        all: row,
+        into: 0,
     };
-    let is_against = matches!(ground.direction, Direction::Forwards) == is_of_row;
-    number
-        .wrapping_sub(1)
-        .saturating_mul(2)
-        .saturating_add(u32::from(is_against))
+    if ground.numbered {
+        let into = get(hints, next_at(ground.net, node));
+        let end = get(hints, next_at(ground.net, node.saturating_add(1)));
+        around.all = row.saturating_add(end.saturating_sub(into));
+        around.into = into.wrapping_sub(row);
+    }
+    around
 }
 
-/// Whether a search has seen the node that a cell of a row tells of, where rows have no numbers.
-fn is_passed(ground: Ground<'_>, rows: &[u32], seen: &[u32], around: Around, place: u32) -> bool {
-    let cell = around.from.wrapping_add(place) as usize;
-    !ground.numbered && !is_left(seen, get(rows, cell) % TAKEN)
-}
-
-/// Looks at a half-arc that leaves a node. Where each arc is there both ways, at the one against the opposite arc before
-/// it, on which mostly more remains; the row has told that the search hasn't seen the node that they lead to. Elsewhere
-/// a half-arc to a node that it has seen is passed over.
+/// Looks at the half-arcs over which a search may go on from a node by one of the arcs at it, unless it has seen the
+/// node behind it. Where rows have numbers that is the one against an arc of the row, or along one that leads to it.
 fn search_along(
     ground: Ground<'_>,
+    rows: &[u32],
     done: &[u32],
     seen: &mut [u32],
     hints: &mut [u32],
     flow: &mut FlowTable,
     search: Search,
-    half: u32,
+    around: Around,
+    place: u32,
 ) -> Search
     requires fits { Fits ground.net.now flow.old.flows }
-    requires size { ground.net.now.nodes ≤ 32 * length seen.old }
     ensures next { result.at ≡ search.at }
     ensures looks { PaysLooks flow.old search.left flow.new result.left }
 {
-    if half >= 2 * ground.net.len() {
+    let cell = around.from.wrapping_add(place) as usize;
+    if !ground.numbered {
+        return search_both(ground, rows, done, seen, hints, flow, search, cell);
+    }
+    let is_of_row = place < around.row;
+    let number = if is_of_row {
+        get(rows, cell) % TAKEN
+    } else {
+        get(hints, around.into.wrapping_add(place) as usize)
+    };
+    if number == 0 || number > ground.net.len() {
         return search;
     }
-    if !ground.paired {
-        if !is_left(seen, head(ground.net, half)) {
-            return search;
-        }
-        return search_over(ground, done, seen, hints, flow, search, half);
+    let (from, to) = ends_of(ground, number - 1);
+    let behind = if is_of_row { to } else { from };
+    if !is_left(seen, behind) {
+        return search;
     }
-    let opposite = opposite(ground.net, half);
-    let next = search_over(ground, done, seen, hints, flow, search, opposite);
-    if next.found.is_some() || next.tail > search.tail {
-        return next;
-    }
-    search_over(ground, done, seen, hints, flow, next, half)
+    let half = 2 * (number - 1) + u32::from(is_of_row);
+    search_over(ground, done, seen, hints, flow, search, half, behind)
 }
 
-/// Looks at the half-arcs of the next node that the search has seen, until it has found a path; of the first node from
+/// Looks at the half-arcs at the next node that the search has seen, until it has found a path; of the first node from
 /// where it has found one before.
 fn search_from(
     ground: Ground<'_>,
@@ -227,15 +231,12 @@ fn search_from(
     if search.at == 1 {
         next.near = search.tail;
     }
-    let around = half_arcs_of(ground, hints, node);
+    let around = arcs_at(ground, hints, node);
     for place in from..around.all {
-        if !is_passed(ground, rows, seen, around, place) {
-            let half = half_at(ground, rows, hints, around, place);
-            next = search_along(ground, done, seen, hints, flow, next, half);
-            if next.found.is_some() {
-                next.place = place;
-                return next;
-            }
+        next = search_along(ground, rows, done, seen, hints, flow, next, around, place);
+        if next.found.is_some() {
+            next.place = place;
+            return next;
         }
     }
     next

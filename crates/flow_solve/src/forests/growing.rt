@@ -1,9 +1,9 @@
 //! A forest that grows in depth, and the nodes that it comes to.
 //!
 //! It reads the cells of the rows alone, and an arc is taken where its cell stands. It goes back by the cells of the
-//! arcs over which it came to where it is. In a dense network each forest goes
-//! on in a row behind the arc that the one before has taken there, and the first begins somewhere in it: else forests
-//! would pass over the same cells again, and grow alike.
+//! arcs over which it came to where it is. In a dense network each forest goes on in a row behind the arc that the one
+//! before has taken there, and the first begins somewhere in it: else forests would pass over the same cells again, and
+//! grow alike.
 ghost use Rattle.std.specs.Prelude.{◌≡◌, ℕ, ◌+◌, ◌*◌, ◌<◌, ◌≤◌, false, IfSome, IsTrue, length};
 ghost use Rattle.flow_net.specs.Nets.{IsNode};
 ghost use Rattle.flow_solve.specs.Forests.{HasGrown, HasMarked, IsLead, IsStand, marked_in};

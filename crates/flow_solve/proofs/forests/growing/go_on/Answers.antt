@@ -11,7 +11,7 @@ returns c =
     c.in_ok-lead.lead.cell c.in_ok-lead.lead.behind stand (
       omega (arith, c.if-node-eq0.false),
       omega (arith, stand.firsts, c.if-node-nodes.false, c.nodes.ensures.nodes),
-      omega (arith, lead.after, c.max-from.ensures),
+      lead.after,
       lead.before,
     )
     lead.cell (lead.free refl) (sym c.is_marked.ensures ∙ c.if-not-is_marked.false)

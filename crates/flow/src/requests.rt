@@ -7,7 +7,7 @@ use clap::ArgMatches;
 use flow_tools::Job;
 
 /// The files that a command line names; `None` stands for standard input, or for a file that the command doesn't read.
-#[derive(Clone, Copy, Debug, PartialEq, Eq)]
+#[derive(Clone, Copy)]
 pub struct Files<'a> {
     /// The problem.
     pub problem: Option<&'a str>,

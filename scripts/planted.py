@@ -283,8 +283,8 @@ class Copy:
             (self.folder / file).parent.mkdir(parents=True, exist_ok=True)
             (self.folder / file).write_text(text)
         ran = subprocess.run(
-            [*self.words, *(f"--only={edit.path()}" for edit in edits)], cwd=self.folder, stdin=subprocess.DEVNULL, text=True, stdout=subprocess.PIPE,
-            stderr=subprocess.STDOUT, errors="replace",
+            [*self.words, *(f"--only={edit.path()}" for edit in edits)], cwd=self.folder, stdin=subprocess.DEVNULL,
+            text=True, stdout=subprocess.PIPE, stderr=subprocess.STDOUT, errors="replace",
         )
         for file in texts:
             (self.folder / file).unlink()

@@ -13,6 +13,9 @@ if ! command -v rt > /dev/null; then
 fi
 cd "$(dirname "$0")/.."
 
+# The prover keeps the memory that it has freed: to hand it back and to ask for it again takes a twentieth of its time.
+export MIMALLOC_PURGE_DELAY=-1
+
 # Proves the crates that the last one is made of, lowest first, and says which. Readers and solvers don't stand on each
 # other, so they are proved side by side where there are processors for both, the readers in the folder ROOM: both
 # rest on flow_net, and where one of the kit's commands works in a folder, others wait.

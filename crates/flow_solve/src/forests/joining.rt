@@ -13,7 +13,7 @@ ghost use Rattle.flow_solve.specs.Steps.{OnlyLooks, PaysLooks};
 use crate::forests::Ground;
 use crate::forests::marks::{is_left, is_marked, mark, unmark};
 use crate::forests::rows::{TAKEN, ends_of, next_at, place_at, queue_at};
-use crate::residual::cells::{get, put};
+use crate::residual::cells::{END, get, put};
 use crate::residual::half_arcs::{far, near};
 use flow_net::{FlowTable, Network};
 
@@ -31,14 +31,14 @@ struct Search {
     at: u32,
     /// How many nodes it has seen: the end of its queue.
     tail: u32,
-    /// Which of that node's half-arcs is the first of the path that it has found.
+    /// Which of the arcs at that node is the first of the path that it has found.
     place: u32,
     /// Where in the queue those nodes end that it has seen from the first one.
     near: u32,
     /// Whether a unit has been sent along a path that it has found.
     is_worn: bool,
-    /// The last half-arc of the path that it has found.
-    found: Option<u32>,
+    /// The last half-arc of the path that it has found, or [`END`].
+    found: u32,
     /// How many looks and pushes are left.
     left: u64,
 }
@@ -73,7 +73,7 @@ fn search_over(
         return next;
     }
     if is_marked(done, behind) {
-        next.found = Some(half);
+        next.found = half;
         return next;
     }
     mark(seen, behind);
@@ -107,15 +107,15 @@ fn search_both(
     }
     let len = ground.net.len();
     let arc = get(hints, cell).wrapping_sub(1);
+    if arc >= len {
+        return search;
+    }
     let shift = len / 2;
     let opposite = if arc < shift {
         arc + shift
     } else {
         arc - shift
     };
-    if arc >= len || opposite >= len {
-        return search;
-    }
     let next = search_over(
         ground,
         done,
@@ -126,7 +126,7 @@ fn search_both(
         2 * opposite,
         behind,
     );
-    if next.found.is_some() || next.tail > search.tail {
+    if next.found != END || next.tail > search.tail {
         return next;
     }
     search_over(ground, done, seen, hints, flow, next, 2 * arc + 1, behind)
@@ -215,7 +215,6 @@ fn search_from(
     search: Search,
 ) -> Search
     requires fits { Fits ground.net.now flow.old.flows }
-    requires size { ground.net.now.nodes ≤ 32 * length seen.old }
     requires next { search.at < ground.net.now.nodes }
     ensures next { result.at ≡ search.at + 1 }
     ensures looks { PaysLooks flow.old search.left flow.new result.left }
@@ -234,7 +233,7 @@ fn search_from(
     let around = arcs_at(ground, hints, node);
     for place in from..around.all {
         next = search_along(ground, rows, done, seen, hints, flow, next, around, place);
-        if next.found.is_some() {
+        if next.found != END {
             next.place = place;
             return next;
         }
@@ -262,7 +261,7 @@ fn begin_search(
         place: 0,
         near: 0,
         is_worn: false,
-        found: None,
+        found: END,
         left,
     }
 }
@@ -272,7 +271,7 @@ fn begin_search(
 fn goes_on(search: Search, nodes: u32) -> bool
     ensures { IsTrue result → search.at < nodes }
 {
-    if search.at >= nodes || search.at >= search.tail || search.found.is_some() {
+    if search.at >= nodes || search.at >= search.tail || search.found != END {
         return false;
     }
     !search.is_worn || search.at < 2 || search.at < search.near
@@ -289,7 +288,6 @@ fn search_out(
     search: Search,
 ) -> Search
     requires fits { Fits ground.net.now flow.old.flows }
-    requires size { ground.net.now.nodes ≤ 32 * length seen.old }
     ensures looks { PaysLooks flow.old search.left flow.new result.left }
 {
     let nodes = ground.net.nodes();
@@ -318,7 +316,7 @@ fn search_on(
     ensures looks { PaysLooks flow.old search.left flow.new result.left }
 {
     let next = search_out(ground, rows, done, seen, hints, flow, search);
-    if next.found.is_some() || !search.is_worn {
+    if next.found != END || !search.is_worn {
         return next;
     }
     forget(ground.net, seen, hints, next.tail);
@@ -334,7 +332,7 @@ fn worn(search: Search, left: u64) -> Search
     Search {
         at: if search.at == 1 { 0 } else { search.at },
         is_worn: true,
-        found: None,
+        found: END,
         left,
         ..search
     }
@@ -493,15 +491,15 @@ pub(crate) fn raise(
     let mut value = 0;
     while value < wanted.value {
         search = search_on(ground, rows, done, seen, hints, flow, node, search);
-        let Some(last) = search.found else {
+        if search.found == END {
             if !is_seen(done, seen, node) {
                 return None;
             }
             let left = is_closed(ground, done, seen, flow, search.left)?;
             forget(ground.net, seen, hints, search.tail);
             return Some(Budgeted { value, left });
-        };
-        let left = send(ground, done, hints, flow, node, last, search.left)?;
+        }
+        let left = send(ground, done, hints, flow, node, search.found, search.left)?;
         search = worn(search, left);
         value += 1;
     }

@@ -10,8 +10,8 @@ use Rattle.flow_solve.proofs.ForestLemmas.Marks.{seen_apart}
 use Rattle.flow_solve.proofs.forests.joining.raise.Goals as goal
 
 -- the seen nodes are a closed cut, so the value is the number of its arcs
-pub returns-in_default-clause-reached : goal.returns-in_default-clause-reached
-returns-in_default-clause-reached c =
+pub returns-then-search-clause-reached : goal.returns-then-search-clause-reached
+returns-then-search-clause-reached c =
     let net = c.args.ground.net.now in
     let dir = c.args.ground.direction in
     let seen = c.search_on-search.new.seen in

@@ -141,6 +141,7 @@ at_stage ground ready = record {
   root = ground.root;
   direction = ground.direction;
   first = ground.first;
+  parts = ground.parts;
   paired = ground.paired;
   beside = ground.beside;
   numbered = ready && not ground.paired;

@@ -48,7 +48,7 @@ use flow_net::{FlowTable, Network};
 use growing::{Front, begin, grow, is_whole, next_node, reach, set_places_back};
 use joining::{Budgeted, raise};
 use marks::unmark_all;
-use rows::{fill_rows, number_arcs};
+use rows::{Parts, fill_rows, number_arcs, parts_of};
 
 /// Where forests grow.
 #[derive(Clone, Copy)]
@@ -62,6 +62,8 @@ pub(crate) struct Ground<'a> {
     pub direction: Direction,
     /// Where the row of each node begins, and at the end where that of the last one ends.
     pub first: &'a [u32],
+    /// Where the parts of the hints begin.
+    pub parts: Parts,
     /// Whether each arc is there both ways, its opposite half of the arcs away.
     pub paired: bool,
     /// Whether an arc and its opposite are put down one after the other, so that they stand near.
@@ -112,7 +114,7 @@ fn complete(
 {
     let nodes = ground.net.nodes();
     flow.clear();
-    set_places_back(ground.net, hints);
+    set_places_back(ground, hints);
     let mut front = begun;
     let mut least = known;
     while front.count < nodes && least.value > count {
@@ -260,6 +262,7 @@ pub fn connectivity_by_forests(
         root: hub(net, cells),
         direction: Direction::Backwards,
         first: &[],
+        parts: parts_of(net),
         paired,
         beside: paired && (is_even || has_more_arcs(net, least)),
         numbered: false,

@@ -12,7 +12,6 @@ use crate::forests::Ground;
 use crate::forests::marks::{is_left, is_marked, mark, unmark_all};
 use crate::forests::rows::{TAKEN, near_at, next_at, node_in, place_at, queue_at};
 use crate::residual::cells::{get, put};
-use flow_net::Network;
 
 /// How far a forest has come.
 #[derive(Clone, Copy)]
@@ -131,14 +130,14 @@ fn go_on(
 }
 
 /// The front once the forest has come to a node.
-fn come_to(net: &Network, hints: &mut [u32], front: Front, node: u32) -> Front
-    requires { front.count < net.now.nodes }
+fn come_to(ground: Ground<'_>, hints: &mut [u32], front: Front, node: u32) -> Front
+    requires { front.count < ground.net.now.nodes }
     ensures count { result.count ≡ front.count + 1 }
     ensures node { result.node ≡ node }
 {
     // Brings the network's limits, `IsNet`, into the proof.
-    let _ = net.nodes();
-    put(hints, near_at(net, front.near), node);
+    let _ = ground.net.nodes();
+    put(hints, near_at(ground, front.near), node);
     Front {
         count: front.count + 1,
         near: front.near.saturating_add(1),
@@ -160,11 +159,11 @@ fn go_back(
     ensures { result.count ≡ front.count }
 {
     let mut back = front;
-    back.place = get(hints, queue_at(ground.net, depth)).wrapping_add(1);
+    back.place = get(hints, queue_at(ground, depth)).wrapping_add(1);
     back.node = if depth == 0 {
         root
     } else {
-        let cell = get(hints, queue_at(ground.net, depth - 1));
+        let cell = get(hints, queue_at(ground, depth - 1));
         node_in(ground, get(rows, cell as usize) % TAKEN)
     };
     back
@@ -188,9 +187,9 @@ pub(crate) fn grow(
     let mut depth = 0u32;
     while front.count < nodes {
         if let Some(lead) = go_on(ground, rows, done, hints, front) {
-            put(hints, queue_at(ground.net, depth), lead.cell);
+            put(hints, queue_at(ground, depth), lead.cell);
             depth += 1;
-            front = come_to(ground.net, hints, front, lead.behind);
+            front = come_to(ground, hints, front, lead.behind);
         } else if depth > 0 {
             depth -= 1;
             front = go_back(ground, rows, hints, front, root, depth);
@@ -216,7 +215,7 @@ pub(crate) fn begin(ground: Ground<'_>, done: &mut [u32], hints: &mut [u32]) -> 
         node: 0,
         place: 0,
     };
-    come_to(ground.net, hints, nowhere, ground.root)
+    come_to(ground, hints, nowhere, ground.root)
 }
 
 /// A forest that comes to a node without an arc.
@@ -228,13 +227,13 @@ pub(crate) fn reach(ground: Ground<'_>, done: &mut [u32], hints: &mut [u32], fro
     ensures count { result.count ≡ front.count + 1 }
 {
     mark(done, front.node);
-    come_to(ground.net, hints, front, front.node)
+    come_to(ground, hints, front, front.node)
 }
 
 /// Sets the places back from which the rows of nodes are looked at for the next node to be joined.
-pub(crate) fn set_places_back(net: &Network, hints: &mut [u32]) {
-    for place in 0..net.nodes() {
-        put(hints, place_at(net, place + 1), 0);
+pub(crate) fn set_places_back(ground: Ground<'_>, hints: &mut [u32]) {
+    for place in 0..ground.net.nodes() {
+        put(hints, place_at(ground, place + 1), 0);
     }
 }
 
@@ -246,7 +245,7 @@ fn neighbour(
     hints: &mut [u32],
     node: u32,
 ) -> Option<u32> {
-    let place = place_at(ground.net, node);
+    let place = place_at(ground, node);
     let begin = get(ground.first, (node as usize).wrapping_sub(1));
     let from = begin.max(get(hints, place));
     let end = get(ground.first, node as usize);
@@ -279,7 +278,7 @@ pub(crate) fn next_node(
 {
     let mut next = front;
     while next.near > 0 {
-        let last = get(hints, near_at(ground.net, next.near - 1));
+        let last = get(hints, near_at(ground, next.near - 1));
         if let Some(node) = neighbour(ground, rows, done, hints, last) {
             next.node = node;
             return next;

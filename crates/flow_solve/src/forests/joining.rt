@@ -15,7 +15,7 @@ use crate::forests::marks::{is_left, is_marked, mark, unmark};
 use crate::forests::rows::{TAKEN, ends_of, next_at, place_at, queue_at};
 use crate::residual::cells::{END, get, put};
 use crate::residual::half_arcs::{far, near};
-use flow_net::{FlowTable, Network};
+use flow_net::FlowTable;
 
 /// A number, and how many looks and pushes are left.
 #[derive(Clone, Copy)]
@@ -77,8 +77,8 @@ fn search_over(
         return next;
     }
     mark(seen, behind);
-    put(hints, place_at(ground.net, behind), half);
-    put(hints, queue_at(ground.net, search.tail), behind);
+    put(hints, place_at(ground, behind), half);
+    put(hints, queue_at(ground, search.tail), behind);
     next.tail = search.tail.saturating_add(1);
     next
 }
@@ -222,7 +222,7 @@ fn search_from(
     let nodes = ground.net.nodes();
     let mut next = search;
     next.at += 1;
-    let node = get(hints, queue_at(ground.net, search.at));
+    let node = get(hints, queue_at(ground, search.at));
     if node == 0 || node > nodes {
         return next;
     }
@@ -254,7 +254,7 @@ fn begin_search(
     ensures left { result.left ≡ left }
 {
     mark(seen, node);
-    put(hints, queue_at(ground.net, 0), node);
+    put(hints, queue_at(ground, 0), node);
     Search {
         at: 0,
         tail: 1,
@@ -319,7 +319,7 @@ fn search_on(
     if next.found != END || !search.is_worn {
         return next;
     }
-    forget(ground.net, seen, hints, next.tail);
+    forget(ground, seen, hints, next.tail);
     let anew = begin_search(ground, seen, hints, node, next.left);
     search_out(ground, rows, done, seen, hints, flow, anew)
 }
@@ -339,11 +339,11 @@ fn worn(search: Search, left: u64) -> Search
 }
 
 /// Makes the nodes that a search has seen unseen, and forgets by which half-arcs.
-fn forget(net: &Network, seen: &mut [u32], hints: &mut [u32], tail: u32) {
+fn forget(ground: Ground<'_>, seen: &mut [u32], hints: &mut [u32], tail: u32) {
     for at in 0..tail {
-        let node = get(hints, queue_at(net, at));
+        let node = get(hints, queue_at(ground, at));
         unmark(seen, node);
-        put(hints, place_at(net, node), 0);
+        put(hints, place_at(ground, node), 0);
     }
 }
 
@@ -388,7 +388,7 @@ fn send(
         flow.push(net, half, 1);
         left -= 2;
         at = near(net, ground.direction, half);
-        half = get(hints, place_at(net, at));
+        half = get(hints, place_at(ground, at));
     }
     Some(left)
 }
@@ -496,14 +496,14 @@ pub(crate) fn raise(
                 return None;
             }
             let left = is_closed(ground, done, seen, flow, search.left)?;
-            forget(ground.net, seen, hints, search.tail);
+            forget(ground, seen, hints, search.tail);
             return Some(Budgeted { value, left });
         }
         let left = send(ground, done, hints, flow, node, search.found, search.left)?;
         search = worn(search, left);
         value += 1;
     }
-    forget(ground.net, seen, hints, search.tail);
+    forget(ground, seen, hints, search.tail);
     Some(Budgeted {
         value,
         left: search.left,

@@ -151,8 +151,9 @@ fn make_ready(ground: Ground<'_>, ready: bool, rows: &mut [u32], hints: &mut [u3
     ready || number_arcs(ground, rows, hints)
 }
 
-/// Lets as many forests grow as there have to be. `known` holds the least number so far and how many looks and pushes
-/// are left; the answer is the same afterwards, or nothing where they are used up or a test fails.
+/// Lets as many forests grow as there have to be. Backwards the first cells tell how many arcs leave each node. `known`
+/// holds the least number so far and how many looks and pushes are left; the answer is the same afterwards, or nothing
+/// where they are used up or a test fails.
 fn run_pass(
     ground: Ground<'_>,
     rows: &mut [u32],
@@ -179,11 +180,11 @@ fn run_pass(
     let (marks, cells) = cells.split_at_mut(nodes as usize);
     let (first, cells) = cells.split_at_mut(nodes as usize + 1);
     let (hints, _spare) = cells.split_at_mut(ground.net.len() as usize + 4 * nodes as usize + 1);
-    let (done, seen) = marks.split_at_mut(nodes as usize / 2);
-    unmark_all(seen);
-    if !fill_rows(ground, first, rows, hints) {
+    if !fill_rows(ground, marks, first, rows, hints) {
         return None;
     }
+    let (done, seen) = marks.split_at_mut(nodes as usize / 2);
+    unmark_all(seen);
     let ground = Ground { first, ..ground };
     let mut ready = false;
     let mut least = known;

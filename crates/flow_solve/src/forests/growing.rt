@@ -9,7 +9,7 @@ ghost use Rattle.flow_net.specs.Nets.{IsNode};
 ghost use Rattle.flow_solve.specs.Forests.{HasGrown, HasMarked, IsLead, IsStand, marked_in};
 
 use crate::forests::Ground;
-use crate::forests::marks::{is_left, is_marked, mark, unmark_all};
+use crate::forests::marks::{is_left, is_marked, mark, marked_from, unmark_all};
 use crate::forests::rows::{TAKEN, near_at, next_at, node_in, place_at, queue_at};
 use crate::residual::cells::{get, put};
 
@@ -293,10 +293,13 @@ pub(crate) fn next_node(
 pub(crate) fn is_whole(nodes: u32, done: &[u32]) -> bool
     ensures { IsTrue result → (v : ℕ) → 1 ≤ v → v ≤ nodes → IsTrue (marked_in done.now v) }
 {
-    for place in 0..nodes {
-        if !is_marked(done, place + 1) {
+    let mut place = 0;
+    'cells: while place < nodes {
+        let more = marked_from(done, place + 1);
+        if more == 0 {
             return false;
         }
+        place = place.saturating_add(more);
     }
     true
 }

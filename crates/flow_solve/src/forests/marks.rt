@@ -1,6 +1,6 @@
 //! Marks of nodes: a bit for each, so that those of a million nodes stay in the cache of a processor. A forest marks
 //! the nodes that it has come to, and a search those that it has seen, each in cells of its own.
-ghost use Rattle.std.specs.Prelude.{◌≡◌, ℕ, ◌*◌, ◌≤◌, IsFalse, IsTrue, length};
+ghost use Rattle.std.specs.Prelude.{◌≡◌, ℕ, ◌+◌, ◌*◌, ◌≤◌, ◌<◌, IsFalse, IsTrue, length};
 ghost use Rattle.flow_solve.specs.Forests.{HasMarked, marked_in};
 
 use crate::residual::cells::{get, put};
@@ -25,6 +25,18 @@ pub(crate) fn is_left(marks: &[u32], node: u32) -> bool
 {
     let bit = node.wrapping_sub(1) as usize;
     bit / BITS < marks.len() && (marks[bit / BITS] >> (bit % BITS)) & 1 == 0
+}
+
+/// How many nodes from one on are marked, as far as one cell tells: all that it has bits for, one or none.
+pub(crate) fn marked_from(marks: &[u32], node: u32) -> u32
+    requires { 1 ≤ node }
+    ensures { (v : ℕ) → node ≤ v → v < node + result → IsTrue (marked_in marks.now v) }
+{
+    let bit = node as usize - 1;
+    if bit % BITS == 0 && get(marks, bit / BITS) == u32::MAX {
+        return u32::BITS;
+    }
+    u32::from(is_marked(marks, node))
 }
 
 /// Marks a node.

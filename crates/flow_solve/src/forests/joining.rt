@@ -33,10 +33,8 @@ struct Search {
     tail: u32,
     /// Which of the arcs at that node is the first of the path that it has found.
     place: u32,
-    /// Where in the queue those nodes end that it has seen from the first one.
+    /// In a dense network, where in the queue those nodes end that it has seen from the first one.
     near: u32,
-    /// Whether a unit has been sent along a path that it has found.
-    is_worn: bool,
     /// The last half-arc of the path that it has found, or [`END`].
     found: u32,
     /// How many looks and pushes are left.
@@ -219,15 +217,13 @@ fn search_from(
     ensures next { result.at ≡ search.at + 1 }
     ensures looks { PaysLooks flow.old search.left flow.new result.left }
 {
-    let nodes = ground.net.nodes();
+    // Brings the network's limits, `IsNet`, into the proof.
+    let _ = ground.net.nodes();
     let mut next = search;
     next.at += 1;
     let node = get(hints, queue_at(ground, search.at));
-    if node == 0 || node > nodes {
-        return next;
-    }
     let from = if search.at == 0 { search.place } else { 0 };
-    if search.at == 1 {
+    if search.at == 1 && ground.dense {
         next.near = search.tail;
     }
     let around = arcs_at(ground, hints, node);
@@ -260,21 +256,21 @@ fn begin_search(
         tail: 1,
         place: 0,
         near: 0,
-        is_worn: false,
         found: END,
         left,
     }
 }
 
-/// Whether a search goes on from the next node that it has seen. Once a unit has been sent, only from the first node
-/// and those seen from it: of these each may find one more path, and what lies behind is reached over used half-arcs.
-fn goes_on(search: Search, nodes: u32) -> bool
+/// Whether a search goes on from the next node that it has seen. Where `is_worn` is true, since a unit has been sent
+/// along more than one half-arc, only from the first node, and in a dense network from those seen from it: of these
+/// each may find one more path, and what lies behind is reached over used half-arcs.
+fn goes_on(search: Search, is_worn: bool, nodes: u32) -> bool
     ensures { IsTrue result → search.at < nodes }
 {
     if search.at >= nodes || search.at >= search.tail || search.found != END {
         return false;
     }
-    !search.is_worn || search.at < 2 || search.at < search.near
+    !is_worn || search.at < 2 || search.at < search.near
 }
 
 /// Goes on with a search until it comes to a node that the forest has come to.
@@ -286,52 +282,26 @@ fn search_out(
     hints: &mut [u32],
     flow: &mut FlowTable,
     search: Search,
+    is_worn: bool,
 ) -> Search
     requires fits { Fits ground.net.now flow.old.flows }
     ensures looks { PaysLooks flow.old search.left flow.new result.left }
 {
     let nodes = ground.net.nodes();
     let mut next = search;
-    'queue: while goes_on(next, nodes) {
+    'queue: while goes_on(next, is_worn, nodes) {
         next = search_from(ground, rows, done, seen, hints, flow, next);
     }
     next
 }
 
-/// Goes on with a search from a node, and begins anew where it finds no more path after those along which units have
-/// been sent. Where that finds none, the nodes seen are all that can be reached.
-fn search_on(
-    ground: Ground<'_>,
-    rows: &[u32],
-    done: &[u32],
-    seen: &mut [u32],
-    hints: &mut [u32],
-    flow: &mut FlowTable,
-    node: u32,
-    search: Search,
-) -> Search
-    requires fits { Fits ground.net.now flow.old.flows }
-    requires size { ground.net.now.nodes ≤ 32 * length seen.old }
-    requires node { IsNode ground.net.now node }
-    ensures looks { PaysLooks flow.old search.left flow.new result.left }
-{
-    let next = search_out(ground, rows, done, seen, hints, flow, search);
-    if next.found != END || !search.is_worn {
-        return next;
-    }
-    forget(ground, seen, hints, next.tail);
-    let anew = begin_search(ground, seen, hints, node, next.left);
-    search_out(ground, rows, done, seen, hints, flow, anew)
-}
-
 /// The search once a unit has been sent along the path that it has found: it goes on with the next node, or with the
 /// first one from where it was.
-fn worn(search: Search, left: u64) -> Search
+fn after_unit(search: Search, left: u64) -> Search
     ensures { result.left ≡ left }
 {
     Search {
         at: if search.at == 1 { 0 } else { search.at },
-        is_worn: true,
         found: END,
         left,
         ..search
@@ -488,10 +458,21 @@ pub(crate) fn raise(
         return None;
     }
     let mut search = begin_search(ground, seen, hints, node, wanted.left);
+    let mut is_worn = false;
     let mut value = 0;
     while value < wanted.value {
-        search = search_on(ground, rows, done, seen, hints, flow, node, search);
-        if search.found == END {
+        search = search_out(ground, rows, done, seen, hints, flow, search, is_worn);
+        if search.found != END {
+            let left = send(ground, done, hints, flow, node, search.found, search.left)?;
+            is_worn |= search.at > 1;
+            search = after_unit(search, left);
+            value += 1;
+        } else if is_worn {
+            // What a worn search has seen may not be all that can be reached.
+            forget(ground, seen, hints, search.tail);
+            search = begin_search(ground, seen, hints, node, search.left);
+            is_worn = false;
+        } else {
             if !is_seen(done, seen, node) {
                 return None;
             }
@@ -499,9 +480,6 @@ pub(crate) fn raise(
             forget(ground, seen, hints, search.tail);
             return Some(Budgeted { value, left });
         }
-        let left = send(ground, done, hints, flow, node, search.found, search.left)?;
-        search = worn(search, left);
-        value += 1;
     }
     forget(ground, seen, hints, search.tail);
     Some(Budgeted {

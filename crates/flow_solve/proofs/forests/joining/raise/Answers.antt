@@ -10,18 +10,18 @@ use Rattle.flow_solve.proofs.ForestLemmas.Marks.{seen_apart}
 use Rattle.flow_solve.proofs.forests.joining.raise.Goals as goal
 
 -- the seen nodes are a closed cut, so the value is the number of its arcs
-pub returns-then-search-clause-reached : goal.returns-then-search-clause-reached
-returns-then-search-clause-reached c =
+pub returns-else-is_worn-clause-reached : goal.returns-else-is_worn-clause-reached
+returns-else-is_worn-clause-reached c =
     let net = c.args.ground.net.now in
     let dir = c.args.ground.direction in
-    let seen = c.search_on-search.new.seen in
+    let seen = c.search_out-search.new.seen in
     let j = c.loop-value.invariant in
     let n : (1 ≤ c.args.node) × (c.args.node ≤ net.nodes) = (omega arith, omega arith) in
     let done = marked_in c.args.done.now in
     let X = seen_in c.args.done.now seen in
     let closed : IsClosedFor dir net c.loop-value.flow.flows X =
-    subst (λ (z : List ℕ). IsClosedFor dir net z X) c.search_on-search.ensures.looks.flows
-    c.in_ok-left.ensures.closed in
+    subst (λ (z : List ℕ). IsClosedFor dir net z X) c.search_out-search.ensures.looks.flows
+    c.in_ok-left-2.ensures.closed in
     let here : X c.args.node ≡ true = sym c.is_seen.ensures ∙ c.if-not-is_seen.false in
     let cut : IsCut (just c.args.node) done X =
     record {

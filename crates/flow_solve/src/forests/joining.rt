@@ -24,17 +24,17 @@ pub(crate) struct Budgeted {
     pub left: u64,
 }
 
-/// How far a search has come.
+/// How far a search has come. Its queue has the nodes that it has seen, from the first one on.
 #[derive(Clone, Copy)]
 struct Search {
     /// The place in its queue of the node whose half-arcs come next.
     at: u32,
+    /// Where those nodes begin in the queue that it has seen by way of the arc at `place`. No path leads from others.
+    from: u32,
     /// How many nodes it has seen: the end of its queue.
     tail: u32,
-    /// Which of the arcs at that node is the first of the path that it has found.
+    /// Which of the arcs at the first node is looked at next, or is the first of the path that it has found.
     place: u32,
-    /// In a dense network, where in the queue those nodes end that it has seen from the first one.
-    near: u32,
     /// The last half-arc of the path that it has found, or [`END`].
     found: u32,
     /// How many looks and pushes are left.
@@ -164,6 +164,7 @@ fn arcs_at(ground: Ground<'_>, hints: &[u32], node: u32) -> Around {
 
 /// Looks at the half-arcs over which a search may go on from a node by one of the arcs at it, unless it has seen the
 /// node behind it. Where rows have numbers that is the one against an arc of the row, or along one that leads to it.
+#[inline(always)]
 fn search_along(
     ground: Ground<'_>,
     rows: &[u32],
@@ -201,8 +202,21 @@ fn search_along(
     search_over(ground, done, seen, hints, flow, search, half, behind)
 }
 
-/// Looks at the half-arcs at the next node that the search has seen, until it has found a path; of the first node from
-/// where it has found one before.
+/// The node from which a search goes on: the one that it has seen first, and in a dense network any. There most rows
+/// have the same nodes in the same order, so each unit would pass over the rows from which nothing leads on any more.
+fn next_seen(ground: Ground<'_>, hints: &mut [u32], search: Search) -> u32 {
+    let at = queue_at(ground, search.at);
+    if ground.dense {
+        let ahead = u64::from(search.tail.wrapping_sub(search.at).max(1));
+        let other = at.wrapping_add((search.left % ahead) as usize);
+        let node = get(hints, other);
+        put(hints, other, get(hints, at));
+        put(hints, at, node);
+    }
+    get(hints, at)
+}
+
+/// Looks at the half-arcs at the next node that the search has seen, until it has found a path.
 fn search_from(
     ground: Ground<'_>,
     rows: &[u32],
@@ -221,14 +235,68 @@ fn search_from(
     let _ = ground.net.nodes();
     let mut next = search;
     next.at += 1;
-    let node = get(hints, queue_at(ground, search.at));
-    let from = if search.at == 0 { search.place } else { 0 };
-    if search.at == 1 && ground.dense {
-        next.near = search.tail;
-    }
+    let node = next_seen(ground, hints, search);
     let around = arcs_at(ground, hints, node);
-    for place in from..around.all {
+    for place in 0..around.all {
         next = search_along(ground, rows, done, seen, hints, flow, next, around, place);
+        if next.found != END {
+            return next;
+        }
+    }
+    next
+}
+
+/// Whether a search goes on from the next node that it has seen.
+fn goes_on(search: Search, nodes: u32) -> bool
+    ensures { IsTrue result → search.at < nodes }
+{
+    search.at < nodes && search.at < search.tail && search.found == END
+}
+
+/// Goes on with a search in breadth from the nodes that it has seen, until it comes to one that the forest has come to.
+fn search_behind(
+    ground: Ground<'_>,
+    rows: &[u32],
+    done: &[u32],
+    seen: &mut [u32],
+    hints: &mut [u32],
+    flow: &mut FlowTable,
+    search: Search,
+) -> Search
+    requires fits { Fits ground.net.now flow.old.flows }
+    ensures looks { PaysLooks flow.old search.left flow.new result.left }
+{
+    let nodes = ground.net.nodes();
+    let mut next = search;
+    'queue: while goes_on(next, nodes) {
+        next = search_from(ground, rows, done, seen, hints, flow, next);
+    }
+    next
+}
+
+/// Goes on with a search from its first node, by one of the arcs at that after the other, until it comes to a node that
+/// the forest has come to.
+fn search_out(
+    ground: Ground<'_>,
+    rows: &[u32],
+    done: &[u32],
+    seen: &mut [u32],
+    hints: &mut [u32],
+    flow: &mut FlowTable,
+    node: u32,
+    search: Search,
+) -> Search
+    requires fits { Fits ground.net.now flow.old.flows }
+    ensures looks { PaysLooks flow.old search.left flow.new result.left }
+{
+    let around = arcs_at(ground, hints, node);
+    let mut next = search;
+    for place in search.place..around.all {
+        next.from = next.tail;
+        next = search_along(ground, rows, done, seen, hints, flow, next, around, place);
+        if next.from < next.tail {
+            next = search_behind(ground, rows, done, seen, hints, flow, next);
+        }
         if next.found != END {
             next.place = place;
             return next;
@@ -252,68 +320,42 @@ fn begin_search(
     mark(seen, node);
     put(hints, queue_at(ground, 0), node);
     Search {
-        at: 0,
+        at: 1,
+        from: 1,
         tail: 1,
         place: 0,
-        near: 0,
         found: END,
         left,
     }
 }
 
-/// Whether a search goes on from the next node that it has seen. Where `is_worn` is true, since a unit has been sent
-/// along more than one half-arc, only from the first node, and in a dense network from those seen from it: of these
-/// each may find one more path, and what lies behind is reached over used half-arcs.
-fn goes_on(search: Search, is_worn: bool, nodes: u32) -> bool
-    ensures { IsTrue result → search.at < nodes }
-{
-    if search.at >= nodes || search.at >= search.tail || search.found != END {
-        return false;
-    }
-    !is_worn || search.at < 2 || search.at < search.near
-}
-
-/// Goes on with a search until it comes to a node that the forest has come to.
-fn search_out(
-    ground: Ground<'_>,
-    rows: &[u32],
-    done: &[u32],
-    seen: &mut [u32],
-    hints: &mut [u32],
-    flow: &mut FlowTable,
-    search: Search,
-    is_worn: bool,
-) -> Search
-    requires fits { Fits ground.net.now flow.old.flows }
-    ensures looks { PaysLooks flow.old search.left flow.new result.left }
-{
-    let nodes = ground.net.nodes();
-    let mut next = search;
-    'queue: while goes_on(next, is_worn, nodes) {
-        next = search_from(ground, rows, done, seen, hints, flow, next);
-    }
-    next
-}
-
-/// The search once a unit has been sent along the path that it has found: it goes on with the next node, or with the
-/// first one from where it was.
-fn after_unit(search: Search, left: u64) -> Search
-    ensures { result.left ≡ left }
-{
-    Search {
-        at: if search.at == 1 { 0 } else { search.at },
-        found: END,
-        left,
-        ..search
-    }
-}
-
-/// Makes the nodes that a search has seen unseen, and forgets by which half-arcs.
-fn forget(ground: Ground<'_>, seen: &mut [u32], hints: &mut [u32], tail: u32) {
-    for at in 0..tail {
+/// Makes nodes that a search has seen unseen, from a place in its queue on, and forgets by which half-arcs.
+fn forget(ground: Ground<'_>, seen: &mut [u32], hints: &mut [u32], from: u32, tail: u32) {
+    for at in from..tail {
         let node = get(hints, queue_at(ground, at));
         unmark(seen, node);
         put(hints, place_at(ground, node), 0);
+    }
+}
+
+/// The search once a unit has been sent along the path that it has found. What it has seen on that way it may see again
+/// by another arc.
+fn after_unit(
+    ground: Ground<'_>,
+    seen: &mut [u32],
+    hints: &mut [u32],
+    search: Search,
+    left: u64,
+) -> Search
+    ensures { result.left ≡ left }
+{
+    forget(ground, seen, hints, search.from, search.tail);
+    Search {
+        at: search.from,
+        tail: search.from,
+        found: END,
+        left,
+        ..search
     }
 }
 
@@ -461,15 +503,15 @@ pub(crate) fn raise(
     let mut is_worn = false;
     let mut value = 0;
     while value < wanted.value {
-        search = search_out(ground, rows, done, seen, hints, flow, search, is_worn);
+        search = search_out(ground, rows, done, seen, hints, flow, node, search);
         if search.found != END {
             let left = send(ground, done, hints, flow, node, search.found, search.left)?;
-            is_worn |= search.at > 1;
-            search = after_unit(search, left);
+            is_worn |= search.from < search.tail;
+            search = after_unit(ground, seen, hints, search, left);
             value += 1;
         } else if is_worn {
-            // What a worn search has seen may not be all that can be reached.
-            forget(ground, seen, hints, search.tail);
+            // What led nowhere may lead on over half-arcs that were used since.
+            forget(ground, seen, hints, 0, search.tail);
             search = begin_search(ground, seen, hints, node, search.left);
             is_worn = false;
         } else {
@@ -477,11 +519,11 @@ pub(crate) fn raise(
                 return None;
             }
             let left = is_closed(ground, done, seen, flow, search.left)?;
-            forget(ground, seen, hints, search.tail);
+            forget(ground, seen, hints, 0, search.tail);
             return Some(Budgeted { value, left });
         }
     }
-    forget(ground, seen, hints, search.tail);
+    forget(ground, seen, hints, 0, search.tail);
     Some(Budgeted {
         value,
         left: search.left,

@@ -1,14 +1,10 @@
 -- `search_out`: the looks are paid.
-use Rattle.std.proofs.Common.{◌-◌}
 use Rattle.flow_net.specs.Flows.{Fits}
 use Rattle.flow_solve.specs.Steps.{PaysLooks}
 use Rattle.flow_solve.proofs.forests.joining.search_out.Given as goal
 
-abbrev pub invariant-queue : goal.invariant-queue
-invariant-queue l = record {
+abbrev pub invariant-loop-place : goal.invariant-loop-place
+invariant-loop-place l = record {
   fits : Fits l.ground.net.now l.flow.flows;
   looks : PaysLooks l.fn.flow l.fn.search.left l.flow l.next.left;
 }
-
-abbrev pub decreases-queue : goal.decreases-queue
-decreases-queue l = l.nodes - l.next.at

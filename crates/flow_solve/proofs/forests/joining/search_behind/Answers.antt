@@ -1,6 +1,6 @@
--- `search_out`: a search goes on from node to node.
+-- `search_behind`: a search goes on from node to node.
 use Rattle.flow_solve.proofs.Payments.{looked_fits, looks_none, looks_then}
-use Rattle.flow_solve.proofs.forests.joining.search_out.Goals as goal
+use Rattle.flow_solve.proofs.forests.joining.search_behind.Goals as goal
 
 pub queue-init : goal.queue-init
 queue-init c = record {

@@ -118,7 +118,7 @@ Example, with the problem and the solution in files:
 /// # Errors
 ///
 /// `AllocError` where memory was refused.
-pub(crate) fn commands<'a>(alloc: Global) -> Result<Command<'a>, AllocError> {
+pub fn commands<'a>(alloc: Global) -> Result<Command<'a>, AllocError> {
     let flow = Command::new(alloc, "flow")
         .version("0.1.0")
         .about("Maximum flows, minimum cuts and edge connectivity of networks in the DIMACS format")

@@ -7,7 +7,7 @@ use std::io::{Read, Stdin};
 
 /// Where the bytes of an input come from.
 #[derive(Drop)]
-pub(crate) enum Reading {
+pub enum Reading {
     /// Standard input.
     Standard(Stdin),
     /// A file that was opened.
@@ -25,13 +25,13 @@ impl Read for Reading {
 
 /// The real files and the real standard input.
 #[derive(Drop)]
-pub(crate) struct FileSystem<'a> {
+pub struct FileSystem<'a> {
     rt: &'a HostRuntime,
 }
 
 impl<'a> FileSystem<'a> {
     /// The files that this runtime opens.
-    pub(crate) fn new(rt: &'a HostRuntime) -> FileSystem<'a> {
+    pub fn new(rt: &'a HostRuntime) -> FileSystem<'a> {
         FileSystem { rt }
     }
 }

@@ -13,7 +13,7 @@ use flow_tools::{Counted, Failed, Input, Job, Output, put_all, run};
 use std::alloc::Global;
 
 /// Where the inputs that a command line names are opened.
-pub(crate) trait Source {
+pub trait Source {
     /// An input that was opened.
     type In: Input + Drop;
 
@@ -24,7 +24,7 @@ pub(crate) trait Source {
 
 /// Reads the words of a command line, opens the files that they name and runs the job. The answer is the status: that
 /// of the run, 2 where the words are refused, 0 after help, 4 where a file can't be opened or memory was refused.
-pub(crate) fn program<S: Source, O: Output, E: Output>(
+pub fn program<S: Source, O: Output, E: Output>(
     alloc: Global,
     words: &[&str],
     source: &mut S,

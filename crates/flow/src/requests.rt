@@ -8,7 +8,7 @@ use flow_tools::Job;
 
 /// The files that a command line names; `None` stands for standard input, or for a file that the command doesn't read.
 #[derive(Clone, Copy)]
-pub(crate) struct Files<'a> {
+pub struct Files<'a> {
     /// The problem.
     pub problem: Option<&'a str>,
     /// The solution.
@@ -16,7 +16,7 @@ pub(crate) struct Files<'a> {
 }
 
 /// The job and the files of a command line that was read. `None` where it carries no command. No memory is taken.
-pub(crate) fn job_of<'a>(m: &ArgMatches<'a>) -> Option<(Job, Files<'a>)>
+pub fn job_of<'a>(m: &ArgMatches<'a>) -> Option<(Job, Files<'a>)>
     ensures { IsJobOf (subcommand_rows_of m.now) result }
 {
     match m.subcommand() {

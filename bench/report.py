@@ -10,6 +10,10 @@ END = '<!-- bench: end -->'
 # Times that differ by less than this are told as level.
 LEVEL = 1.05
 
+# What stands above the table of instructions.
+COUNTED = ('`bench/instructions.py PROGRAM` counts with valgrind, as differences of runs that differ in those bytes alone. '
+           'Of the line of a value each run writes one; the figure is what a digit more adds.')
+
 
 def seconds(took):
     """A time as it stands in a table."""
@@ -209,7 +213,7 @@ class Report:
     def grown(self):
         """A sentence on the largest networks of connect."""
         sizes = self.sizes(self.found.growth)
-        problems = [problem for problem in self.found.growth if problem.size == sizes[-1] and problem.family != 'ring']
+        problems = [problem for problem in self.found.growth if problem.size == sizes[-1]]
         took = [(problem.times['flow'], problem.family) for problem in problems if 'flow' in problem.times]
         if not took:
             return ''
@@ -250,7 +254,7 @@ class Report:
             found.compared, [found.own, *found.compared_solvers], lambda problem: problem.times)
         yield 'Seconds of connect by nodes', self.growth()
         if self.instructions:
-            yield 'Instructions for each byte', self.instructions
+            yield 'Instructions for each byte', f'{COUNTED}\n\n{self.instructions}'
 
     def tables(self):
         """All that docs/BENCHMARKS.md says of a run."""

@@ -115,10 +115,10 @@ static inline uint32_t provedflow_flow(uint32_t nodes, size_t arcs, const uint32
 
 /* Finds a minimum cut: the same as provedflow_flow, and for each node on which side of the cut it lies.
  *
- * side has room for one byte for each node, and gets 1 for a node on the sources' side, and 0 for one on the sinks'.
- * Where there are several minimum cuts, it is the one nearest the sources, whose sources' side lies within that of each
+ * side has room for one byte for each node, and gets 1 for a node on the source side, and 0 for one on the other.
+ * Where there are several minimum cuts, it is the one nearest the sources, whose source side lies within that of each
  * other; where nearest_sinks isn't 0, it is the one nearest the sinks. The value is the capacity of the arcs that lead
- * from the sources' side to the other. flow, high and low may be NULL. */
+ * from the source side to the other. flow, high and low may be NULL. */
 static inline uint32_t provedflow_cut(uint32_t nodes, size_t arcs, const uint32_t *src, const uint32_t *dst,
                                       const uint64_t *cap, size_t n_sources, const uint32_t *sources, size_t n_sinks,
                                       const uint32_t *sinks, uint32_t nearest_sinks, uint64_t *flow, uint8_t *side,

@@ -14,7 +14,7 @@ if [ $# -ne 1 ] || [ "$1" = --library ]; then
   exit 2
 fi
 if ! command -v rt > /dev/null; then
-  echo "the Rattle kit's command rt is not on the PATH; the README tells what the kit is" >&2
+  echo "the Rattle kit's command rt is not on the PATH; CONTRIBUTING.md tells what the kit is" >&2
   exit 1
 fi
 mkdir -p "$1"

@@ -127,8 +127,8 @@ Description: proved maximum flows, minimum cuts and edge connectivity
  minimum cut or the edge connectivity, or checks the solution that another
  program has found.
  .
- Every number that it prints is proved, from the bytes that come in to the bytes
- that go out. It is written in Rattle, which is Rust with contracts.
+ Every number that it prints is proved, where memory suffices and no read or
+ write fails. It is written in Rattle, which is Rust with contracts.
 TEXT
 
 echo 'License: Expat' > "$scratch/ports"
@@ -140,7 +140,7 @@ pack libprovedflow0 amd64 libs << TEXT
 Depends: libc6 (>= $libc)
 Multi-Arch: same
 Description: proved maximum flows, minimum cuts and edge connectivity: library
- Finds greatest flows, minimum cuts and the edge connectivity of networks that
+ Finds maximum flows, minimum cuts and the edge connectivity of networks that
  lie in the arrays of a program, and checks flows.
  .
  Each function that it exports is proved to keep what its contract promises. It
@@ -181,7 +181,7 @@ pack python3-provedflow all python << TEXT
 Depends: python3 (>= 3.9), libprovedflow0 (>= $version)
 Suggests: python3-numpy, python3-scipy, python3-networkx
 Description: proved maximum flows, minimum cuts and edge connectivity: Python
- Greatest flows, minimum cuts and the edge connectivity of networks that lie in
+ Maximum flows, minimum cuts and the edge connectivity of networks that lie in
  lists or in NumPy's arrays, of SciPy's matrices, of NetworkX's graphs, and of
  grids of pixels.
 TEXT

@@ -8,7 +8,7 @@ if [ $# -ne 1 ] || { [ "$1" != flow ] && [ "$1" != flow_c ]; }; then
   exit 2
 fi
 if ! command -v rt > /dev/null; then
-  echo "the Rattle kit's command rt is not on the PATH; the README tells what the kit is" >&2
+  echo "the Rattle kit's command rt is not on the PATH; CONTRIBUTING.md tells what the kit is" >&2
   exit 1
 fi
 cd "$(dirname "$0")/.."
@@ -46,7 +46,7 @@ prove() { # LAST ROOM
 }
 
 cat >&2 <<TEXT
-Proving and building $1, since nothing is built that isn't proved. From nothing this takes eight to twelve
+Proving and building $1, since nothing is built that isn't proved. From nothing this takes eight to sixteen
 minutes on four cores, and up to six gigabytes of memory; what an earlier run has proved is kept, and taken up.
 TEXT
 

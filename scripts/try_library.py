@@ -117,7 +117,7 @@ class Program:
         return printed.split()
 
     def side(self, *options):
-        """Of each node 1 where it is on the sources' side of the cut, else 0."""
+        """Of each node 1 where it is on the source side of the cut, else 0."""
         inside = set(map(int, self.words("cut", *options)[3::2]))
         return [int(node in inside) for node in range(1, self.problem[0] + 1)]
 

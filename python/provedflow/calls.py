@@ -15,8 +15,8 @@ Flow.flows.__doc__ = """What each arc carries, in the order of the arcs: 64 bits
 
 Cut = namedtuple("Cut", "value side flows")
 Cut.__doc__ = """A minimum cut, with a flow of the same value."""
-Cut.value.__doc__ = """The capacity of the arcs that lead from the sources' side to the other, an int."""
-Cut.side.__doc__ = """For each node whether it lies on the sources' side: an array of bool, or a list of bools."""
+Cut.value.__doc__ = """The capacity of the arcs that lead from the source side to the other, an int."""
+Cut.side.__doc__ = """For each node whether it lies on the source side: an array of bool, or a list of bools."""
 Cut.flows.__doc__ = """What each arc carries in a flow of the greatest value."""
 
 Verdict = namedtuple("Verdict", "word value place")
@@ -55,7 +55,7 @@ def maximum_flow(src, dst, capacities, sources, sinks, nodes=None):
 def minimum_cut(src, dst, capacities, sources, sinks, nodes=None, *, nearest="sources"):
     """Finds a minimum cut between the sources and the sinks: the parameters are those of `maximum_flow`.
 
-    Where there are several, it is the one nearest the sources, whose sources' side lies within that of each other; with
+    Where there are several, it is the one nearest the sources, whose source side lies within that of each other; with
     nearest="sinks" the one nearest the sinks.
 
     Answers Cut(value, side, flows). Raises what `maximum_flow` raises.

@@ -29,6 +29,7 @@ sys.dont_write_bytecode = True
 
 import connect  # noqa: E402
 import generate  # noqa: E402
+import grids  # noqa: E402
 import report  # noqa: E402
 import solvers  # noqa: E402
 import stages  # noqa: E402
@@ -145,15 +146,19 @@ class Bench:
 
     def measure(self, problem, own, others):
         """Runs the solvers in turn, as often as asked; no more one that has taken long enough, or that took twice the
-        fastest other's time at first."""
+        fastest other's time at first. The two that are compared run twice, lest one time is a pause of the machine."""
         spent = {}
         again = [own, *others]
+        compared = ()
         for turn in range(self.given.repeat):
-            if turn == 1 and not self.given.night:
-                least = (problem.fastest_other() or (math.inf,))[0]
-                again = [own, *(solver for solver in others if problem.times.get(solver.name, 0) <= 2 * least)]
+            if turn == 1:
+                least, fastest = problem.fastest_other() or (math.inf, None)
+                compared = (own.name, fastest)
+                if not self.given.night:
+                    again = [own, *(solver for solver in others if problem.times.get(solver.name, 0) <= 2 * least)]
             for solver in again:
-                if solver.name in problem.stopped or spent.get(solver.name, 0) >= (60 if self.given.night else ENOUGH):
+                has_enough = spent.get(solver.name, 0) >= (60 if self.given.night else ENOUGH)
+                if solver.name in problem.stopped or has_enough and (turn > 1 or solver.name not in compared):
                     continue
                 limit = self.limit(problem) if turn == 0 and solver is not own else self.given.limit
                 run = solvers.measured(solver, problem.path, limit, None if turn else self.timer)
@@ -372,6 +377,10 @@ def run_table(given, maker, measured):
 def run_all(bench, flow, version):
     """Measures all parts, and prints their tables or writes them."""
     given = bench.given
+    lacking = [name for name in grids.STROKES if not grids.found_photograph(name)]
+    if lacking:
+        print(f'without the photographs {", ".join(lacking)}: {sys.executable} finds no package or no Pillow',
+              file=sys.stderr)
     found = measured_parts(bench, flow, version)
     told = report.Report(found, given, machine(), datetime.date.today().isoformat(),
                          '' if given.no_instructions else instructions(flow))

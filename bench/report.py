@@ -11,8 +11,8 @@ END = '<!-- bench: end -->'
 LEVEL = 1.05
 
 # What stands above the table of instructions.
-COUNTED = ('`bench/instructions.py PROGRAM` counts with valgrind, as differences of runs that differ in those bytes alone. '
-           'Of the line of a value each run writes one; the figure is what a digit more adds.')
+COUNTED = ('`bench/instructions.py PROGRAM` counts with valgrind, as differences of runs that differ in those bytes '
+           'alone. Of the line of a value each run writes one; the figure is what a digit more adds.')
 
 
 def seconds(took):

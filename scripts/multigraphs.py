@@ -8,7 +8,8 @@ nodes and are held against all sets of nodes: links both ways, single arcs, para
 even degrees, bridges and pieces. So many COMPOSED ones (1,000) have some hundred nodes: rings, complete parts,
 circulants, permutations, lattices, trees and hubs that few links join, parts of parts. They are held against the
 greatest flows from one node to each other and back. Each network is asked directed and undirected, by the library, and
-each hundredth also by the program. The last line is 'multigraphs: N passed, M failed'.
+each hundredth also by the program. A ring of 300,000 nodes in no order is asked by the program, since rows of so many
+are filled slice by slice. The last line is 'multigraphs: N passed, M failed'.
 """
 import ctypes
 import os
@@ -172,8 +173,11 @@ def composed(rand):
 
 def by_program(nodes, arcs, *flags):
     text = f"p max {nodes} {len(arcs)}\nn 1 s\nn 2 t\n" + "".join(f"a {u + 1} {v + 1} 1\n" for u, v in arcs)
-    line = subprocess.run([sys.argv[1], "connect", *flags], input=text, capture_output=True, text=True).stdout
-    return int(line[2:]) if line.startswith("k ") else line
+    try:
+        line = subprocess.run([sys.argv[1], "connect", *flags], input=text, capture_output=True, text=True, timeout=100)
+    except subprocess.TimeoutExpired:
+        return "no answer"
+    return int(line.stdout[2:]) if line.stdout.startswith("k ") else line.stdout
 
 
 def try_batch(batch):
@@ -195,13 +199,23 @@ def try_batch(batch):
     return wrong, tried
 
 
+def large_ring():
+    """What is wrong with the answers for a ring that is too large for a solve for each node, and how many there are."""
+    nodes = list(range(300_000))
+    random.Random(1736).shuffle(nodes)
+    arcs = list(zip(nodes, nodes[1:] + nodes[:1]))
+    random.Random(1737).shuffle(arcs)
+    found = [(by_program(len(nodes), arcs), 1), (by_program(len(nodes), arcs, "--undirected"), 2)]
+    return [("large ring", told, true) for told, true in found if told != true], len(found)
+
+
 def main():
     given = [int(word) for word in sys.argv[3:]]
     smalls, composeds, first = given + [100_000, 1_000, 1736][len(given):]
     batches = [(kind, range(at, min(at + BATCH, first + count))) for kind, count in
                (("composed", composeds), ("small", smalls)) for at in range(first, first + count, BATCH)]
     with ProcessPoolExecutor(len(os.sched_getaffinity(0))) as pool:
-        done = list(pool.map(try_batch, batches))
+        done = [*pool.map(try_batch, batches), large_ring()]
     failed = [each for wrong, _ in done for each in wrong]
     print(*(f"failed: {each}\n" for each in failed[:20]), sep="", end="")
     print(f"multigraphs: {sum(tried for _, tried in done) - len(failed)} passed, {len(failed)} failed")

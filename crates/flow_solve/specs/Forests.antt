@@ -111,6 +111,10 @@ pub record AreRows (n : ℕ) (first cells : List ℕ) (told : Net) : Type 0 wher
   pub empty : (i : ℕ) → slice_index cells i ≡ 0 → (arc_at told i).src ≡ (arc_at told i).dst
   pub arc : (v i : ℕ) → StandsIn first v i → 1 ≤ slice_index cells i → IsBetween (arc_at told i) v (slice_index cells i)
 
+-- an arc leads out of a set, from one of the nodes behind a node and up to another
+abbrev pub leaves_from : ℕ → ℕ → (ℕ → Bool) → Arc → Bool
+leaves_from low high X a = leaves X a && nat_le (suc low) a.src && nat_le a.src high
+
 -- rows tell of more arcs than before: of so many more that leave a set
 abbrev pub AreMore : ℕ → List ℕ → List ℕ → List ℕ → ((ℕ → Bool) → ℕ) → Type 0
 AreMore n first before after count = (told : Net) → AreRows n first before told

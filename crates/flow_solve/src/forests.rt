@@ -43,7 +43,7 @@ mod marks;
 mod rows;
 
 use crate::residual::half_arcs::Direction;
-use degrees::{are_balanced, are_even, goes_both_ways, least_degree};
+use degrees::{are_balanced, are_even, least_and_paired};
 use flow_net::{FlowTable, Network};
 use growing::{Front, begin, grow, is_whole, next_node, reach, set_places_back};
 use joining::{Budgeted, raise};
@@ -251,11 +251,10 @@ pub fn connectivity_by_forests(
 {
     let m = net.len() as usize;
     let (rows, cells) = work.split_at_mut(m);
-    let least = least_degree(net, cells);
+    let (least, paired) = least_and_paired(net, cells);
     if least == 0 {
         return Some(0);
     }
-    let paired = goes_both_ways(net);
     let is_balanced = are_balanced(net, cells);
     let is_even = paired && is_balanced && are_even(net, cells);
     let mut ground = Ground {

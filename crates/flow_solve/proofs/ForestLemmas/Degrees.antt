@@ -1,7 +1,7 @@
 -- How many arcs leave and enter each node, and what that says of sets of nodes.
 use Rattle.std.proofs.Common.{◌≡◌, ◌≢◌, ℕ, suc, ◌+◌, ◌-◌, ◌/◌, ◌≤◌, ◌<◌, Bool, true, false, cond, not, ◌&&◌, eqb}
 use Rattle.std.proofs.Common.{List, [], ◌∷◌, length, take, drop, set, get_or, refl, ◌∙◌, sym, ap, inl, inr, eq-eqb}
-use Rattle.std.proofs.Common.{get_or-set_same, get_or-set_other, length-take, length-drop, arith}
+use Rattle.std.proofs.Common.{get_or-set_same, get_or-set_other, length-set, length-take, length-drop, arith}
 use Rattle.std.specs.Prelude.{slice_index}
 use Rattle.std.specs.List.{count_by}
 use Rattle.std.proofs.lemmas.Bool.{cases_eq, ne_eqb}
@@ -17,7 +17,7 @@ use Rattle.flow_net.specs.NodeSets.{just}
 use Rattle.flow_net.specs.Cuts.{leaves}
 use Rattle.flow_net.specs.Connectivity.{leaving, crossing, IsProper}
 use Rattle.flow_net.specs.Forests.{IsEven, IsEitherWay}
-use Rattle.flow_net.proofs.Complements.{count_by_agree, leaves_others, crossing_sum}
+use Rattle.flow_net.proofs.Complements.{count_by_agree, leaves_others, enters_others, crossing_sum}
 use Rattle.flow_net.proofs.Connections.{just_self}
 use Rattle.flow_net.proofs.NodeCounts.{even_sets}
 use Rattle.flow_solve.specs.Forests.{AreDegrees, AreOpposite, IsEulerian}
@@ -103,6 +103,82 @@ module _ (nodes : ℕ) (arcs : List Arc) (i : ℕ) (a : Arc) (out into : List �
             (λ e. ap (enters (just (v + 1))) (sym at) ∙ j.0 (omega arith))
             (λ n. ap (enters (just (v + 1))) (sym at) ∙ j.1 (λ f. n (omega arith))));
       }
+
+-- cell v - 1 counts the arcs that leave node v or enter it
+abbrev pub AreMet : ℕ → List Arc → List ℕ → Type 0
+AreMet nodes arcs cells = (v : ℕ) → v < nodes
+    → slice_index cells v ≡ count_by (leaves (just (v + 1))) arcs + count_by (enters (just (v + 1))) arcs
+
+module _ (nodes : ℕ) (arcs : List Arc) (i : ℕ) (a : Arc) (cells : List ℕ) (l : i < length arcs)
+    (at : a ≡ get_or arcs i no_arc) (met : AreMet nodes (take i arcs) cells) where
+  pub met_loop : a.src ≡ a.dst → AreMet nodes (take (i + 1) arcs) cells
+  met_loop e = λ v h.
+      (let s = loop_stays a (just (v + 1)) e in
+      omega (
+        arith,
+        met v h,
+        count_by_more_no (leaves (just (v + 1))) arcs i no_arc l (ap (leaves (just (v + 1))) (sym at) ∙ s.0),
+        count_by_more_no (enters (just (v + 1))) arcs i no_arc l (ap (enters (just (v + 1))) (sym at) ∙ s.1),
+      ))
+
+  -- an arc between two nodes counts at either
+  pub met_more : length cells ≡ nodes → IsArcWithin nodes a → a.src ≢ a.dst → (once : List ℕ)
+      → once ≡ set cells (a.src - 1) (slice_index cells (a.src - 1) + 1)
+      → AreMet nodes (take (i + 1) arcs) (set once (a.dst - 1) (slice_index once (a.dst - 1) + 1))
+  met_more size w ne once is = λ v h.
+      (let src_least = w.src_least in
+      let src_most = w.src_most in
+      let dst_least = w.dst_least in
+      let dst_most = w.dst_most in
+      let x = slice_index cells (a.src - 1) + 1 in
+      let y = slice_index once (a.dst - 1) + 1 in
+      let long : length once ≡ nodes = ap length is ∙ length-set cells (a.src - 1) x ∙ size in
+      let out = leaves_just a (v + 1) ne in
+      let in_at = enters_just a (v + 1) ne in
+      let other : (u : ℕ) → u ≢ a.src - 1 → slice_index once u ≡ slice_index cells u =
+      λ u d. ap (λ (z : List ℕ). slice_index z u) is ∙ get_or-set_other cells (a.src - 1) u x 0 d in
+      elim (cases_eq v (a.dst - 1)) [
+        | inl e ↦
+            omega (
+              arith,
+              ap (slice_index (set once (a.dst - 1) y)) e,
+              get_or-set_same once (a.dst - 1) y 0 (omega (arith, long)),
+              other (a.dst - 1) (λ f. ne (omega arith)),
+              ap (slice_index cells) e,
+              met v h,
+              count_by_more_no (leaves (just (v + 1))) arcs i no_arc l
+                  (ap (leaves (just (v + 1))) (sym at) ∙ out.1 (λ f. ne (omega arith))),
+              count_by_more_yes (enters (just (v + 1))) arcs i no_arc l
+                  (ap (enters (just (v + 1))) (sym at) ∙ in_at.0 (omega arith)),
+            )
+        | inr d ↦ elim (cases_eq v (a.src - 1)) [
+          | inl e ↦
+              omega (
+                arith,
+                get_or-set_other once (a.dst - 1) v y 0 d,
+                ap (λ (z : List ℕ). slice_index z v) is,
+                ap (slice_index (set cells (a.src - 1) x)) e,
+                get_or-set_same cells (a.src - 1) x 0 (omega (arith, size)),
+                ap (slice_index cells) e,
+                met v h,
+                count_by_more_yes (leaves (just (v + 1))) arcs i no_arc l
+                    (ap (leaves (just (v + 1))) (sym at) ∙ out.0 (omega arith)),
+                count_by_more_no (enters (just (v + 1))) arcs i no_arc l
+                    (ap (enters (just (v + 1))) (sym at) ∙ in_at.1 (λ f. d (omega arith))),
+              )
+          | inr n ↦
+              omega (
+                arith,
+                get_or-set_other once (a.dst - 1) v y 0 d,
+                other v n,
+                met v h,
+                count_by_more_no (leaves (just (v + 1))) arcs i no_arc l
+                    (ap (leaves (just (v + 1))) (sym at) ∙ out.1 (λ f. n (omega arith))),
+                count_by_more_no (enters (just (v + 1))) arcs i no_arc l
+                    (ap (enters (just (v + 1))) (sym at) ∙ in_at.1 (λ f. d (omega arith))),
+              )
+        ]
+      ])
 
 -- ---- a node alone, and all but a node
 
@@ -221,6 +297,27 @@ module _ (net : Net) (o : AreOpposite net.arcs) where
         sum_by-append (λ a. cond (leaves X a) 1 0) (take half net.arcs) (drop half net.arcs),
         same_counts X (take half net.arcs) (drop half net.arcs) sizes back,
       )
+
+  -- and so does what enters it: all but the set
+  enters_both : (X : ℕ → Bool) → count_by (enters X) net.arcs
+      ≡ count_by (leaves X) (take half net.arcs) + count_by (enters X) (take half net.arcs)
+  enters_both X =
+      let rest : ℕ → Bool = λ v. not (X v) in
+      omega (
+        arith,
+        count_by_agree (leaves rest) (enters X) net.arcs (leaves_others X),
+        leaves_both rest,
+        count_by_agree (leaves rest) (enters X) (take half net.arcs) (leaves_others X),
+        count_by_agree (enters rest) (leaves X) (take half net.arcs) (enters_others X),
+      )
+
+  -- counts at either end of the first half are both degrees
+  pub met_degrees : (cells : List ℕ) → AreMet net.nodes (take half net.arcs) cells
+      → AreDegrees net.nodes net.arcs cells cells
+  met_degrees cells met = record {
+    leaving = λ v h. met v h ∙ sym (leaves_both (just (v + 1)));
+    entering = λ v h. met v h ∙ sym (enters_both (just (v + 1)));
+  }
 
   leaving_crossing : (X : ℕ → Bool) → leaving net X ≡ crossing one_way X
   leaving_crossing X = omega (arith, leaves_both X, crossing_sum X one_way.arcs)

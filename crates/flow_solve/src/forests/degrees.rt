@@ -11,8 +11,34 @@ ghost use Rattle.flow_solve.specs.Forests.{AreDegrees, AreOpposite, IsEulerian};
 
 use flow_net::Network;
 
+/// Whether the second half of the arcs are those of the first turned round, in their order. Then as many arcs leave
+/// each node as enter it, and these are counted, self-loops left out.
+fn count_both_ways(net: &Network, out: &mut [u32]) -> bool
+    requires out { length out.old ≡ net.now.nodes }
+    ensures size { length out.new ≡ net.now.nodes }
+    ensures opposite { IsTrue result → AreOpposite net.now.arcs }
+    ensures degrees { IsTrue result → AreDegrees net.now.nodes net.now.arcs out.new out.new }
+{
+    // Brings the network's limits, `IsNet`, into the proof.
+    let _ = net.nodes();
+    let half = net.len() / 2;
+    out.fill(0);
+    for i in 0..half {
+        let there = net.arc(i);
+        let back = net.arc(half + i);
+        if there.src != back.dst || there.dst != back.src {
+            return false;
+        }
+        if there.src != there.dst {
+            out[there.src as usize - 1] += 1;
+            out[there.dst as usize - 1] += 1;
+        }
+    }
+    net.len() % 2 == 0
+}
+
 /// Counts the arcs that leave and that enter each node, self-loops left out.
-fn count_degrees(net: &Network, out: &mut [u32], into: &mut [u32])
+fn count_one_way(net: &Network, out: &mut [u32], into: &mut [u32])
     requires out { length out.old ≡ net.now.nodes }
     requires into { length into.old ≡ net.now.nodes }
     ensures { AreDegrees net.now.nodes net.now.arcs out.new into.new }
@@ -30,6 +56,23 @@ fn count_degrees(net: &Network, out: &mut [u32], into: &mut [u32])
     }
 }
 
+/// Counts the arcs that leave and that enter each node, self-loops left out. Answers whether each arc is there both
+/// ways, its opposite half of the arcs away.
+fn count_degrees(net: &Network, out: &mut [u32], into: &mut [u32]) -> bool
+    requires out { length out.old ≡ net.now.nodes }
+    requires into { length into.old ≡ net.now.nodes }
+    ensures opposite { IsTrue result → AreOpposite net.now.arcs }
+    ensures degrees { AreDegrees net.now.nodes net.now.arcs out.new into.new }
+{
+    let is_paired = count_both_ways(net, out);
+    if is_paired {
+        into.copy_from_slice(out);
+    } else {
+        count_one_way(net, out, into);
+    }
+    is_paired
+}
+
 /// The least of some numbers, of which there is at least one.
 fn least_of(numbers: &[u32]) -> u32
     requires { 0 < length numbers.now }
@@ -45,6 +88,24 @@ fn least_of(numbers: &[u32]) -> u32
     least
 }
 
+/// The least number of arcs that leave a node, or that enter one, and whether each arc is there both ways, its opposite
+/// half of the arcs away. The cells are as [`least_degree`] leaves them.
+pub(crate) fn least_and_paired(net: &Network, cells: &mut [u32]) -> (u64, bool)
+    requires cells { 2 * net.now.nodes ≤ length cells.old }
+    ensures reached { (X : ℕ → Bool) × IsProper net.now X × (leaving net.now X ≡ result.0) }
+    ensures least { (v : ℕ) → IsNode net.now v → result.0 ≤ leaving net.now (just v) }
+    ensures opposite { IsTrue result.1 → AreOpposite net.now.arcs }
+    ensures degrees { AreDegrees net.now.nodes net.now.arcs cells.new (drop net.now.nodes cells.new) }
+{
+    let n = net.nodes() as usize;
+    let (counts, _rest) = cells.split_at_mut(2 * n);
+    let (out, into) = counts.split_at_mut(n);
+    let is_paired = count_degrees(net, out, into);
+    let leaving = least_of(out);
+    let entering = least_of(into);
+    (leaving.min(entering) as u64, is_paired)
+}
+
 /// The least number of arcs that leave a node, or that enter one: the connectivity is no greater. The first cells then
 /// have how many leave each node, and those behind them how many enter each.
 pub fn least_degree(net: &Network, cells: &mut [u32]) -> u64
@@ -53,13 +114,7 @@ pub fn least_degree(net: &Network, cells: &mut [u32]) -> u64
     ensures least { (v : ℕ) → IsNode net.now v → result ≤ leaving net.now (just v) }
     ensures degrees { AreDegrees net.now.nodes net.now.arcs cells.new (drop net.now.nodes cells.new) }
 {
-    let n = net.nodes() as usize;
-    let (counts, _rest) = cells.split_at_mut(2 * n);
-    let (out, into) = counts.split_at_mut(n);
-    count_degrees(net, out, into);
-    let leaving = least_of(out);
-    let entering = least_of(into);
-    leaving.min(entering) as u64
+    least_and_paired(net, cells).0
 }
 
 /// Whether as many arcs leave each node as enter it: as many then leave each set of nodes as enter it.
@@ -73,21 +128,6 @@ pub fn are_balanced(net: &Network, degrees: &[u32]) -> bool
     let (leaving, rest) = degrees.split_at(n);
     let (entering, _) = rest.split_at(n);
     leaving == entering
-}
-
-/// Whether the second half of the arcs are those of the first turned round, in their order.
-pub(crate) fn goes_both_ways(net: &Network) -> bool
-    ensures { IsTrue result → AreOpposite net.now.arcs }
-{
-    let half = net.len() / 2;
-    for i in 0..half {
-        let there = net.arc(i);
-        let back = net.arc(half + i);
-        if there.src != back.dst || there.dst != back.src {
-            return false;
-        }
-    }
-    net.len() % 2 == 0
 }
 
 /// Whether an even number of arcs leaves each set of nodes, as the degrees show it in a network both ways.

@@ -29,7 +29,7 @@ pub(crate) struct Budgeted {
 struct Search {
     /// The place in its queue of the node whose half-arcs come next.
     at: u32,
-    /// Where those nodes begin in the queue that it has seen by way of the arc at `place`. No path leads from others.
+    /// Where those nodes begin in the queue that it has seen by way of the arc at `place`. Those before led nowhere.
     from: u32,
     /// How many nodes it has seen: the end of its queue.
     tail: u32,

@@ -2,8 +2,8 @@
 use Rattle.std.proofs.Common.{arith}
 use Rattle.flow_net.proofs.Zips.{arc_within}
 use Rattle.flow_solve.proofs.ForestLemmas.Degrees.{degrees_loop, degrees_more}
-use Rattle.flow_solve.proofs.forests.degrees.count_degrees.Goals as goal
-use Rattle.flow_solve.proofs.forests.degrees.count_degrees.Goals.{then-arc, else-arc}
+use Rattle.flow_solve.proofs.forests.degrees.count_one_way.Goals as goal
+use Rattle.flow_solve.proofs.forests.degrees.count_one_way.Goals.{then-arc, else-arc}
 
 pub loop-i-preserved : goal.loop-i-preserved
 loop-i-preserved c =

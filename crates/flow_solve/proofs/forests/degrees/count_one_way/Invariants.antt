@@ -1,7 +1,7 @@
 -- The degrees by the arcs so far.
 use Rattle.std.proofs.Common.{◌≡◌, take, length}
 use Rattle.flow_solve.specs.Forests.{AreDegrees}
-use Rattle.flow_solve.proofs.forests.degrees.count_degrees.Given as goal
+use Rattle.flow_solve.proofs.forests.degrees.count_one_way.Given as goal
 
 abbrev pub invariant-loop-i : goal.invariant-loop-i
 invariant-loop-i l = record {

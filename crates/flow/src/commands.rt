@@ -1,6 +1,6 @@
 //! The commands that the program understands, with the help that it prints for each.
 
-ghost use Rattle.std.specs.Prelude.{◌≡◌, Some, codes};
+ghost use Rattle.std.specs.Prelude.{◌≡◌, Some};
 
 use clap::{Arg, ArgAction, Command};
 use std::alloc::{AllocError, Global};
@@ -113,102 +113,146 @@ Example, with the problem and the solution in files:
   $ flow check net.max net.sol
   not-maximal 1";
 
+/// A file that a command reads, and what the help says of it.
+struct FileWords<'a> {
+    /// What it is asked for by.
+    id: &'a str,
+    /// What it is called in the help.
+    name: &'a str,
+    /// Whether it has to be named.
+    is_required: bool,
+    /// What it is, in short.
+    about: &'a str,
+    /// What it is, at length.
+    long_about: &'a str,
+}
+
+/// A command, and what the help says of it.
+struct CommandWords<'a> {
+    /// Its name.
+    name: &'a str,
+    /// What it does, in short.
+    about: &'a str,
+    /// What it does, at length.
+    long_about: &'a str,
+    /// What its help ends with.
+    statuses: &'a str,
+    /// The names of its flags, each with what it does.
+    flags: &'a [(&'a str, &'a str)],
+    /// The files that it reads, in their order.
+    files: &'a [FileWords<'a>],
+}
+
+/// The file of a command that reads a problem.
+const PROBLEM_FILE: FileWords<'static> = FileWords {
+    id: "problem",
+    name: "FILE",
+    is_required: false,
+    about: "The problem; standard input where no file is named",
+    long_about: PROBLEM,
+};
+
+/// The files of `check`.
+const CHECKED_FILES: &[FileWords<'static>] = &[
+    FileWords {
+        id: "problem",
+        name: "PROBLEM",
+        is_required: true,
+        about: "The problem",
+        long_about: PROBLEM,
+    },
+    FileWords {
+        id: "solution",
+        name: "SOLUTION",
+        is_required: false,
+        about: "The solution; standard input where no file is named",
+        long_about: SOLUTION,
+    },
+];
+
+/// The commands, in the order of the help.
+const COMMANDS: &[CommandWords<'static>] = &[
+    CommandWords {
+        name: "solve",
+        about: "Print a maximum flow",
+        long_about: SOLVE,
+        statuses: STATUSES,
+        flags: &[("value", "Print the value alone")],
+        files: &[PROBLEM_FILE],
+    },
+    CommandWords {
+        name: "cut",
+        about: "Print a minimum cut",
+        long_about: CUT,
+        statuses: STATUSES,
+        flags: &[
+            (
+                "arcs",
+                "Print the arcs that leave the source side too, as lines a SRC DST CAP",
+            ),
+            ("sink", "Print the minimum cut nearest the sinks instead"),
+        ],
+        files: &[PROBLEM_FILE],
+    },
+    CommandWords {
+        name: "connect",
+        about: "Print the edge connectivity",
+        long_about: CONNECT,
+        statuses: STATUSES,
+        flags: &[
+            (
+                "undirected",
+                "Count the arc lines with exactly one end in the set",
+            ),
+            (
+                "pair",
+                "Only sets with every source inside and every sink outside",
+            ),
+        ],
+        files: &[PROBLEM_FILE],
+    },
+    CommandWords {
+        name: "check",
+        about: "Check a solution of a problem",
+        long_about: CHECK,
+        statuses: CHECK_STATUSES,
+        flags: &[(
+            "feasible",
+            "Print feasible VALUE and don't ask whether a greater flow exists",
+        )],
+        files: CHECKED_FILES,
+    },
+];
+
 /// All commands.
 ///
 /// # Errors
 ///
 /// `AllocError` where memory was refused.
 pub fn commands<'a>(alloc: Global) -> Result<Command<'a>, AllocError> {
-    let flow = Command::new(alloc, "flow")
+    let mut flow = Command::new(alloc, "flow")
         .version("0.1.0")
         .about("Maximum flows, minimum cuts and edge connectivity of networks in the DIMACS format")
         .after_help(ALL_STATUSES);
-    flow.subcommand(solve(alloc)?)?
-        .subcommand(cut(alloc)?)?
-        .subcommand(connect(alloc)?)?
-        .subcommand(check(alloc)?)
+    for words in COMMANDS {
+        flow = flow.subcommand(command(alloc, words)?)?;
+    }
+    Ok(flow)
 }
 
-/// A command with its help: what it does in short and at length, and what ends it.
-fn described<'a>(
-    alloc: Global,
-    name: &'a str,
-    about: &'a str,
-    long_about: &'a str,
-    statuses: &'a str,
-) -> Command<'a> {
-    Command::new(alloc, name)
-        .about(about)
-        .long_about(long_about)
-        .after_help(statuses)
-}
-
-/// `flow solve [--value] [FILE]`
-fn solve<'a>(alloc: Global) -> Result<Command<'a>, AllocError> {
-    described(alloc, "solve", "Print a maximum flow", SOLVE, STATUSES)
-        .arg(flag(alloc, "value", "Print the value alone"))?
-        .arg(problem(alloc))
-}
-
-/// `flow cut [--arcs] [--sink] [FILE]`
-fn cut<'a>(alloc: Global) -> Result<Command<'a>, AllocError> {
-    described(alloc, "cut", "Print a minimum cut", CUT, STATUSES)
-        .arg(flag(
-            alloc,
-            "arcs",
-            "Print the arcs that leave the source side too, as lines a SRC DST CAP",
-        ))?
-        .arg(flag(
-            alloc,
-            "sink",
-            "Print the minimum cut nearest the sinks instead",
-        ))?
-        .arg(problem(alloc))
-}
-
-/// `flow connect [--undirected] [--pair] [FILE]`
-fn connect<'a>(alloc: Global) -> Result<Command<'a>, AllocError> {
-    described(
-        alloc,
-        "connect",
-        "Print the edge connectivity",
-        CONNECT,
-        STATUSES,
-    )
-    .arg(flag(
-        alloc,
-        "undirected",
-        "Count the arc lines with exactly one end in the set",
-    ))?
-    .arg(flag(
-        alloc,
-        "pair",
-        "Only sets with every source inside and every sink outside",
-    ))?
-    .arg(problem(alloc))
-}
-
-/// `flow check [--feasible] PROBLEM [SOLUTION]`
-fn check<'a>(alloc: Global) -> Result<Command<'a>, AllocError> {
-    described(
-        alloc,
-        "check",
-        "Check a solution of a problem",
-        CHECK,
-        CHECK_STATUSES,
-    )
-    .arg(flag(
-        alloc,
-        "feasible",
-        "Print feasible VALUE and don't ask whether a greater flow exists",
-    ))?
-    .arg(
-        problem(alloc)
-            .value_name("PROBLEM")
-            .required(true)
-            .help("The problem"),
-    )?
-    .arg(solution(alloc))
+/// A command with its help, its flags and its files.
+fn command<'a>(alloc: Global, words: &CommandWords<'a>) -> Result<Command<'a>, AllocError> {
+    let mut command = Command::new(alloc, words.name)
+        .about(words.about)
+        .long_about(words.long_about)
+        .after_help(words.statuses);
+    for &(name, about) in words.flags {
+        command = command.arg(flag(alloc, name, about))?;
+    }
+    for file in words.files {
+        command = command.arg(file_named(alloc, file))?;
+    }
+    Ok(command)
 }
 
 /// A flag that is given by its name.
@@ -223,26 +267,15 @@ fn flag<'a>(alloc: Global, name: &'a str, help: &'a str) -> Arg<'a>
         .help(help)
 }
 
-/// The file of a problem.
-fn problem<'a>(alloc: Global) -> Arg<'a>
-    ensures id { result.id.now ≡ codes "problem" }
+/// A file that is named.
+fn file_named<'a>(alloc: Global, words: &FileWords<'a>) -> Arg<'a>
+    ensures id { result.id ≡ words.now.id }
     ensures action { result.action ≡ Some ArgAction.Set }
 {
-    Arg::new(alloc, "problem")
-        .value_name("FILE")
+    Arg::new(alloc, words.id)
+        .value_name(words.name)
         .action(ArgAction::Set)
-        .help("The problem; standard input where no file is named")
-        .long_help(PROBLEM)
-}
-
-/// The file of a solution.
-fn solution<'a>(alloc: Global) -> Arg<'a>
-    ensures id { result.id.now ≡ codes "solution" }
-    ensures action { result.action ≡ Some ArgAction.Set }
-{
-    Arg::new(alloc, "solution")
-        .value_name("SOLUTION")
-        .action(ArgAction::Set)
-        .help("The solution; standard input where no file is named")
-        .long_help(SOLUTION)
+        .required(words.is_required)
+        .help(words.about)
+        .long_help(words.long_about)
 }

@@ -1,5 +1,5 @@
 -- Connectivity by solves with unit capacities.
-use Rattle.std.proofs.Common.{◌≡◌, ℕ, ◌≤◌, Bool, true, false, cond, not, List, [], ◌∷◌, refl, ◌∙◌, sym}
+use Rattle.std.proofs.Common.{◌≡◌, ℕ, ◌≤◌, Bool, true, false, cond, List, [], ◌∷◌, refl, ◌∙◌, sym}
 use Rattle.std.proofs.Common.{ap, inl, inr, eq-eqb, ◌↔◌, ◌≢◌, ◌⊎◌, arith}
 use Rattle.std.specs.Prelude.{map}
 use Rattle.std.specs.List.{AllByRecursion, count_by}

@@ -1,12 +1,12 @@
 -- Half-arcs: the two of an arc, and what a push does to the residual capacities.
-use Rattle.std.proofs.Common.{◌≡◌, ◌≢◌, ℕ, ◌+◌, ◌-◌, ◌*◌, ◌/◌, ◌%◌, ◌<◌, ◌≤◌, Bool, true, false, not, cond, eqb, List}
+use Rattle.std.proofs.Common.{◌≡◌, ◌≢◌, ℕ, ◌+◌, ◌-◌, ◌/◌, ◌%◌, ◌<◌, ◌≤◌, Bool, true, false, not, cond, eqb, List}
 use Rattle.std.proofs.Common.{length, arith, refl, ap, subst, sym, ◌∙◌, inl, inr, get_or-set_same, get_or-set_other}
 use Rattle.std.proofs.Common.{eq-eqb}
 use Rattle.std.specs.Prelude.{slice_index}
 use Rattle.std.proofs.lemmas.Bool.{cases_eq, ne_eqb}
 use Rattle.flow_net.specs.declared.networks.Arc.{Arc}
 use Rattle.flow_net.specs.Nets.{Net, arc_at}
-use Rattle.flow_net.specs.Flows.{Fits, HasNoLoops}
+use Rattle.flow_net.specs.Flows.{HasNoLoops}
 use Rattle.flow_net.specs.Residual.{half_room, half_pushed, tail_of, head_of, residual, pushed}
 
 -- ---- the two half-arcs of an arc

@@ -3,16 +3,16 @@ use Rattle.std.specs.Prelude.{◌≡◌, ℕ, zero, suc, ◌+◌, ◌-◌, ◌*�
 use Rattle.std.specs.Prelude.{List, length, slice_index, slice_index_or, ◌≢◌, Option, MatchOption, IsTrue, IsFalse}
 use Rattle.std.specs.Prelude.{◌∷◌, nat_le, if◌then◌else◌}
 use Rattle.std.specs.Int.{bit_at}
-use Rattle.std.specs.List.{count_by}
+use Rattle.std.specs.List.{All}
 use Rattle.flow_net.specs.declared.networks.Arc.{Arc}
 use Rattle.flow_net.specs.Nets.{Net, IsNode, arc_at}
 use Rattle.flow_net.specs.Arcs.{no_arc, enters}
 use Rattle.flow_net.specs.NodeSets.{just}
 use Rattle.flow_net.specs.Flows.{out_of, into, IsFeasible}
 use Rattle.flow_net.specs.Connectivity.{leaving, IsProper}
-use Rattle.flow_net.specs.Cuts.{leaves, IsCut}
+use Rattle.flow_net.specs.Cuts.{IsCut}
 use Rattle.flow_net.specs.Forests.{entering, AreEntered, HasSpread, IsEven, IsEitherWay, turned}
-use Rattle.flow_net.specs.Limits.{IsNet}
+use Rattle.flow_net.specs.Limits.{IsNet, IsArcWithin}
 use Rattle.flow_net.specs.Residual.{Table, residual}
 use Rattle.flow_solve.specs.declared.forests.Ground.{Ground}
 use Rattle.flow_solve.specs.declared.forests.rows.TheConstants.{TAKEN}
@@ -32,10 +32,14 @@ pub record IsEulerian (net : Net) : Type 0 where
   pub even : (X : ℕ → Bool) → IsEven (leaving net X)
   pub either_way : IsEitherWay net
 
+-- cell v - 1 counts the arcs that leave node v
+abbrev pub AreLeaving : Net → List ℕ → Type 0
+AreLeaving net counts = (i : ℕ) → i < net.nodes → slice_index counts i ≡ leaving net (just (i + 1))
+
 -- cell v - 1 counts the arcs that leave node v, and the arcs that enter it
-pub record AreDegrees (nodes : ℕ) (arcs : List Arc) (out into : List ℕ) : Type 0 where
-  pub leaving : (i : ℕ) → i < nodes → slice_index out i ≡ count_by (leaves (just (i + 1))) arcs
-  pub entering : (i : ℕ) → i < nodes → slice_index into i ≡ count_by (enters (just (i + 1))) arcs
+pub record AreDegrees (net : Net) (out into : List ℕ) : Type 0 where
+  pub leaving : AreLeaving net out
+  pub entering : (i : ℕ) → i < net.nodes → slice_index into i ≡ entering net (just (i + 1))
 
 -- the second half of the arcs are those of the first turned round, in their order
 pub record AreOpposite (arcs : List Arc) : Type 0 where
@@ -67,14 +71,6 @@ pub record HasMarked (w : ℕ) (before after : List ℕ) : Type 0 where
   pub here : IsTrue (marked_in after w)
   pub others : (v : ℕ) → v ≢ w → marked_in after v ≡ marked_in before v
 
--- the highest bit of a cell tells whether a forest has taken the arc of the cell
-abbrev pub taken_in : List ℕ → ℕ → Bool
-taken_in rows i = nat_le TAKEN (slice_index rows i)
-
--- arcs that are taken stay so
-abbrev pub KeepsTaken : List ℕ → List ℕ → Type 0
-KeepsTaken before after = (i : ℕ) → IsTrue (taken_in before i) → IsTrue (taken_in after i)
-
 -- rows stand one after the other
 abbrev pub Rises : List ℕ → Type 0
 Rises first = (u v : ℕ) → u ≤ v → v < length first → slice_index first u ≤ slice_index first v
@@ -91,34 +87,27 @@ node_told numbered net k = if numbered then (slice_index_or (no_arc ∷ net.arcs
 abbrev pub IsBetween : Arc → ℕ → ℕ → Type 0
 IsBetween a v w = (a.src ≡ v) × (a.dst ≡ w)
 
--- Rows tell of a network: its arcs are those that lead from the node of a row to one that a cell of the row tells of,
--- and as many of them leave each set as of another's.
-pub record Tells (numbered : Bool) (net : Net) (first rows : List ℕ) (told : Net) : Type 0 where
-  pub limits : IsNet told
-  pub nodes : told.nodes ≡ net.nodes
-  pub size : length told.arcs ≡ length rows
-  pub same : (X : ℕ → Bool) → leaving told X ≡ leaving net X
-  pub arc : (v i : ℕ) → StandsIn first v i → 1 ≤ node_told numbered net (slice_index rows i % TAKEN)
-      → IsBetween (arc_at told i) v (node_told numbered net (slice_index rows i % TAKEN))
+-- Rows tell of a network, whose arcs are those that no forest has taken: each leads from the node of a row to one that a
+-- cell of the row tells of. The highest bit of a cell tells that its arc is taken.
+pub record Tells (numbered : Bool) (net : Net) (first rows : List ℕ) (left : Net) : Type 0 where
+  pub within : All (IsArcWithin net.nodes) left.arcs
+  pub size : length left.arcs ≡ length rows
+  pub arc : (v i : ℕ) → StandsIn first v i → slice_index rows i < TAKEN → 1 ≤ node_told numbered net (slice_index rows i)
+      → IsBetween (arc_at left i) v (node_told numbered net (slice_index rows i))
 
--- Rows that are being filled tell of a network: an empty cell of a self-loop, and any other of an arc from the node of
--- its row to the node that it has.
-pub record AreRows (n : ℕ) (first cells : List ℕ) (told : Net) : Type 0 where
-  pub limits : IsNet told
-  pub nodes : told.nodes ≡ n
-  pub size : length told.arcs ≡ length cells
-  pub plain : (i : ℕ) → slice_index cells i < TAKEN
+-- while they are filled, an empty cell tells of a self-loop
+pub record AreRows (net : Net) (first cells : List ℕ) (told : Net) : Type 0 where
+  pub tells : Tells false net first cells told
   pub empty : (i : ℕ) → slice_index cells i ≡ 0 → (arc_at told i).src ≡ (arc_at told i).dst
-  pub arc : (v i : ℕ) → StandsIn first v i → 1 ≤ slice_index cells i → IsBetween (arc_at told i) v (slice_index cells i)
 
--- an arc leads out of a set, from one of the nodes behind a node and up to another
-abbrev pub leaves_from : ℕ → ℕ → (ℕ → Bool) → Arc → Bool
-leaves_from low high X a = leaves X a && nat_le (suc low) a.src && nat_le a.src high
+-- an arc enters a set, from one of the nodes behind a node and up to another
+abbrev pub enters_from : ℕ → ℕ → (ℕ → Bool) → Arc → Bool
+enters_from low high Y a = enters Y a && nat_le (suc low) a.src && nat_le a.src high
 
--- rows tell of more arcs than before: of so many more that leave a set
-abbrev pub AreMore : ℕ → List ℕ → List ℕ → List ℕ → ((ℕ → Bool) → ℕ) → Type 0
-AreMore n first before after count = (told : Net) → AreRows n first before told
-    → (more : Net) × AreRows n first after more × ((X : ℕ → Bool) → leaving more X ≡ leaving told X + count X)
+-- rows tell of more arcs than before: of so many more that enter a set
+abbrev pub AreMore : Net → List ℕ → List ℕ → List ℕ → ((ℕ → Bool) → ℕ) → Type 0
+AreMore net first before after count = (told : Net) → AreRows net first before told
+    → (more : Net) × AreRows net first after more × ((Y : ℕ → Bool) → entering more Y ≡ entering told Y + count Y)
 
 -- where forests grow: a network, a root, where each row begins, and marks for each node
 pub record IsStand (ground : Ground) (done : List ℕ) : Type 0 where
@@ -152,15 +141,15 @@ at_stage ground ready = record {
   dense = ground.dense;
 }
 
--- c forests are done, and have taken arcs of which the rows tell
+-- c forests are done, and rows tell of the arcs that are left
 abbrev pub IsGrove : Ground → ℕ → ℕ → List ℕ → Type 0
-IsGrove ground k c rows = (told : Net) × Tells ground.numbered (ahead ground) ground.first.now rows told
-    × AreEntered told ground.root k (taken_in rows) c
+IsGrove ground k c rows = (left : Net) × Tells ground.numbered (ahead ground) ground.first.now rows left
+    × AreEntered (ahead ground) left ground.root k c
 
 -- c forests are done, and one more has come to some nodes
 abbrev pub IsForest : Ground → ℕ → ℕ → List ℕ → List ℕ → Type 0
-IsForest ground k c rows done = (told : Net) × Tells ground.numbered (ahead ground) ground.first.now rows told
-    × HasSpread told ground.root k (taken_in rows) c (marked_in done)
+IsForest ground k c rows done = (left : Net) × Tells ground.numbered (ahead ground) ground.first.now rows left
+    × HasSpread (ahead ground) left ground.root k c (marked_in done)
 
 -- it has come to more
 pub record HasGrown (ground : Ground) (rows done rows' done' : List ℕ) : Type 0 where

@@ -1,7 +1,7 @@
 -- How many arcs leave and enter each node, and what that says of sets of nodes.
 use Rattle.std.proofs.Common.{◌≡◌, ◌≢◌, ℕ, suc, ◌+◌, ◌-◌, ◌/◌, ◌≤◌, ◌<◌, Bool, true, false, cond, not, ◌&&◌, eqb}
 use Rattle.std.proofs.Common.{List, [], ◌∷◌, length, take, drop, set, get_or, refl, ◌∙◌, sym, ap, inl, inr, eq-eqb}
-use Rattle.std.proofs.Common.{get_or-set_same, get_or-set_other, length-set, length-take, length-drop, arith}
+use Rattle.std.proofs.Common.{get_or-set_same, get_or-set_other, length-take, length-drop, arith}
 use Rattle.std.specs.Prelude.{slice_index}
 use Rattle.std.specs.List.{count_by}
 use Rattle.std.proofs.lemmas.Bool.{cases_eq, ne_eqb}
@@ -16,7 +16,7 @@ use Rattle.flow_net.specs.Limits.{IsNet, IsArcWithin}
 use Rattle.flow_net.specs.NodeSets.{just}
 use Rattle.flow_net.specs.Cuts.{leaves}
 use Rattle.flow_net.specs.Connectivity.{leaving, crossing, IsProper}
-use Rattle.flow_net.specs.Forests.{IsEven, IsEitherWay}
+use Rattle.flow_net.specs.Forests.{entering, IsEven, IsEitherWay}
 use Rattle.flow_net.proofs.Complements.{count_by_agree, leaves_others, enters_others, crossing_sum}
 use Rattle.flow_net.proofs.Connections.{just_self}
 use Rattle.flow_net.proofs.NodeCounts.{even_sets}
@@ -24,11 +24,9 @@ use Rattle.flow_solve.specs.Forests.{AreDegrees, AreOpposite, IsEulerian}
 
 -- ---- degrees
 
--- a self-loop leaves no set and enters none
-loop_stays : (a : Arc) (X : ℕ → Bool) → a.src ≡ a.dst → (leaves X a ≡ false) × (enters X a ≡ false)
-loop_stays a X e =
-    let same : X a.src ≡ X a.dst = ap X e in
-    (neither (X a.src) (X a.dst) same, neither (X a.dst) (X a.src) (sym same))
+-- a self-loop leaves no set
+loop_stays : (a : Arc) (X : ℕ → Bool) → a.src ≡ a.dst → leaves X a ≡ false
+loop_stays a X e = neither (X a.src) (X a.dst) (ap X e)
   where
     neither : (p q : Bool) → p ≡ q → (p && not q) ≡ false
     neither p q h = grind arith
@@ -48,7 +46,7 @@ module _ (p : Arc → Bool) (arcs : List Arc) (i : ℕ) (l : i < length arcs) wh
         get_or-set_other cells w v (get_or cells w 0 + 1) 0 n ∙ e ∙ sym (count_by_more_no p arcs i no_arc l (off n))
   ]
 
--- an arc leaves the set of its first node alone, and enters that of its second
+-- an arc leaves the set of its first node alone
 leaves_just : (a : Arc) (v : ℕ) → a.src ≢ a.dst
     → (v ≡ a.src → leaves (just v) a ≡ true) × (v ≢ a.src → leaves (just v) a ≡ false)
 leaves_just a v ne = (
@@ -58,127 +56,30 @@ leaves_just a v ne = (
   λ n. (let p : eqb a.src v ≡ false = ne_eqb a.src v (λ f. n (sym f)) in rw p refl),
 )
 
-enters_just : (a : Arc) (v : ℕ) → a.src ≢ a.dst
-    → (v ≡ a.dst → enters (just v) a ≡ true) × (v ≢ a.dst → enters (just v) a ≡ false)
-enters_just a v ne = (
-  (λ e. (let p : eqb a.dst v ≡ true = eq-eqb a.dst v (sym e) in
-      let q : eqb a.src v ≡ false = ne_eqb a.src v (λ f. ne (f ∙ e)) in
-      rw (p, q) refl)),
-  λ n. (let p : eqb a.dst v ≡ false = ne_eqb a.dst v (λ f. n (sym f)) in rw p refl),
-)
+-- one arc more has been counted, where counts are those of the first arcs
+abbrev pub AreCounted : ℕ → List Arc → ℕ → List ℕ → Type 0
+AreCounted nodes arcs i counts =
+    (v : ℕ) → v < nodes → slice_index counts v ≡ count_by (leaves (just (v + 1))) (take i arcs)
 
-module _ (nodes : ℕ) (arcs : List Arc) (i : ℕ) (a : Arc) (out into : List ℕ) (l : i < length arcs)
-    (at : a ≡ get_or arcs i no_arc) (deg : AreDegrees nodes (take i arcs) out into) where
+module _ (nodes : ℕ) (arcs : List Arc) (i : ℕ) (a : Arc) (counts : List ℕ) (l : i < length arcs)
+    (at : a ≡ get_or arcs i no_arc) (counted : AreCounted nodes arcs i counts) where
   -- a self-loop adds to no degree
-  pub degrees_loop : a.src ≡ a.dst → AreDegrees nodes (take (i + 1) arcs) out into
-  degrees_loop e = record {
-    leaving = λ v h.
-        deg.leaving v h
-        ∙ sym (count_by_more_no (leaves (just (v + 1))) arcs i no_arc l
-        (ap (leaves (just (v + 1))) (sym at) ∙ (loop_stays a (just (v + 1)) e).0));
-    entering = λ v h.
-        deg.entering v h
-        ∙ sym (count_by_more_no (enters (just (v + 1))) arcs i no_arc l
-        (ap (enters (just (v + 1))) (sym at) ∙ (loop_stays a (just (v + 1)) e).1));
-  }
+  pub counted_loop : a.src ≡ a.dst → AreCounted nodes arcs (i + 1) counts
+  counted_loop e = λ v h.
+      counted v h
+      ∙ sym (count_by_more_no (leaves (just (v + 1))) arcs i no_arc l
+      (ap (leaves (just (v + 1))) (sym at) ∙ loop_stays a (just (v + 1)) e))
 
-  -- any other arc adds 1 to the degree out of its first node and to the degree into its second
-  pub degrees_more : length out ≡ nodes → length into ≡ nodes → IsArcWithin nodes a → a.src ≢ a.dst
-      → AreDegrees nodes (take (i + 1) arcs) (set out (a.src - 1) (slice_index out (a.src - 1) + 1))
-      (set into (a.dst - 1) (slice_index into (a.dst - 1) + 1))
-  degrees_more so si w ne =
-      let src_least = w.src_least in
-      let src_most = w.src_most in
-      let dst_least = w.dst_least in
-      let dst_most = w.dst_most in
-      record {
-        leaving = λ v h.
-            (let j = leaves_just a (v + 1) ne in
-            cell_more (leaves (just (v + 1))) arcs i l v (a.src - 1) out (omega arith) (deg.leaving v h)
-            (λ e. ap (leaves (just (v + 1))) (sym at) ∙ j.0 (omega arith))
-            (λ n. ap (leaves (just (v + 1))) (sym at) ∙ j.1 (λ f. n (omega arith))));
-        entering = λ v h.
-            (let j = enters_just a (v + 1) ne in
-            cell_more (enters (just (v + 1))) arcs i l v (a.dst - 1) into (omega arith) (deg.entering v h)
-            (λ e. ap (enters (just (v + 1))) (sym at) ∙ j.0 (omega arith))
-            (λ n. ap (enters (just (v + 1))) (sym at) ∙ j.1 (λ f. n (omega arith))));
-      }
-
--- cell v - 1 counts the arcs that leave node v or enter it
-abbrev pub AreMet : ℕ → List Arc → List ℕ → Type 0
-AreMet nodes arcs cells = (v : ℕ) → v < nodes
-    → slice_index cells v ≡ count_by (leaves (just (v + 1))) arcs + count_by (enters (just (v + 1))) arcs
-
-module _ (nodes : ℕ) (arcs : List Arc) (i : ℕ) (a : Arc) (cells : List ℕ) (l : i < length arcs)
-    (at : a ≡ get_or arcs i no_arc) (met : AreMet nodes (take i arcs) cells) where
-  pub met_loop : a.src ≡ a.dst → AreMet nodes (take (i + 1) arcs) cells
-  met_loop e = λ v h.
-      (let s = loop_stays a (just (v + 1)) e in
-      omega (
-        arith,
-        met v h,
-        count_by_more_no (leaves (just (v + 1))) arcs i no_arc l (ap (leaves (just (v + 1))) (sym at) ∙ s.0),
-        count_by_more_no (enters (just (v + 1))) arcs i no_arc l (ap (enters (just (v + 1))) (sym at) ∙ s.1),
-      ))
-
-  -- an arc between two nodes counts at either
-  pub met_more : length cells ≡ nodes → IsArcWithin nodes a → a.src ≢ a.dst → (once : List ℕ)
-      → once ≡ set cells (a.src - 1) (slice_index cells (a.src - 1) + 1)
-      → AreMet nodes (take (i + 1) arcs) (set once (a.dst - 1) (slice_index once (a.dst - 1) + 1))
-  met_more size w ne once is = λ v h.
+  -- any other arc adds 1 to the degree of the node that it leaves
+  pub counted_more : length counts ≡ nodes → IsArcWithin nodes a → a.src ≢ a.dst
+      → AreCounted nodes arcs (i + 1) (set counts (a.src - 1) (slice_index counts (a.src - 1) + 1))
+  counted_more size w ne = λ v h.
       (let src_least = w.src_least in
       let src_most = w.src_most in
-      let dst_least = w.dst_least in
-      let dst_most = w.dst_most in
-      let x = slice_index cells (a.src - 1) + 1 in
-      let y = slice_index once (a.dst - 1) + 1 in
-      let long : length once ≡ nodes = ap length is ∙ length-set cells (a.src - 1) x ∙ size in
-      let out = leaves_just a (v + 1) ne in
-      let in_at = enters_just a (v + 1) ne in
-      let other : (u : ℕ) → u ≢ a.src - 1 → slice_index once u ≡ slice_index cells u =
-      λ u d. ap (λ (z : List ℕ). slice_index z u) is ∙ get_or-set_other cells (a.src - 1) u x 0 d in
-      elim (cases_eq v (a.dst - 1)) [
-        | inl e ↦
-            omega (
-              arith,
-              ap (slice_index (set once (a.dst - 1) y)) e,
-              get_or-set_same once (a.dst - 1) y 0 (omega (arith, long)),
-              other (a.dst - 1) (λ f. ne (omega arith)),
-              ap (slice_index cells) e,
-              met v h,
-              count_by_more_no (leaves (just (v + 1))) arcs i no_arc l
-                  (ap (leaves (just (v + 1))) (sym at) ∙ out.1 (λ f. ne (omega arith))),
-              count_by_more_yes (enters (just (v + 1))) arcs i no_arc l
-                  (ap (enters (just (v + 1))) (sym at) ∙ in_at.0 (omega arith)),
-            )
-        | inr d ↦ elim (cases_eq v (a.src - 1)) [
-          | inl e ↦
-              omega (
-                arith,
-                get_or-set_other once (a.dst - 1) v y 0 d,
-                ap (λ (z : List ℕ). slice_index z v) is,
-                ap (slice_index (set cells (a.src - 1) x)) e,
-                get_or-set_same cells (a.src - 1) x 0 (omega (arith, size)),
-                ap (slice_index cells) e,
-                met v h,
-                count_by_more_yes (leaves (just (v + 1))) arcs i no_arc l
-                    (ap (leaves (just (v + 1))) (sym at) ∙ out.0 (omega arith)),
-                count_by_more_no (enters (just (v + 1))) arcs i no_arc l
-                    (ap (enters (just (v + 1))) (sym at) ∙ in_at.1 (λ f. d (omega arith))),
-              )
-          | inr n ↦
-              omega (
-                arith,
-                get_or-set_other once (a.dst - 1) v y 0 d,
-                other v n,
-                met v h,
-                count_by_more_no (leaves (just (v + 1))) arcs i no_arc l
-                    (ap (leaves (just (v + 1))) (sym at) ∙ out.1 (λ f. n (omega arith))),
-                count_by_more_no (enters (just (v + 1))) arcs i no_arc l
-                    (ap (enters (just (v + 1))) (sym at) ∙ in_at.1 (λ f. d (omega arith))),
-              )
-        ]
-      ])
+      let j = leaves_just a (v + 1) ne in
+      cell_more (leaves (just (v + 1))) arcs i l v (a.src - 1) counts (omega arith) (counted v h)
+      (λ e. ap (leaves (just (v + 1))) (sym at) ∙ j.0 (omega arith))
+      (λ n. ap (leaves (just (v + 1))) (sym at) ∙ j.1 (λ f. n (omega arith))))
 
 -- ---- a node alone, and all but a node
 
@@ -206,18 +107,18 @@ others_are_proper net v n at =
     }
 
 -- what leaves all but a node enters the node
-pub leaving_others : (net : Net) (v : ℕ) → leaving net (λ w. not (just v w)) ≡ count_by (enters (just v)) net.arcs
+pub leaving_others : (net : Net) (v : ℕ) → leaving net (λ w. not (just v w)) ≡ entering net (just v)
 leaving_others net v = count_by_agree (leaves (λ w. not (just v w))) (enters (just v)) net.arcs (leaves_others (just v))
 
 -- a degree is what leaves a proper set
 pub out_proper : (net : Net) (out into : List ℕ) (i k : ℕ) → IsNet net → i < net.nodes
-    → AreDegrees net.nodes net.arcs out into → slice_index out i ≡ k
+    → AreDegrees net out into → slice_index out i ≡ k
     → (X : ℕ → Bool) × IsProper net X × (leaving net X ≡ k)
 out_proper net out into i k n l d e =
     (just (i + 1), node_is_proper net (i + 1) n (omega arith, omega arith), sym (d.leaving i l) ∙ e)
 
 pub into_proper : (net : Net) (out into : List ℕ) (i k : ℕ) → IsNet net → i < net.nodes
-    → AreDegrees net.nodes net.arcs out into → slice_index into i ≡ k
+    → AreDegrees net out into → slice_index into i ≡ k
     → (X : ℕ → Bool) × IsProper net X × (leaving net X ≡ k)
 into_proper net out into i k n l d e = (
   (λ w. not (just (i + 1) w)),
@@ -226,19 +127,19 @@ into_proper net out into i k n l d e = (
 )
 
 -- a node's degrees in its cells
-pub degree_at : (net : Net) (v : ℕ) (out into : List ℕ) → IsNode net v → AreDegrees net.nodes net.arcs out into
+pub degree_at : (net : Net) (v : ℕ) (out into : List ℕ) → IsNode net v → AreDegrees net out into
     → slice_index out (v - 1) ≡ leaving net (just v)
 degree_at net v out into at d =
     let low = at.0 in
     let high = at.1 in
     d.leaving (v - 1) (omega arith) ∙ ap (λ w. leaving net (just w)) (omega arith)
 
-pub degree_into : (net : Net) (v : ℕ) (out into : List ℕ) → IsNode net v → AreDegrees net.nodes net.arcs out into
-    → slice_index into (v - 1) ≡ count_by (enters (just v)) net.arcs
+pub degree_into : (net : Net) (v : ℕ) (out into : List ℕ) → IsNode net v → AreDegrees net out into
+    → slice_index into (v - 1) ≡ entering net (just v)
 degree_into net v out into at d =
     let low = at.0 in
     let high = at.1 in
-    d.entering (v - 1) (omega arith) ∙ ap (λ w. count_by (enters (just w)) net.arcs) (omega arith)
+    d.entering (v - 1) (omega arith) ∙ ap (λ w. entering net (just w)) (omega arith)
 
 -- ---- networks both ways
 
@@ -311,13 +212,9 @@ module _ (net : Net) (o : AreOpposite net.arcs) where
         count_by_agree (enters rest) (leaves X) (take half net.arcs) (enters_others X),
       )
 
-  -- counts at either end of the first half are both degrees
-  pub met_degrees : (cells : List ℕ) → AreMet net.nodes (take half net.arcs) cells
-      → AreDegrees net.nodes net.arcs cells cells
-  met_degrees cells met = record {
-    leaving = λ v h. met v h ∙ sym (leaves_both (just (v + 1)));
-    entering = λ v h. met v h ∙ sym (enters_both (just (v + 1)));
-  }
+  -- so as many enter a set as leave it
+  pub opposite_same : (X : ℕ → Bool) → leaving net X ≡ entering net X
+  opposite_same X = leaves_both X ∙ sym (enters_both X)
 
   leaving_crossing : (X : ℕ → Bool) → leaving net X ≡ crossing one_way X
   leaving_crossing X = omega (arith, leaves_both X, crossing_sum X one_way.arcs)

@@ -7,68 +7,57 @@ ghost use Rattle.flow_net.specs.Nets.{IsNode};
 ghost use Rattle.flow_net.specs.NodeSets.{just};
 ghost use Rattle.flow_net.specs.Connectivity.{leaving, IsProper};
 ghost use Rattle.flow_net.specs.Forests.{IsEitherWay};
-ghost use Rattle.flow_solve.specs.Forests.{AreDegrees, AreOpposite, IsEulerian};
+ghost use Rattle.flow_solve.specs.Forests.{AreDegrees, AreLeaving, AreOpposite, IsEulerian, facing};
 
+use crate::forests::rows::ends_of;
+use crate::residual::half_arcs::Direction;
 use flow_net::Network;
 
-/// Whether the second half of the arcs are those of the first turned round, in their order. Then as many arcs leave
-/// each node as enter it, and these are counted, self-loops left out.
-fn count_both_ways(net: &Network, out: &mut [u32]) -> bool
-    requires out { length out.old ≡ net.now.nodes }
-    ensures size { length out.new ≡ net.now.nodes }
-    ensures opposite { IsTrue result → AreOpposite net.now.arcs }
-    ensures degrees { IsTrue result → AreDegrees net.now.nodes net.now.arcs out.new out.new }
+/// Whether the second half of the arcs are those of the first turned round, in their order.
+fn are_opposite(net: &Network) -> bool
+    ensures { IsTrue result → AreOpposite net.now.arcs }
 {
     // Brings the network's limits, `IsNet`, into the proof.
     let _ = net.nodes();
     let half = net.len() / 2;
-    out.fill(0);
     for i in 0..half {
         let there = net.arc(i);
         let back = net.arc(half + i);
         if there.src != back.dst || there.dst != back.src {
             return false;
         }
-        if there.src != there.dst {
-            out[there.src as usize - 1] += 1;
-            out[there.dst as usize - 1] += 1;
-        }
     }
     net.len() % 2 == 0
 }
 
-/// Counts the arcs that leave and that enter each node, self-loops left out.
-fn count_one_way(net: &Network, out: &mut [u32], into: &mut [u32])
-    requires out { length out.old ≡ net.now.nodes }
-    requires into { length into.old ≡ net.now.nodes }
-    ensures { AreDegrees net.now.nodes net.now.arcs out.new into.new }
+/// Counts the arcs that lead on from each node, self-loops left out.
+pub(crate) fn count_arcs(net: &Network, direction: Direction, counts: &mut [u32])
+    requires { length counts.old ≡ net.now.nodes }
+    ensures { AreLeaving (facing direction net.now) counts.new }
 {
-    // Brings the network's limits, `IsNet`, into the proof.
-    let _ = net.nodes();
-    out.fill(0);
-    into.fill(0);
-    for i in 0..net.len() {
-        let arc = net.arc(i);
-        if arc.src != arc.dst {
-            out[arc.src as usize - 1] += 1;
-            into[arc.dst as usize - 1] += 1;
+    counts.fill(0);
+    for arc in 0..net.len() {
+        let (from, to) = ends_of(net, direction, arc);
+        if from != to {
+            counts[from as usize - 1] += 1;
         }
     }
 }
 
 /// Counts the arcs that leave and that enter each node, self-loops left out. Answers whether each arc is there both
-/// ways, its opposite half of the arcs away.
+/// ways, its opposite half of the arcs away: then one count is the other.
 fn count_degrees(net: &Network, out: &mut [u32], into: &mut [u32]) -> bool
     requires out { length out.old ≡ net.now.nodes }
     requires into { length into.old ≡ net.now.nodes }
     ensures opposite { IsTrue result → AreOpposite net.now.arcs }
-    ensures degrees { AreDegrees net.now.nodes net.now.arcs out.new into.new }
+    ensures degrees { AreDegrees net.now out.new into.new }
 {
-    let is_paired = count_both_ways(net, out);
+    let is_paired = are_opposite(net);
+    count_arcs(net, Direction::Backwards, out);
     if is_paired {
         into.copy_from_slice(out);
     } else {
-        count_one_way(net, out, into);
+        count_arcs(net, Direction::Forwards, into);
     }
     is_paired
 }
@@ -95,7 +84,7 @@ pub(crate) fn least_and_paired(net: &Network, cells: &mut [u32]) -> (u64, bool)
     ensures reached { (X : ℕ → Bool) × IsProper net.now X × (leaving net.now X ≡ result.0) }
     ensures least { (v : ℕ) → IsNode net.now v → result.0 ≤ leaving net.now (just v) }
     ensures opposite { IsTrue result.1 → AreOpposite net.now.arcs }
-    ensures degrees { AreDegrees net.now.nodes net.now.arcs cells.new (drop net.now.nodes cells.new) }
+    ensures degrees { AreDegrees net.now cells.new (drop net.now.nodes cells.new) }
 {
     let n = net.nodes() as usize;
     let (counts, _rest) = cells.split_at_mut(2 * n);
@@ -112,7 +101,7 @@ pub fn least_degree(net: &Network, cells: &mut [u32]) -> u64
     requires cells { 2 * net.now.nodes ≤ length cells.old }
     ensures reached { (X : ℕ → Bool) × IsProper net.now X × (leaving net.now X ≡ result) }
     ensures least { (v : ℕ) → IsNode net.now v → result ≤ leaving net.now (just v) }
-    ensures degrees { AreDegrees net.now.nodes net.now.arcs cells.new (drop net.now.nodes cells.new) }
+    ensures degrees { AreDegrees net.now cells.new (drop net.now.nodes cells.new) }
 {
     least_and_paired(net, cells).0
 }
@@ -120,7 +109,7 @@ pub fn least_degree(net: &Network, cells: &mut [u32]) -> u64
 /// Whether as many arcs leave each node as enter it: as many then leave each set of nodes as enter it.
 pub fn are_balanced(net: &Network, degrees: &[u32]) -> bool
     requires cells { 2 * net.now.nodes ≤ length degrees.now }
-    requires degrees { AreDegrees net.now.nodes net.now.arcs degrees.now (drop net.now.nodes degrees.now) }
+    requires degrees { AreDegrees net.now degrees.now (drop net.now.nodes degrees.now) }
     ensures balanced { IsTrue result → IsEitherWay net.now }
     ensures unbalanced { IsEitherWay net.now → IsTrue result }
 {
@@ -134,7 +123,7 @@ pub fn are_balanced(net: &Network, degrees: &[u32]) -> bool
 pub(crate) fn are_even(net: &Network, degrees: &[u32]) -> bool
     requires opposite { AreOpposite net.now.arcs }
     requires cells { net.now.nodes ≤ length degrees.now }
-    requires degrees { AreDegrees net.now.nodes net.now.arcs degrees.now (drop net.now.nodes degrees.now) }
+    requires degrees { AreDegrees net.now degrees.now (drop net.now.nodes degrees.now) }
     requires balanced { IsEitherWay net.now }
     ensures { IsTrue result → IsEulerian net.now }
 {

@@ -1,12 +1,11 @@
 //! A flow between a node and those that a forest has come to.
 ghost use Rattle.std.specs.Prelude.{◌≡◌, ℕ, ◌+◌, ◌-◌, ◌*◌, ◌<◌, ◌≤◌, IfSome, IsTrue, IsFalse, MatchOption, length};
-ghost use Rattle.std.specs.Prelude.{slice_index};
 ghost use Rattle.std.specs.List.{All};
 ghost use Rattle.flow_net.specs.Nets.{IsNode};
 ghost use Rattle.flow_net.specs.Limits.{IsNet};
 ghost use Rattle.flow_net.specs.Flows.{Fits, IsFeasible};
 ghost use Rattle.flow_solve.specs.residual.HalfArcs.{IsClosedFor};
-ghost use Rattle.flow_solve.specs.Forests.{IsBelow, IsPassed, IsRaised, IsReached, Pays, PaysIfAny};
+ghost use Rattle.flow_solve.specs.Forests.{IsPassed, IsRaised, IsReached, Pays, PaysIfAny};
 ghost use Rattle.flow_solve.specs.Forests.{marked_in, seen_in};
 ghost use Rattle.flow_solve.specs.Steps.{OnlyLooks, PaysLooks};
 
@@ -193,7 +192,7 @@ fn search_along(
     if number == 0 || number > ground.net.len() {
         return search;
     }
-    let (from, to) = ends_of(ground, number - 1);
+    let (from, to) = ends_of(ground.net, ground.direction, number - 1);
     let behind = if is_of_row { to } else { from };
     if !is_left(seen, behind) {
         return search;

@@ -7,7 +7,7 @@ use Rattle.flow_net.proofs.ZeroFlows.{zeros_feasible}
 use Rattle.flow_solve.specs.Forests.{marked_in}
 use Rattle.flow_solve.proofs.ForestLemmas.Joined.{raised_below, balanced_more}
 use Rattle.flow_solve.proofs.ForestLemmas.Marks.{mark_kept}
-use Rattle.flow_solve.proofs.ForestLemmas.Taken.{forest_joined, grove_more, facing_nodes}
+use Rattle.flow_solve.proofs.ForestLemmas.Taken.{facing_limits, facing_nodes, forest_joined, grove_more}
 use Rattle.flow_solve.proofs.Payments.{paid_then}
 use Rattle.flow_solve.proofs.forests.complete.Goals.{else-least-count-2-via-then-least-count-2+else-not-is_whole}
 use Rattle.flow_solve.proofs.forests.complete.Goals.{else-least-count-2-via-else-least-count-2}
@@ -59,7 +59,7 @@ loop-front-preserved c =
       forest =
           g.forest c.in_ok-least.least.value c.args.count
           (forest_joined ground c.in_ok-least.least.value c.loop-front.least.value c.args.count w c.loop-front.rows old
-          c.reach-front.new.done joined
+          c.reach-front.new.done j.stand.limits joined
           (raised_below ground.direction net w (marked_in old) c.raise.new.flow.flows c.in_ok-least.least.value
           j.stand.limits c.requires.unit r.raised) r.fewer j.forest);
       paid = paid_then _ _ _ _ _ _ j.paid r.paid;
@@ -67,7 +67,8 @@ loop-front-preserved c =
 
 pub returns-clause-grove : goal.returns-clause-grove
 returns-clause-grove c =
-    grove_more _ _ _ _ c.loop-front.least.value c.args.count c.loop-front.rows c.loop-front.done
+    grove_more _ _ _ _ c.loop-front.least.value c.args.count c.loop-front.rows
+    (facing_limits c.args.ground.direction c.args.ground.net.now c.loop-front.invariant.stand.limits) c.loop-front.done
     (λ more. elim c.else-least-count-2.branch [
       | else-least-count-2-via-then-least-count-2+else-not-is_whole w ↦
           λ v l m. w.is_whole.ensures w.if-not-is_whole.false v l

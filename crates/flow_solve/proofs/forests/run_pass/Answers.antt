@@ -1,6 +1,6 @@
 -- `run_pass`: a forest that comes to all nodes by itself is done, and any other is completed.
 use Rattle.std.proofs.Common.{arith}
-use Rattle.flow_solve.proofs.ForestLemmas.Taken.{above_enough, grove_more, grove_begun, facing_nodes}
+use Rattle.flow_solve.proofs.ForestLemmas.Taken.{above_enough, facing_limits, facing_nodes, grove_more, grove_begun}
 use Rattle.flow_solve.proofs.Payments.{paid_then}
 use Rattle.flow_solve.proofs.forests.run_pass.Goals.{then-not-is_whole+else-not-make_ready+in_ok-least}
 use Rattle.flow_solve.proofs.forests.run_pass.Goals.{else-not-is_whole}
@@ -19,7 +19,9 @@ loop-count-init c =
       };
       reached = c.requires.reached;
       fewer = omega arith;
-      grove = grove_begun _ _ _ _ _ 0 c.fill_rows.new.rows told;
+      grove =
+          grove_begun _ _ _ _ _ 0 c.fill_rows.new.rows
+          (facing_limits c.args.ground.direction c.args.ground.net.now c.requires.limits) told;
       rows_size = omega arith;
       hints_size = omega arith;
       paid = record { never_lowered = omega arith; left = omega arith; steps = omega arith };
@@ -68,7 +70,8 @@ loop-count-preserved c =
             reached = j.reached;
             fewer = j.fewer;
             grove =
-                grove_more _ _ _ _ k c.loop-count.count one.new.rows one.new.done
+                grove_more _ _ _ _ k c.loop-count.count one.new.rows
+                (facing_limits c.args.ground.direction c.args.ground.net.now j.stand.limits) one.new.done
                 (λ more v l m. c.is_whole.ensures w.if-not-is_whole.false v l
                 (omega (arith, m, facing_nodes c.args.ground.direction c.args.ground.net.now)))
                 (one.ensures.forest k c.loop-count.count j.grove);

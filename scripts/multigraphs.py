@@ -22,13 +22,14 @@ BATCH = 50
 
 
 def by_sets(nodes, arcs):
-    """The least number of arcs that leave a set which is neither empty nor all; nodes count from 0."""
+    """The least numbers of arcs that leave a set which is neither empty nor all, and that have one end in such a set;
+    nodes count from 0."""
     count = [[0] * nodes for _ in range(nodes)]
     for tail, head in arcs:
         if tail != head:
             count[tail][head] += 1
-    leaving, least = [0] * (1 << nodes), len(arcs)
-    for side in range(1, (1 << nodes) - 1):
+    leaving, all_nodes = [0] * (1 << nodes), (1 << nodes) - 1
+    for side in range(1, all_nodes):
         last = side.bit_length() - 1  # the set is that of its other nodes, and the last
         number = leaving[side & ~(1 << last)]
         for node in range(nodes):
@@ -37,8 +38,12 @@ def by_sets(nodes, arcs):
             else:
                 number += count[last][node]
         leaving[side] = number
-        least = min(least, number)
-    return least
+    return min(leaving[1:-1]), min(leaving[side] + leaving[all_nodes ^ side] for side in range(1, all_nodes))
+
+
+def both_ways(arcs):
+    """The arcs, and each of them turned round."""
+    return arcs + [(head, tail) for tail, head in arcs]
 
 
 class Library:
@@ -59,20 +64,25 @@ class Library:
         return links.value if status == 0 else f"status {status}"
 
     def by_flows(self, nodes, arcs):
-        """The least of the greatest values from the first node to each other and back, one unit for an arc."""
+        """The same numbers as the least of the greatest values from the first node to each other and back; where each
+        arc is there both ways, as much comes back."""
+        there, back = [(0, node) for node in range(1, nodes)], [(node, 0) for node in range(1, nodes)]
+        return self.least_flow(nodes, arcs, there + back), self.least_flow(nodes, both_ways(arcs), there)
+
+    def least_flow(self, nodes, arcs, pairs):
+        """The least of the greatest values between the nodes of some pairs, one unit for an arc."""
         tails, heads = self.words([tail for tail, _ in arcs]), self.words([head for _, head in arcs])
         units = (ctypes.c_uint64 * len(arcs))(*([1] * len(arcs)))
         carried = (ctypes.c_uint64 * len(arcs))()
         high, low = ctypes.c_uint64(), ctypes.c_uint64()
         least = len(arcs)
-        for node in range(1, nodes):
-            for source, sink in ((0, node), (node, 0)):
-                status = self.library.provedflow_flow_lists(
-                    ctypes.c_uint32(nodes), *tails, *heads, units, tails[1], *self.words([source]),
-                    *self.words([sink]), carried, tails[1], ctypes.byref(high), ctypes.byref(low))
-                if status != 0:
-                    return f"status {status}"
-                least = min(least, low.value)
+        for source, sink in pairs:
+            status = self.library.provedflow_flow_lists(
+                ctypes.c_uint32(nodes), *tails, *heads, units, tails[1], *self.words([source]), *self.words([sink]),
+                carried, tails[1], ctypes.byref(high), ctypes.byref(low))
+            if status != 0:
+                return f"status {status}"
+            least = min(least, low.value)
         return least
 
 
@@ -98,7 +108,7 @@ def small(rand):
     nodes = rand.randint(2, 7)
     arcs = rand.choice((some_arcs, closed_walk, two_parts))(rand, nodes)
     if rand.random() < .4:
-        arcs += [(head, tail) for tail, head in arcs]
+        arcs = both_ways(arcs)
     if rand.random() < .3:
         arcs += arcs
     if rand.random() < .3:
@@ -188,9 +198,7 @@ def try_batch(batch):
     for seed in seeds:
         rand = random.Random(f"{kind} {seed}")
         nodes, arcs = small(rand) if kind == "small" else composed(rand)
-        both = arcs + [(head, tail) for tail, head in arcs]
-        known = by_sets if kind == "small" else library.by_flows
-        wanted = known(nodes, arcs), known(nodes, both)
+        wanted = (by_sets if kind == "small" else library.by_flows)(nodes, arcs)
         found = [(library.links(nodes, arcs, 0), wanted[0]), (library.links(nodes, arcs, 1), wanted[1])]
         if seed % 100 == 0:
             found += [(by_program(nodes, arcs), wanted[0]), (by_program(nodes, arcs, "--undirected"), wanted[1])]

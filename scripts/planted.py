@@ -294,7 +294,8 @@ class Copy:
 
 
 def link_tree(one, other):
-    """Copies a folder, by links where these can be made: a check replaces such a file, and changes none."""
+    """Copies a folder, by links where these can be made: a check replaces such a file by one that it has written under
+    another name, and changes none."""
 
     def link(source, target):
         try:
@@ -302,7 +303,7 @@ def link_tree(one, other):
         except OSError:
             shutil.copy2(source, target)
 
-    shutil.copytree(one, other, copy_function=link)
+    shutil.copytree(one, other, copy_function=link, ignore=shutil.ignore_patterns("*.tmp.*"))
 
 
 def edits_to_try(crate):
@@ -367,23 +368,37 @@ def missing():
     return sorted(named - kept) if named else ["no edit"]
 
 
+def files_in(folder):
+    """The names of a crate's files in a folder."""
+    return {str(it.relative_to(folder)) for part in PARTS for it in (folder / part).rglob("*") if it.is_file()}
+
+
+def gather_new(temporary, folder, crate_with, edits):
+    """Collects what is whole and wasn't yet collected, and which edits have begun since."""
+    for room in temporary.glob("rt-edit-*"):
+        if room.name not in edits and (crate := crate_with.get(frozenset(files_in(room)))):
+            edits[room.name] = crate
+    (folder / "edits").write_text(f"{len(edits)}\n")
+    for work in temporary.glob("rt-edits-*"):
+        crate = next((it.name.split("-")[1] for it in work.glob("*/Rattle-*-proofs*")), "")
+        if list(edits.values()).count(crate) > 1 and not (folder / crate).exists():
+            shutil.rmtree(folder / f".{crate}", ignore_errors=True)
+            link_tree(work, folder / f".{crate}")
+            (folder / f".{crate}").rename(folder / crate)
+
+
 def gather(temporary, folder):
-    """Collects what the gate's edits begin with: of a crate it is whole once the first edit's own folder is there.
-    Keeps in the file `edits` how many of these were begun: each has a folder while it is tried, and the gate tells of
-    none before the end."""
-    edits = set()
+    """Collects what the gate's edits begin with. A crate's edits are tried one after another, each in a folder of its
+    own, and over what those before it have proved: with the first that is all but the function that it changes. Keeps
+    in the file `edits` how many were begun, each crate's unchanged check after its last edit among them, since the gate
+    tells of none before the end."""
+    crate_with = {frozenset(files_in(ROOT / "crates" / crate)): crate for crate in crates_below()}
+    edits = {}
     while True:
-        edits.update(temporary.glob("rt-edits-*/[0-9]*"))
-        (folder / "edits").write_text(f"{len(edits)}\n")
-        for seed in temporary.glob("rt-edits-*/seed"):
-            crate = next((it.name.split("-")[1] for it in seed.glob("*/Rattle-*-proofs*")), "")
-            if not crate or len(list(seed.parent.iterdir())) == 1 or (folder / crate).exists():
-                continue
-            try:
-                link_tree(seed, folder / f".{crate}")
-                (folder / f".{crate}").rename(folder / crate)
-            except (OSError, shutil.Error):
-                shutil.rmtree(folder / f".{crate}", ignore_errors=True)
+        try:
+            gather_new(temporary, folder, crate_with, edits)
+        except (OSError, shutil.Error):
+            pass  # what goes away meanwhile is looked at again
         time.sleep(1)
 
 

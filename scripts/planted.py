@@ -17,8 +17,8 @@ A check is of the group's copies alone, and of what they call. After the gate --
 edits began with: --gather TEMPORARY FOLDER, run beside the gate until it is ended, collects that out of the gate's
 temporary folder. Each check begins with that then, and reads the libraries that the gate has left in out/rlib; it is
 called as the gate calls it, since `rt check` builds libraries of its own, over which nothing of that holds. Of a crate
-that has no edits in must-fail/, or whose proof the gate had kept, nothing is collected. Without --begin the groups of a
-crate are tried one after another. RT_JOBS checks run at a time.
+that has fewer than two edits in must-fail/ nothing is collected. Without --begin the groups of a crate are tried one
+after another. RT_JOBS checks run at a time.
 
 The last line is 'planted: N passed, M failed'.
 """

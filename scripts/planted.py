@@ -294,14 +294,16 @@ class Copy:
 
 
 def link_tree(one, other):
-    """Copies a folder, by links where these can be made: a check replaces such a file by one that it has written under
-    another name, and changes none."""
+    """Copies a folder, what was proved by links where these can be made: a check replaces such a file by one that it has
+    written under another name, and changes none. It may change others."""
 
     def link(source, target):
-        try:
-            os.link(source, target)
-        except OSError:
-            shutil.copy2(source, target)
+        if source.endswith(".oantt"):
+            try:
+                return os.link(source, target)
+            except OSError:
+                pass
+        return shutil.copy2(source, target)
 
     shutil.copytree(one, other, copy_function=link, ignore=shutil.ignore_patterns("*.tmp.*"))
 
@@ -373,25 +375,35 @@ def files_in(folder):
     return {str(it.relative_to(folder)) for part in PARTS for it in (folder / part).rglob("*") if it.is_file()}
 
 
+def begun_with(work, edits):
+    """The folder in which the gate keeps what a crate's edits begin with, and the crate, once that is whole; or nothing.
+    Where a crate's edits are tried one after another, each over what those before it have proved, it is whole with the
+    first: then it is all but the function that this changes. Other kits keep it in a folder beside those of the edits,
+    which begin once it is whole."""
+    seed = work / "seed"
+    found = seed if seed.is_dir() else work
+    crate = next((it.name.split("-")[1] for it in found.glob("*/Rattle-*-proofs*")), "")
+    is_whole = len(list(work.iterdir())) > 1 if found == seed else list(edits.values()).count(crate) > 1
+    return (found, crate) if crate and is_whole else None
+
+
 def gather_new(temporary, folder, crate_with, edits):
     """Collects what is whole and wasn't yet collected, and which edits have begun since."""
     for room in temporary.glob("rt-edit-*"):
         if room.name not in edits and (crate := crate_with.get(frozenset(files_in(room)))):
             edits[room.name] = crate
     (folder / "edits").write_text(f"{len(edits)}\n")
-    for work in temporary.glob("rt-edits-*"):
-        crate = next((it.name.split("-")[1] for it in work.glob("*/Rattle-*-proofs*")), "")
-        if list(edits.values()).count(crate) > 1 and not (folder / crate).exists():
+    for found, crate in filter(None, (begun_with(work, edits) for work in temporary.glob("rt-edits-*"))):
+        if not (folder / crate).exists():
             shutil.rmtree(folder / f".{crate}", ignore_errors=True)
-            link_tree(work, folder / f".{crate}")
+            link_tree(found, folder / f".{crate}")
             (folder / f".{crate}").rename(folder / crate)
 
 
 def gather(temporary, folder):
-    """Collects what the gate's edits begin with. A crate's edits are tried one after another, each in a folder of its
-    own, and over what those before it have proved: with the first that is all but the function that it changes. Keeps
-    in the file `edits` how many were begun, each crate's unchanged check after its last edit among them, since the gate
-    tells of none before the end."""
+    """Collects what the gate's edits begin with. Keeps in the file `edits` how many checks of crates have begun in a
+    folder of their own: each edit has one, what a crate's edits begin with too, and its unchanged check after them,
+    since the gate tells of none before the end."""
     crate_with = {frozenset(files_in(ROOT / "crates" / crate)): crate for crate in crates_below()}
     edits = {}
     while True:

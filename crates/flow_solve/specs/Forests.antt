@@ -139,6 +139,7 @@ at_stage ground ready = record {
   beside = ground.beside;
   numbered = ready && not ground.paired;
   dense = ground.dense;
+  scarce = ground.scarce;
 }
 
 -- c forests are done, and rows tell of the arcs that are left

@@ -72,6 +72,8 @@ pub(crate) struct Ground<'a> {
     pub numbered: bool,
     /// Whether nodes have so many arcs that forests go on in a row one behind the other.
     pub dense: bool,
+    /// Whether each arc is there both ways, and forests need nearly all.
+    pub scarce: bool,
 }
 
 /// Begins a forest, and lets it grow as far as it comes by itself.
@@ -223,9 +225,10 @@ fn hub(net: &Network, degrees: &[u32]) -> u32
     best + 1
 }
 
-/// Whether a node has more arcs on an average than a number.
+/// Whether a node has more arcs on an average than a number, by more than a thousandth of an arc.
 fn has_more_arcs(net: &Network, least: u64) -> bool {
-    net.len() as u64 > least.saturating_mul(net.nodes() as u64)
+    let nodes = u64::from(net.nodes());
+    u64::from(net.len()).saturating_sub(nodes / 1000) > least.saturating_mul(nodes)
 }
 
 /// The edge connectivity of a network in which every capacity is 1. It takes at most `budget` looks and pushes, and
@@ -257,6 +260,8 @@ pub fn connectivity_by_forests(
     }
     let is_balanced = are_balanced(net, cells);
     let is_even = paired && is_balanced && are_even(net, cells);
+    let has_choice = is_even || has_more_arcs(net, least);
+    let dense = has_more_arcs(net, u64::from(net.nodes()).isqrt());
     let mut ground = Ground {
         net,
         root: hub(net, cells),
@@ -264,9 +269,10 @@ pub fn connectivity_by_forests(
         first: &[],
         parts: parts_of(net),
         paired,
-        beside: paired && (is_even || has_more_arcs(net, least)),
+        beside: paired && has_choice,
         numbered: false,
-        dense: has_more_arcs(net, u64::from(net.nodes()).isqrt()),
+        dense,
+        scarce: paired && !has_choice && !dense,
     };
     let start = Budgeted {
         value: least,

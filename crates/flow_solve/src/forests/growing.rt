@@ -4,6 +4,9 @@
 //! arcs over which it came to where it is. In a dense network each forest goes on in a row behind the arc that the one
 //! before has taken there, and the first begins somewhere in it: else forests would pass over the same cells again, and
 //! grow alike.
+//!
+//! Where arcs are scarce, a forest goes first over one whose opposite none has taken, as notes in the hints tell. Else
+//! the last forest finds many arcs left in pairs, one against the other, and so comes to few nodes by itself.
 ghost use Rattle.std.specs.Prelude.{◌≡◌, ℕ, ◌+◌, ◌*◌, ◌<◌, ◌≤◌, false, IfSome, IsTrue, length};
 ghost use Rattle.flow_net.specs.Nets.{IsNode};
 ghost use Rattle.flow_solve.specs.Forests.{HasGrown, HasMarked, IsLead, IsStand, marked_in};
@@ -63,13 +66,54 @@ fn next_lead(
     None
 }
 
+/// The first cell of a node's row whose arc isn't taken and leads on, and whose opposite no forest has taken; where each
+/// such arc has one that is taken, the first of all, if there is one.
+fn fresh_lead(
+    ground: Ground<'_>,
+    rows: &[u32],
+    done: &[u32],
+    hints: &[u32],
+    begin: u32,
+    end: u32,
+) -> Option<Lead>
+    ensures { IfSome result (IsLead ground.entry rows.now done.now begin end false) }
+{
+    let first = next_lead(ground, rows, done, begin, end, false)?;
+    let mut lead = first;
+    'leads: while get(hints, lead.cell as usize) != 0 {
+        match next_lead(ground, rows, done, lead.cell + 1, end, false) {
+            Some(next) => lead = next,
+            None => return Some(first),
+        }
+    }
+    Some(lead)
+}
+
+/// Notes where arcs are scarce that a forest has taken one from a node to another, at a cell of the other's row whose
+/// arc leads back.
+fn note_opposite(ground: Ground<'_>, rows: &[u32], hints: &mut [u32], from: u32, to: u32) {
+    if !ground.scarce {
+        return;
+    }
+    let begin = get(ground.first, (to as usize).wrapping_sub(1));
+    let end = get(ground.first, to as usize);
+    for cell in begin..end {
+        let place = cell as usize;
+        if get(rows, place) % TAKEN == from && get(hints, place) == 0 {
+            put(hints, place, 1);
+            return;
+        }
+    }
+}
+
 /// The next cell of a node's row whose arc isn't taken and leads on, if there is one: from a place on, and where the
-/// network is dense from the beginning too.
+/// network is dense from the beginning too. Where arcs are scarce it may be any.
 #[inline(always)]
 fn lead_from(
     ground: Ground<'_>,
     rows: &[u32],
     done: &[u32],
+    hints: &[u32],
     begin: u32,
     from: u32,
     end: u32,
@@ -77,6 +121,9 @@ fn lead_from(
     requires { begin ≤ from }
     ensures { IfSome result (IsLead ground.entry rows.now done.now begin end false) }
 {
+    if ground.scarce {
+        return fresh_lead(ground, rows, done, hints, begin, end);
+    }
     let lead = next_lead(ground, rows, done, from, end, false);
     if lead.is_some() || !ground.dense {
         return lead;
@@ -119,13 +166,14 @@ fn go_on(
     let begin = ground.first[node as usize - 1];
     let end = ground.first[node as usize];
     let from = place_to_go_on(ground, hints, front).max(begin);
-    let lead = lead_from(ground, rows, done, begin, from, end)?;
+    let lead = lead_from(ground, rows, done, hints, begin, from, end)?;
     if lead.behind == 0 {
         return None;
     }
     rows[lead.cell as usize] += TAKEN;
     mark(done, lead.behind);
     keep_place(ground, hints, node, lead.cell.wrapping_add(1));
+    note_opposite(ground, rows, hints, node, lead.behind);
     Some(lead)
 }
 

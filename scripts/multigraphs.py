@@ -1,14 +1,15 @@
 #!/usr/bin/env python3
 """The edge connectivity of many networks, held against all sets of nodes and against flows to each node.
 
-    python3 scripts/multigraphs.py FLOW LIBRARY [SMALL [COMPOSED [SEED]]]
+    python3 scripts/multigraphs.py FLOW LIBRARY [SMALL [COMPOSED [REGULAR [SEED]]]]
 
 FLOW is the built program and LIBRARY the shared library for C. So many SMALL networks (100,000) have at most seven
 nodes and are held against all sets of nodes: links both ways, single arcs, parallel and opposite ones, self-loops,
 even degrees, bridges and pieces. So many COMPOSED ones (1,000) have some hundred nodes: rings, complete parts,
-circulants, permutations, lattices, trees and hubs that few links join, parts of parts. They are held against the
-greatest flows from one node to each other and back. Each network is asked directed and undirected, by the library, and
-each hundredth also by the program. A ring of 300,000 nodes in no order is asked by the program, since rows of so many
+circulants, permutations, lattices, trees and hubs that few links join, parts of parts. So many REGULAR ones (200) have
+three, five or seven links at each node, at random, so that forests need all arcs. Both are held against the greatest
+flows from one node to each other and back. Each network is asked directed and undirected, by the library, and each
+hundredth also by the program. A ring of 300,000 nodes in no order is asked by the program, since rows of so many
 are filled slice by slice. The last line is 'multigraphs: N passed, M failed'.
 """
 import ctypes
@@ -181,6 +182,19 @@ def composed(rand):
     return nodes, arcs
 
 
+def regular(rand):
+    """An odd number of links at each node, drawn at random until none is a self-loop."""
+    nodes, links = 2 * rand.randint(20, 100), rand.choice((3, 5, 7))
+    ends = [node for node in range(nodes) for _ in range(links)]
+    while any(tail == head for tail, head in zip(ends[::2], ends[1::2])):
+        rand.shuffle(ends)
+    return nodes, list(zip(ends[::2], ends[1::2]))
+
+
+# What makes networks of a kind. Only small ones have few enough sets.
+KINDS = {"small": small, "composed": composed, "regular": regular}
+
+
 def by_program(nodes, arcs, *flags):
     text = f"p max {nodes} {len(arcs)}\nn 1 s\nn 2 t\n" + "".join(f"a {u + 1} {v + 1} 1\n" for u, v in arcs)
     try:
@@ -197,7 +211,7 @@ def try_batch(batch):
     wrong, tried = [], 0
     for seed in seeds:
         rand = random.Random(f"{kind} {seed}")
-        nodes, arcs = small(rand) if kind == "small" else composed(rand)
+        nodes, arcs = KINDS[kind](rand)
         wanted = (by_sets if kind == "small" else library.by_flows)(nodes, arcs)
         found = [(library.links(nodes, arcs, 0), wanted[0]), (library.links(nodes, arcs, 1), wanted[1])]
         if seed % 100 == 0:
@@ -219,9 +233,10 @@ def large_ring():
 
 def main():
     given = [int(word) for word in sys.argv[3:]]
-    smalls, composeds, first = given + [100_000, 1_000, 1736][len(given):]
+    smalls, composeds, regulars, first = given + [100_000, 1_000, 200, 1736][len(given):]
     batches = [(kind, range(at, min(at + BATCH, first + count))) for kind, count in
-               (("composed", composeds), ("small", smalls)) for at in range(first, first + count, BATCH)]
+               (("composed", composeds), ("regular", regulars), ("small", smalls))
+               for at in range(first, first + count, BATCH)]
     with ProcessPoolExecutor(len(os.sched_getaffinity(0))) as pool:
         done = [*pool.map(try_batch, batches), large_ring()]
     failed = [each for wrong, _ in done for each in wrong]

@@ -136,7 +136,6 @@ at_stage ground ready = record {
   first = ground.first;
   parts = ground.parts;
   paired = ground.paired;
-  beside = ground.beside;
   numbered = ready && not ground.paired;
   dense = ground.dense;
   scarce = ground.scarce;

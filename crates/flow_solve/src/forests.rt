@@ -66,8 +66,6 @@ pub(crate) struct Ground<'a> {
     pub parts: Parts,
     /// Whether each arc is there both ways, its opposite half of the arcs away.
     pub paired: bool,
-    /// Whether an arc and its opposite are put down one after the other, so that they stand near.
-    pub beside: bool,
     /// Whether rows have the numbers of arcs in place of nodes, as [`rows`] says.
     pub numbered: bool,
     /// Whether nodes have so many arcs that forests go on in a row one behind the other.
@@ -231,6 +229,11 @@ fn has_more_arcs(net: &Network, least: u64) -> bool {
     u64::from(net.len()).saturating_sub(nodes / 1000) > least.saturating_mul(nodes)
 }
 
+/// Whether forests need nearly all arcs where each node has so many or more: not where one less is enough.
+fn needs_all_arcs(net: &Network, least: u64, is_even: bool) -> bool {
+    !is_even && !has_more_arcs(net, least)
+}
+
 /// The edge connectivity of a network in which every capacity is 1. It takes at most `budget` looks and pushes, and
 /// answers nothing where these don't suffice or a test fails.
 ///
@@ -260,7 +263,6 @@ pub fn connectivity_by_forests(
     }
     let is_balanced = are_balanced(net, cells);
     let is_even = paired && is_balanced && are_even(net, cells);
-    let has_choice = is_even || has_more_arcs(net, least);
     let dense = has_more_arcs(net, u64::from(net.nodes()).isqrt());
     let mut ground = Ground {
         net,
@@ -269,10 +271,9 @@ pub fn connectivity_by_forests(
         first: &[],
         parts: parts_of(net),
         paired,
-        beside: paired && has_choice,
         numbered: false,
         dense,
-        scarce: paired && !has_choice && !dense,
+        scarce: paired && !dense && needs_all_arcs(net, least, is_even),
     };
     let start = Budgeted {
         value: least,

@@ -182,8 +182,10 @@ def check_names():
 
 
 def main():
-    library = pathlib.Path(sys.argv[2]).resolve() if sys.argv[1] == "--library" else None
+    library = pathlib.Path(sys.argv[2]).resolve() if sys.argv[1:2] == ["--library"] and sys.argv[2:] else None
     words = sys.argv[3:] if library else sys.argv[1:]
+    if not words or not os.access(words[0], os.X_OK):
+        sys.exit(__doc__)
     flow, *named = (pathlib.Path(name).resolve() for name in words)
     documents = named or [REPOSITORY / "README.md", REPOSITORY / "CONTRIBUTING.md"]
     if not named:

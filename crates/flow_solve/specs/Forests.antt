@@ -87,12 +87,13 @@ node_told numbered net k = if numbered then (slice_index_or (no_arc ∷ net.arcs
 abbrev pub IsBetween : Arc → ℕ → ℕ → Type 0
 IsBetween a v w = (a.src ≡ v) × (a.dst ≡ w)
 
--- Rows tell of a network, whose arcs are those that no forest has taken: each leads from the node of a row to one that a
--- cell of the row tells of. The highest bit of a cell tells that its arc is taken.
+-- Rows tell of a network, whose arcs are those that no forest has taken: each leads from the node of a row to one that
+-- a cell of the row tells of. The highest bit of a cell tells that its arc is taken.
 pub record Tells (numbered : Bool) (net : Net) (first rows : List ℕ) (left : Net) : Type 0 where
   pub within : All (IsArcWithin net.nodes) left.arcs
   pub size : length left.arcs ≡ length rows
-  pub arc : (v i : ℕ) → StandsIn first v i → slice_index rows i < TAKEN → 1 ≤ node_told numbered net (slice_index rows i)
+  pub arc : (v i : ℕ) → StandsIn first v i → slice_index rows i < TAKEN
+      → 1 ≤ node_told numbered net (slice_index rows i)
       → IsBetween (arc_at left i) v (node_told numbered net (slice_index rows i))
 
 -- while they are filled, an empty cell tells of a self-loop

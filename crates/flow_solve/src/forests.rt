@@ -70,7 +70,7 @@ pub(crate) struct Ground<'a> {
     pub numbered: bool,
     /// Whether nodes have so many arcs that forests go on in a row one behind the other.
     pub dense: bool,
-    /// Whether each arc is there both ways, and forests need nearly all.
+    /// Whether each arc is there both ways, and few forests need nearly all.
     pub scarce: bool,
 }
 
@@ -229,9 +229,13 @@ fn has_more_arcs(net: &Network, least: u64) -> bool {
     u64::from(net.len()).saturating_sub(nodes / 1000) > least.saturating_mul(nodes)
 }
 
-/// Whether forests need nearly all arcs where each node has so many or more: not where one less is enough.
+/// So many forests at most go first over arcs whose opposite none has taken: with more, what it saves is less than what
+/// it costs to pass over longer rows.
+const MOST_FRESH: u64 = 8;
+
+/// Whether few forests need nearly all arcs where each node has so many or more: not where one less is enough.
 fn needs_all_arcs(net: &Network, least: u64, is_even: bool) -> bool {
-    !is_even && !has_more_arcs(net, least)
+    least <= MOST_FRESH && !is_even && !has_more_arcs(net, least)
 }
 
 /// The edge connectivity of a network in which every capacity is 1. It takes at most `budget` looks and pushes, and

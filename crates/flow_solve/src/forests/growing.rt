@@ -66,8 +66,8 @@ fn next_lead(
     None
 }
 
-/// The first cell of a node's row whose arc isn't taken and leads on, and whose opposite no forest has taken; where each
-/// such arc has one that is taken, the first of all, if there is one.
+/// The first cell of a node's row whose arc isn't taken and leads on, and whose opposite no forest has taken; where the
+/// opposite of each such arc is taken, the first of all, if there is one.
 fn fresh_lead(
     ground: Ground<'_>,
     rows: &[u32],

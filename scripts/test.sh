@@ -48,7 +48,7 @@ python3 scripts/planted.py --gather "$folder/temporary" "$folder/begun" &
 watched=$!
 (
   while sleep 60; do
-    say "the gate: $(grep -c '^rt: .* proved$' "$folder/gate") proofs, $(cat "$folder/begun/edits") edits"
+    say "the gate: $(grep -c '^rt: .* proved$' "$folder/gate") proofs, $(cat "$folder/begun/edits") checks of edits"
   done
 ) &
 watched="$watched $!"

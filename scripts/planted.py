@@ -177,7 +177,7 @@ def verdict(edit, functions, said):
         return REFUSED, goals[0].partition("did not prove ")[2]
     if "not proved" in lines:
         # (an error goes on below its line, and what it says of a name may stand there)
-        place = rf"^\./proofs/\S*/{edit.tried}/\w+\.antt:\d+:\d+: error: (.*(?:\n  .*)?)"
+        place = rf"^\./proofs/(?:\S*/)?{edit.tried}/\w+\.antt:\d+:\d+: error: (.*(?:\n  .*)?)"
         errors = re.findall(place, said, re.M)
         told = [error for error in errors if not NAME_IS_GONE.search(error)]
         return (REFUSED, told[0]) if told else (THROUGH, f"no goal of its function failed: {' '.join(errors)[:200]}")
@@ -382,22 +382,29 @@ def begun_with(work, edits):
     which begin once it is whole."""
     seed = work / "seed"
     found = seed if seed.is_dir() else work
+    if found == seed and len(list(work.iterdir())) == 1:
+        return None
     crate = next((it.name.split("-")[1] for it in found.glob("*/Rattle-*-proofs*")), "")
-    is_whole = len(list(work.iterdir())) > 1 if found == seed else list(edits.values()).count(crate) > 1
+    is_whole = found == seed or list(edits.values()).count(crate) > 1
     return (found, crate) if crate and is_whole else None
 
 
-def gather_new(temporary, folder, crate_with, edits):
+def gather_new(temporary, folder, crate_with, edits, gathered):
     """Collects what is whole and wasn't yet collected, and which edits have begun since."""
     for room in temporary.glob("rt-edit-*"):
         if room.name not in edits and (crate := crate_with.get(frozenset(files_in(room)))):
             edits[room.name] = crate
     (folder / "edits").write_text(f"{len(edits)}\n")
-    for found, crate in filter(None, (begun_with(work, edits) for work in temporary.glob("rt-edits-*"))):
+    for work in temporary.glob("rt-edits-*"):
+        begun = begun_with(work, edits) if work.name not in gathered else None
+        if not begun:
+            continue
+        found, crate = begun
         if not (folder / crate).exists():
             shutil.rmtree(folder / f".{crate}", ignore_errors=True)
             link_tree(found, folder / f".{crate}")
             (folder / f".{crate}").rename(folder / crate)
+        gathered.add(work.name)
 
 
 def gather(temporary, folder):
@@ -405,13 +412,13 @@ def gather(temporary, folder):
     folder of their own: each edit has one, what a crate's edits begin with too, and its unchanged check after them,
     since the gate tells of none before the end."""
     crate_with = {frozenset(files_in(ROOT / "crates" / crate)): crate for crate in crates_below()}
-    edits = {}
+    edits, gathered = {}, set()
     while True:
         try:
-            gather_new(temporary, folder, crate_with, edits)
+            gather_new(temporary, folder, crate_with, edits, gathered)
         except (OSError, shutil.Error):
             pass  # what goes away meanwhile is looked at again
-        time.sleep(1)
+        time.sleep(3)
 
 
 def main(words):

@@ -27,6 +27,11 @@ use Rattle.flow_solve.specs.Steps.{PaysSteps, TakesSteps}
 abbrev pub IsReached : Net → ℕ → Type 0
 IsReached net k = (X : ℕ → Bool) × IsProper net X × (leaving net X ≡ k)
 
+-- the least number so far is less, or the same: a set still has so many arcs out of it
+pub record HasFallen (net : Net) (before after : ℕ) : Type 0 where
+  pub reached : IsReached net after
+  pub fewer : after ≤ before
+
 -- each set of nodes has an even number of arcs out of it, and as many into it
 pub record IsEulerian (net : Net) : Type 0 where
   pub even : (X : ℕ → Bool) → IsEven (leaving net X)
@@ -165,6 +170,7 @@ sends Backwards net w xs k = into (just w) net.arcs xs ≡ k + out_of (just w) n
 
 -- a feasible flow of so much between a node and those of a set
 pub record IsRaised (dir : Direction) (net : Net) (w : ℕ) (done : ℕ → Bool) (xs : List ℕ) (value : ℕ) : Type 0 where
+  pub node : IsNode net w
   pub feasible : IsFeasible net (just w) done xs
   pub sent : sends dir net w xs value
 

@@ -33,7 +33,7 @@ ghost use Rattle.flow_net.specs.Flows.{Fits};
 ghost use Rattle.flow_net.specs.LeastCuts.{IsConnectivity};
 ghost use Rattle.flow_net.specs.Limits.{IsNet};
 ghost use Rattle.flow_solve.specs.Bounds.{work_cells};
-ghost use Rattle.flow_solve.specs.Forests.{AreAbove, IsEulerian, IsForest, IsGrove, IsReached, IsStand};
+ghost use Rattle.flow_solve.specs.Forests.{AreAbove, HasFallen, IsEulerian, IsForest, IsGrove, IsReached, IsStand};
 ghost use Rattle.flow_solve.specs.Forests.{PaysIfAny, at_stage, marked_in};
 
 pub(crate) mod degrees;
@@ -74,22 +74,46 @@ pub(crate) struct Ground<'a> {
     pub scarce: bool,
 }
 
-/// Begins a forest, and lets it grow as far as it comes by itself.
-fn begin_forest(ground: Ground<'_>, rows: &mut [u32], done: &mut [u32], hints: &mut [u32]) -> Front
+/// Begins a forest after `count` others, of `all` that there will be, and lets it grow as far as it comes by itself.
+/// `ready` tells whether what searches need is there.
+fn begin_forest(
+    ground: Ground<'_>,
+    ready: bool,
+    rows: &mut [u32],
+    done: &mut [u32],
+    hints: &mut [u32],
+    count: u64,
+    all: u64,
+) -> Front
     requires stand { IsStand ground done.old }
     ensures stand { IsStand ground.entry done.new }
     ensures done { IsTrue (marked_in done.new ground.entry.root) }
-    ensures forest { (k c : ℕ) → IsGrove ground.entry k c rows.old → IsForest ground.entry k c rows.new done.new }
+    ensures forest { (k c : ℕ) → IsGrove (at_stage ground.entry ready) k c rows.old
+        → IsForest (at_stage ground.entry ready) k c rows.new done.new }
 {
-    let front = begin(ground, done, hints);
-    grow(ground, rows, done, hints, front)
+    let mut now = ground;
+    now.numbered = ready & !ground.paired;
+    let front = begin(now, done, hints, count, all);
+    grow(now, rows, done, hints, front)
+}
+
+/// Puts down what searches need, unless it is there already. Answers false where the rows tell of no arcs any more.
+fn make_ready(ground: Ground<'_>, ready: bool, rows: &mut [u32], hints: &mut [u32]) -> bool
+    requires rows { length rows.old ≡ length ground.net.now.arcs }
+    requires hints { length hints.old ≡ length ground.net.now.arcs + 4 * ground.net.now.nodes + 1 }
+    ensures { IsTrue result → (k c : ℕ) (done : List ℕ) → IsForest (at_stage ground.entry ready) k c rows.old done
+        → IsForest (at_stage ground.entry true) k c rows.new done }
+{
+    ready || number_arcs(ground, rows, hints)
 }
 
 /// Joins the nodes that a forest hasn't come to, one after the other, and lets the forest grow on from each, as long as
 /// the least number is greater than that of the forests before it. Answers the least number afterwards: if it is
-/// greater, the forest has come to all nodes. Answers nothing where looks and pushes are used up or a test fails.
+/// greater, the forest has come to all nodes, and what searches need is there. Answers nothing where looks and pushes
+/// are used up or a test fails.
 fn complete(
     ground: Ground<'_>,
+    ready: bool,
     rows: &mut [u32],
     done: &mut [u32],
     seen: &mut [u32],
@@ -103,15 +127,21 @@ fn complete(
     requires unit { All (λ a. a.cap ≡ 1) ground.net.now.arcs }
     requires stand { IsStand ground done.old }
     requires size { ground.net.now.nodes ≤ 32 * length seen.old }
+    requires rows { length rows.old ≡ length ground.net.now.arcs }
+    requires hints { length hints.old ≡ length ground.net.now.arcs + 4 * ground.net.now.nodes + 1 }
     requires done { IsTrue (marked_in done.old ground.root) }
-    requires forest { IsForest ground known.value count rows.old done.old }
+    requires forest { IsForest (at_stage ground ready) known.value count rows.old done.old }
     requires reached { IsReached ground.net.now known.value }
     ensures fits { Fits ground.entry.net.now flow.new.flows }
-    ensures grove { IfSome result (λ r. IsGrove ground.entry r.value (count + 1) rows.new) }
-    ensures reached { IfSome result (λ r. IsReached ground.entry.net.now r.value) }
-    ensures fewer { IfSome result (λ r. r.value ≤ known.value) }
+    ensures grove { IfSome result (λ r. IsGrove (at_stage ground.entry true) r.value (count + 1) rows.new) }
+    ensures least { IfSome result (λ r. HasFallen ground.entry.net.now known.value r.value) }
     ensures paid { PaysIfAny flow.old known.left flow.new result }
 {
+    if !make_ready(ground, ready, rows, hints) {
+        return None;
+    }
+    let mut ground = ground;
+    ground.numbered = !ground.paired;
     let nodes = ground.net.nodes();
     flow.clear();
     set_places_back(ground, hints);
@@ -141,16 +171,6 @@ fn forests_for(least: u64, is_even: bool) -> u64
     }
 }
 
-/// Puts down what searches need, unless it is there already. Answers false where the rows tell of no arcs any more.
-fn make_ready(ground: Ground<'_>, ready: bool, rows: &mut [u32], hints: &mut [u32]) -> bool
-    requires rows { length rows.old ≡ length ground.net.now.arcs }
-    requires hints { length hints.old ≡ length ground.net.now.arcs + 4 * ground.net.now.nodes + 1 }
-    ensures { IsTrue result → (k c : ℕ) (done : List ℕ) → IsForest (at_stage ground.entry ready) k c rows.old done
-        → IsForest (at_stage ground.entry true) k c rows.new done }
-{
-    ready || number_arcs(ground, rows, hints)
-}
-
 /// Lets as many forests grow as there have to be. Backwards the first cells tell how many arcs leave each node. `known`
 /// holds the least number so far and how many looks and pushes are left; the answer is the same afterwards, or nothing
 /// where they are used up or a test fails.
@@ -172,8 +192,7 @@ fn run_pass(
     requires reached { IsReached ground.net.now known.value }
     ensures fits { Fits ground.entry.net.now flow.new.flows }
     ensures above { IfSome result (λ r. AreAbove ground.entry r.value) }
-    ensures reached { IfSome result (λ r. IsReached ground.entry.net.now r.value) }
-    ensures fewer { IfSome result (λ r. r.value ≤ known.value) }
+    ensures least { IfSome result (λ r. HasFallen ground.entry.net.now known.value r.value) }
     ensures paid { PaysIfAny flow.old known.left flow.new result }
 {
     let nodes = ground.net.nodes();
@@ -190,16 +209,12 @@ fn run_pass(
     let mut least = known;
     let mut count = 0;
     while count < forests_for(least.value, is_even) {
-        let mut now = ground;
-        now.numbered = ready & !ground.paired;
-        let front = begin_forest(now, rows, done, hints);
+        let front = begin_forest(ground, ready, rows, done, hints, count, least.value);
         if !is_whole(nodes, done) {
-            if !make_ready(ground, ready, rows, hints) {
-                return None;
-            }
+            least = complete(
+                ground, ready, rows, done, seen, hints, flow, count, front, least,
+            )?;
             ready = true;
-            now.numbered = !ground.paired;
-            least = complete(now, rows, done, seen, hints, flow, count, front, least)?;
         }
         count += 1;
     }
@@ -233,9 +248,9 @@ fn has_more_arcs(net: &Network, least: u64) -> bool {
 /// it costs to pass over longer rows.
 const MOST_FRESH: u64 = 8;
 
-/// Whether few forests need nearly all arcs where each node has so many or more: not where one less is enough.
-fn needs_all_arcs(net: &Network, least: u64, is_even: bool) -> bool {
-    least <= MOST_FRESH && !is_even && !has_more_arcs(net, least)
+/// Whether few forests need nearly all arcs where each node has so many or more.
+fn needs_all_arcs(net: &Network, least: u64) -> bool {
+    least <= MOST_FRESH && !has_more_arcs(net, least)
 }
 
 /// The edge connectivity of a network in which every capacity is 1. It takes at most `budget` looks and pushes, and
@@ -266,7 +281,7 @@ pub fn connectivity_by_forests(
         return Some(0);
     }
     let is_balanced = are_balanced(net, cells);
-    let is_even = paired && is_balanced && are_even(net, cells);
+    let is_even = are_even(net, cells, paired, is_balanced);
     let dense = has_more_arcs(net, u64::from(net.nodes()).isqrt());
     let mut ground = Ground {
         net,
@@ -277,7 +292,7 @@ pub fn connectivity_by_forests(
         paired,
         numbered: false,
         dense,
-        scarce: paired && !dense && needs_all_arcs(net, least, is_even),
+        scarce: (paired & !dense & !is_even) && needs_all_arcs(net, least),
     };
     let start = Budgeted {
         value: least,

@@ -164,10 +164,12 @@ way_ends dir net w x done xs ys v o i r m = ends dir r m
     ends : (d : Direction) → IsRaised d net w done xs v → IsUnderWay d net (just w) done xs w x ys
         → IsRaised d net w done ys (v + 1)
     ends Forwards r m = record {
+      node = r.node;
       feasible = moved_feasible net (just w) done xs 1 w x ys (just_self w) i m;
       sent = omega (arith, r.sent, moved_value net (just w) done xs 1 w x ys (just_self w) other m);
     }
     ends Backwards r m = record {
+      node = r.node;
       feasible = record {
         fits = m.fits;
         conserved = λ u a b s t.

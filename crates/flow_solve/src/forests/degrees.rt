@@ -119,14 +119,18 @@ pub fn are_balanced(net: &Network, degrees: &[u32]) -> bool
     leaving == entering
 }
 
-/// Whether an even number of arcs leaves each set of nodes, as the degrees show it in a network both ways.
-pub(crate) fn are_even(net: &Network, degrees: &[u32]) -> bool
-    requires opposite { AreOpposite net.now.arcs }
+/// Whether an even number of arcs leaves each set of nodes, as the degrees show it in a network that is paired, each
+/// arc with its opposite half of the arcs away, and balanced.
+pub(crate) fn are_even(net: &Network, degrees: &[u32], is_paired: bool, is_balanced: bool) -> bool
+    requires opposite { IsTrue is_paired → AreOpposite net.now.arcs }
     requires cells { net.now.nodes ≤ length degrees.now }
     requires degrees { AreDegrees net.now degrees.now (drop net.now.nodes degrees.now) }
-    requires balanced { IsEitherWay net.now }
+    requires balanced { IsTrue is_balanced → IsEitherWay net.now }
     ensures { IsTrue result → IsEulerian net.now }
 {
+    if !is_paired || !is_balanced {
+        return false;
+    }
     for node in 0..net.nodes() {
         if degrees[node as usize] % 2 == 1 {
             return false;

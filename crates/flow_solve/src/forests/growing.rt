@@ -27,6 +27,10 @@ pub(crate) struct Front {
     pub node: u32,
     /// The cell from which it goes on in that node's row, or one before the row.
     pub place: u32,
+    /// Whether it goes first over arcs whose opposite none before it has taken.
+    pub is_choosy: bool,
+    /// Whether a forest after it will: then it notes which opposites it takes.
+    pub takes_notes: bool,
 }
 
 /// A cell whose arc leads on to a node that the forest hasn't come to.
@@ -89,17 +93,17 @@ fn fresh_lead(
     Some(lead)
 }
 
-/// Notes where arcs are scarce that a forest has taken one from a node to another, at a cell of the other's row whose
-/// arc leads back.
-fn note_opposite(ground: Ground<'_>, rows: &[u32], hints: &mut [u32], from: u32, to: u32) {
-    if !ground.scarce {
+/// Notes that a forest has taken an arc from a node to another, at a cell of the other's row whose arc leads back, if
+/// it is one that takes notes.
+fn note_opposite(ground: Ground<'_>, rows: &[u32], hints: &mut [u32], front: Front, to: u32) {
+    if !front.takes_notes {
         return;
     }
     let begin = get(ground.first, (to as usize).wrapping_sub(1));
     let end = get(ground.first, to as usize);
     for cell in begin..end {
         let place = cell as usize;
-        if get(rows, place) % TAKEN == from && get(hints, place) == 0 {
+        if get(rows, place) % TAKEN == front.node && get(hints, place) == 0 {
             put(hints, place, 1);
             return;
         }
@@ -107,13 +111,14 @@ fn note_opposite(ground: Ground<'_>, rows: &[u32], hints: &mut [u32], from: u32,
 }
 
 /// The next cell of a node's row whose arc isn't taken and leads on, if there is one: from a place on, and where the
-/// network is dense from the beginning too. Where arcs are scarce it may be any.
+/// network is dense from the beginning too. Of a choosy forest it may be any.
 #[inline(always)]
 fn lead_from(
     ground: Ground<'_>,
     rows: &[u32],
     done: &[u32],
     hints: &[u32],
+    is_choosy: bool,
     begin: u32,
     from: u32,
     end: u32,
@@ -121,7 +126,7 @@ fn lead_from(
     requires { begin ≤ from }
     ensures { IfSome result (IsLead ground.entry rows.now done.now begin end false) }
 {
-    if ground.scarce {
+    if is_choosy {
         return fresh_lead(ground, rows, done, hints, begin, end);
     }
     let lead = next_lead(ground, rows, done, from, end, false);
@@ -166,14 +171,14 @@ fn go_on(
     let begin = ground.first[node as usize - 1];
     let end = ground.first[node as usize];
     let from = place_to_go_on(ground, hints, front).max(begin);
-    let lead = lead_from(ground, rows, done, hints, begin, from, end)?;
+    let lead = lead_from(ground, rows, done, hints, front.is_choosy, begin, from, end)?;
     if lead.behind == 0 {
         return None;
     }
     rows[lead.cell as usize] += TAKEN;
     mark(done, lead.behind);
     keep_place(ground, hints, node, lead.cell.wrapping_add(1));
-    note_opposite(ground, rows, hints, node, lead.behind);
+    note_opposite(ground, rows, hints, front, lead.behind);
     Some(lead)
 }
 
@@ -191,6 +196,7 @@ fn come_to(ground: Ground<'_>, hints: &mut [u32], front: Front, node: u32) -> Fr
         near: front.near.saturating_add(1),
         node,
         place: 0,
+        ..front
     }
 }
 
@@ -248,8 +254,15 @@ pub(crate) fn grow(
     front
 }
 
-/// A forest that has come to its root.
-pub(crate) fn begin(ground: Ground<'_>, done: &mut [u32], hints: &mut [u32]) -> Front
+/// A forest that has come to its root, after `count` others, of `all` that there will be. The first finds no notes, and
+/// nobody needs those of the last two: what an arc's opposite leads to, the forest itself has come to.
+pub(crate) fn begin(
+    ground: Ground<'_>,
+    done: &mut [u32],
+    hints: &mut [u32],
+    count: u64,
+    all: u64,
+) -> Front
     requires size { ground.net.now.nodes ≤ 32 * length done.old }
     requires root { IsNode ground.net.now ground.root }
     ensures root { IsTrue (marked_in done.new ground.entry.root) }
@@ -257,11 +270,14 @@ pub(crate) fn begin(ground: Ground<'_>, done: &mut [u32], hints: &mut [u32]) -> 
 {
     unmark_all(done);
     mark(done, ground.root);
+    let left = all.saturating_sub(count);
     let nowhere = Front {
         count: 0,
         near: 0,
         node: 0,
         place: 0,
+        is_choosy: ground.scarce && count > 0 && left > 1,
+        takes_notes: ground.scarce && left > 2,
     };
     come_to(ground, hints, nowhere, ground.root)
 }

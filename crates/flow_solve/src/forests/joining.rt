@@ -5,7 +5,7 @@ ghost use Rattle.flow_net.specs.Nets.{IsNode};
 ghost use Rattle.flow_net.specs.Limits.{IsNet};
 ghost use Rattle.flow_net.specs.Flows.{Fits, IsFeasible};
 ghost use Rattle.flow_solve.specs.residual.HalfArcs.{IsClosedFor};
-ghost use Rattle.flow_solve.specs.Forests.{IsPassed, IsRaised, IsReached, Pays, PaysIfAny};
+ghost use Rattle.flow_solve.specs.Forests.{HasFallen, IsPassed, IsRaised, IsReached, Pays, PaysIfAny};
 ghost use Rattle.flow_solve.specs.Forests.{marked_in, seen_in};
 ghost use Rattle.flow_solve.specs.Steps.{OnlyLooks, PaysLooks};
 
@@ -465,6 +465,14 @@ fn is_closed(
     Some(left)
 }
 
+/// Whether it is a node that the forest hasn't come to.
+fn is_apart(ground: Ground<'_>, done: &[u32], node: u32) -> bool
+    ensures node { IsTrue result → IsNode ground.entry.net.now node }
+    ensures apart { IsTrue result → IsFalse (marked_in done.now node) }
+{
+    node > 0 && node <= ground.net.nodes() && !is_marked(done, node)
+}
+
 /// Raises the flow between a node and those that the forest has come to, which has the value 0, until it is worth what
 /// is wanted or no more can be raised. Answers what it is worth, or nothing where looks and pushes are used up or a
 /// test fails.
@@ -487,15 +495,12 @@ pub(crate) fn raise(
     requires balanced { IsFeasible ground.net.now (marked_in done.now) (marked_in done.now) flow.old.flows }
     requires reached { IsReached ground.net.now wanted.value }
     ensures fits { Fits ground.entry.net.now flow.new.flows }
-    ensures node { IfSome result (λ _. IsNode ground.entry.net.now node) }
     ensures raised { IfSome result (λ r. IsRaised ground.entry.direction ground.entry.net.now node (marked_in done.now)
         flow.new.flows r.value) }
-    ensures reached { IfSome result (λ r. IsReached ground.entry.net.now r.value) }
-    ensures fewer { IfSome result (λ r. r.value ≤ wanted.value) }
+    ensures least { IfSome result (λ r. HasFallen ground.entry.net.now wanted.value r.value) }
     ensures paid { PaysIfAny flow.old wanted.left flow.new result }
 {
-    let nodes = ground.net.nodes();
-    if node == 0 || node > nodes || is_marked(done, node) {
+    if !is_apart(ground, done, node) {
         return None;
     }
     let mut search = begin_search(ground, seen, hints, node, wanted.left);

@@ -4,7 +4,7 @@ use Rattle.std.proofs.lemmas.Bool.{eqb-true}
 use Rattle.flow_net.specs.NodeSets.{just}
 use Rattle.flow_net.specs.Flows.{IsFeasible}
 use Rattle.flow_net.proofs.ZeroFlows.{zeros_feasible}
-use Rattle.flow_solve.specs.Forests.{marked_in}
+use Rattle.flow_solve.specs.Forests.{at_stage, marked_in}
 use Rattle.flow_solve.proofs.ForestLemmas.Joined.{raised_below, balanced_more}
 use Rattle.flow_solve.proofs.ForestLemmas.Marks.{mark_kept}
 use Rattle.flow_solve.proofs.ForestLemmas.Taken.{facing_limits, facing_nodes, forest_joined, grove_more}
@@ -21,12 +21,17 @@ loop-front-init c =
     c.clear.ensures.flows ∙ ap (λ k. replicate k 0) c.requires.fits.count in
     record {
       fits = c.clear.ensures.still_fits net c.requires.fits;
-      stand = c.requires.stand;
+      stand = record {
+        limits = c.requires.stand.limits;
+        root = c.requires.stand.root;
+        firsts = c.requires.stand.firsts;
+        size = c.requires.stand.size;
+      };
       root = c.requires.done;
       balanced = subst (λ (z : List ℕ). IsFeasible net t t z) (sym zeros) (zeros_feasible net t t);
-      reached = c.requires.reached;
-      fewer = omega arith;
-      forest = c.requires.forest;
+      least = record { reached = c.requires.reached; fewer = omega arith };
+      forest =
+          c.make_ready.ensures c.if-not-make_ready.false c.args.known.value c.args.count c.args.done.now c.requires.forest;
       paid = record {
         never_lowered = omega (arith, c.clear.ensures.steps);
         left = omega arith;
@@ -36,7 +41,7 @@ loop-front-init c =
 
 pub loop-front-preserved : goal.loop-front-preserved
 loop-front-preserved c =
-    let ground = c.args.ground in
+    let ground = at_stage c.args.ground true in
     let net = ground.net.now in
     let j = c.loop-front.invariant in
     let r = c.in_ok-least.ensures in
@@ -54,14 +59,13 @@ loop-front-preserved c =
       root = here ground.root j.root;
       balanced = balanced_more net (just w) (marked_in old) (marked_in new) c.raise.new.flow.flows r.raised.feasible
           (λ v h. ap (marked_in new) (eqb-true v w h) ∙ node) here;
-      reached = r.reached;
-      fewer = omega (arith, j.fewer, r.fewer);
+      least = record { reached = r.least.reached; fewer = omega (arith, j.least.fewer, r.least.fewer) };
       forest =
           g.forest c.in_ok-least.least.value c.args.count
           (forest_joined ground c.in_ok-least.least.value c.loop-front.least.value c.args.count w c.loop-front.rows old
           c.reach-front.new.done j.stand.limits joined
           (raised_below ground.direction net w (marked_in old) c.raise.new.flow.flows c.in_ok-least.least.value
-          j.stand.limits c.requires.unit r.raised) r.fewer j.forest);
+          j.stand.limits c.requires.unit r.raised) r.least.fewer j.forest);
       paid = paid_then _ _ _ _ _ _ j.paid r.paid;
     }
 

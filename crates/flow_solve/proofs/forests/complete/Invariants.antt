@@ -1,7 +1,7 @@
 -- `complete`: the forest has come to more nodes, the flow is balanced at the others, and its steps are paid.
-use Rattle.std.proofs.Common.{◌≡◌, ◌-◌, ◌≤◌, true}
+use Rattle.std.proofs.Common.{◌≡◌, ◌-◌, true}
 use Rattle.flow_net.specs.Flows.{Fits, IsFeasible}
-use Rattle.flow_solve.specs.Forests.{IsForest, IsReached, IsStand, marked_in}
+use Rattle.flow_solve.specs.Forests.{HasFallen, IsForest, IsStand, marked_in}
 use Rattle.flow_solve.specs.Steps.{PaysSteps}
 use Rattle.flow_solve.proofs.forests.complete.Given as goal
 
@@ -11,8 +11,7 @@ invariant-loop-front l = record {
   stand : IsStand l.ground l.done;
   root : marked_in l.done l.ground.root ≡ true;
   balanced : IsFeasible l.ground.net.now (marked_in l.done) (marked_in l.done) l.flow.flows;
-  reached : IsReached l.ground.net.now l.least.value;
-  fewer : l.least.value ≤ l.fn.known.value;
+  least : HasFallen l.ground.net.now l.fn.known.value l.least.value;
   forest : IsForest l.ground l.least.value l.count l.rows l.done;
   paid : PaysSteps l.fn.flow l.fn.known.left l.flow l.least.left;
 }

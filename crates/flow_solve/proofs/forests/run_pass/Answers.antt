@@ -1,8 +1,8 @@
 -- `run_pass`: a forest that comes to all nodes by itself is done, and any other is completed.
-use Rattle.std.proofs.Common.{arith}
+use Rattle.std.proofs.Common.{◌∙◌, arith}
 use Rattle.flow_solve.proofs.ForestLemmas.Taken.{above_enough, facing_limits, facing_nodes, grove_more, grove_begun}
 use Rattle.flow_solve.proofs.Payments.{paid_then}
-use Rattle.flow_solve.proofs.forests.run_pass.Goals.{then-not-is_whole+else-not-make_ready+in_ok-least}
+use Rattle.flow_solve.proofs.forests.run_pass.Goals.{then-not-is_whole+in_ok-least}
 use Rattle.flow_solve.proofs.forests.run_pass.Goals.{else-not-is_whole}
 use Rattle.flow_solve.proofs.forests.run_pass.Goals as goal
 
@@ -17,23 +17,18 @@ loop-count-init c =
         firsts = omega arith;
         size = omega arith;
       };
-      reached = c.requires.reached;
-      fewer = omega arith;
+      least = record { reached = c.requires.reached; fewer = omega arith };
       grove =
           grove_begun _ _ _ _ _ 0 c.fill_rows.new.rows
           (facing_limits c.args.ground.direction c.args.ground.net.now c.requires.limits) told;
-      rows_size = omega arith;
+      rows_size = c.fill_rows.auto.rows ∙ c.requires.rows;
       hints_size = omega arith;
       paid = record { never_lowered = omega arith; left = omega arith; steps = omega arith };
     }
 
 pub complete-requires-clause-forest : goal.complete-requires-clause-forest
 complete-requires-clause-forest c =
-    let k = c.loop-count.least.value in
-    let count = c.loop-count.count in
-    let one = c.begin_forest-front in
-    c.make_ready.ensures c.if-not-make_ready.false k count one.new.done
-    (one.ensures.forest k count c.loop-count.invariant.grove)
+    c.begin_forest-front.ensures.forest c.loop-count.least.value c.loop-count.count c.loop-count.invariant.grove
 
 pub loop-count-preserved : goal.loop-count-preserved
 loop-count-preserved c =
@@ -41,7 +36,7 @@ loop-count-preserved c =
     let one = c.begin_forest-front in
     let k = c.loop-count.least.value in
     elim c.if-not-is_whole.branch [
-      | then-not-is_whole+else-not-make_ready+in_ok-least w ↦
+      | then-not-is_whole+in_ok-least w ↦
           let r = w.in_ok-least.ensures in
           rw (w.rows-is, w.flow-is, w.hints-is, w.done-is, w.least-is, w.ready-is) (record {
             fits = r.fits;
@@ -51,11 +46,10 @@ loop-count-preserved c =
               firsts = j.stand.firsts;
               size = omega arith;
             };
-            reached = r.reached;
-            fewer = omega (arith, j.fewer, r.fewer);
+            least = record { reached = r.least.reached; fewer = omega (arith, j.least.fewer, r.least.fewer) };
             grove = r.grove;
-            rows_size = omega arith;
-            hints_size = omega arith;
+            rows_size = w.complete.auto.rows ∙ one.auto.rows ∙ j.rows_size;
+            hints_size = w.complete.auto.hints ∙ one.auto.hints ∙ j.hints_size;
             paid = paid_then _ _ _ _ _ _ j.paid r.paid;
           })
       | else-not-is_whole w ↦
@@ -67,16 +61,15 @@ loop-count-preserved c =
               firsts = j.stand.firsts;
               size = one.ensures.stand.size;
             };
-            reached = j.reached;
-            fewer = j.fewer;
+            least = j.least;
             grove =
                 grove_more _ _ _ _ k c.loop-count.count one.new.rows
                 (facing_limits c.args.ground.direction c.args.ground.net.now j.stand.limits) one.new.done
                 (λ more v l m. c.is_whole.ensures w.if-not-is_whole.false v l
                 (omega (arith, m, facing_nodes c.args.ground.direction c.args.ground.net.now)))
                 (one.ensures.forest k c.loop-count.count j.grove);
-            rows_size = omega arith;
-            hints_size = omega arith;
+            rows_size = one.auto.rows ∙ j.rows_size;
+            hints_size = one.auto.hints ∙ j.hints_size;
             paid = j.paid;
           })
     ]
@@ -85,4 +78,16 @@ pub returns-clause-above : goal.returns-clause-above
 returns-clause-above c =
     let j = c.loop-count.invariant in
     above_enough c.args.ground _ _ c.loop-count.least.value c.loop-count.count c.args.is_even c.loop-count.rows
-    c.requires.even j.reached j.grove (omega (arith, c.forests_for.ensures.all))
+    c.requires.even j.least.reached j.grove (omega (arith, c.forests_for.ensures.all))
+
+pub complete-requires-clause-fits : goal.complete-requires-clause-fits
+complete-requires-clause-fits c = c.loop-count.invariant.fits
+
+pub complete-requires-clause-unit : goal.complete-requires-clause-unit
+complete-requires-clause-unit c = c.requires.unit
+
+pub complete-requires-clause-done : goal.complete-requires-clause-done
+complete-requires-clause-done c = c.begin_forest-front.ensures.done
+
+pub complete-requires-clause-reached : goal.complete-requires-clause-reached
+complete-requires-clause-reached c = c.loop-count.invariant.least.reached

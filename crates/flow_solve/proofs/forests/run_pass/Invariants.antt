@@ -1,7 +1,7 @@
 -- `run_pass`: so many forests are done, and the steps are paid.
-use Rattle.std.proofs.Common.{◌≡◌, ◌+◌, ◌-◌, ◌*◌, ◌≤◌, length}
+use Rattle.std.proofs.Common.{◌≡◌, ◌+◌, ◌-◌, ◌*◌, length}
 use Rattle.flow_net.specs.Flows.{Fits}
-use Rattle.flow_solve.specs.Forests.{IsGrove, IsReached, IsStand, at_stage}
+use Rattle.flow_solve.specs.Forests.{HasFallen, IsGrove, IsStand, at_stage}
 use Rattle.flow_solve.specs.Steps.{PaysSteps}
 use Rattle.flow_solve.proofs.forests.run_pass.Given as goal
 
@@ -9,8 +9,7 @@ abbrev pub invariant-loop-count : goal.invariant-loop-count
 invariant-loop-count l = record {
   fits : Fits l.ground.net.now l.flow.flows;
   stand : IsStand l.ground l.done;
-  reached : IsReached l.ground.net.now l.least.value;
-  fewer : l.least.value ≤ l.fn.known.value;
+  least : HasFallen l.ground.net.now l.fn.known.value l.least.value;
   grove : IsGrove (at_stage l.ground l.ready) l.least.value l.count l.rows;
   rows_size : length l.rows ≡ length l.ground.net.now.arcs;
   hints_size : length l.hints ≡ length l.ground.net.now.arcs + 4 * l.ground.net.now.nodes + 1;

@@ -1,5 +1,5 @@
 -- `raise`: searches and pushes in turn, until the flow is worth what is wanted, or the nodes seen are a closed set.
-use Rattle.std.proofs.Common.{◌≡◌, ◌≤◌, ◌∙◌, ℕ, List, ap, subst, sym, true, arith}
+use Rattle.std.proofs.Common.{◌≡◌, ◌∙◌, ℕ, List, ap, subst, sym, true}
 use Rattle.std.proofs.lemmas.Bool.{eqb-true}
 use Rattle.flow_net.specs.NodeSets.{just}
 use Rattle.flow_net.specs.Cuts.{IsCut}
@@ -10,13 +10,12 @@ use Rattle.flow_solve.proofs.ForestLemmas.Marks.{seen_apart}
 use Rattle.flow_solve.proofs.forests.joining.raise.Goals as goal
 
 -- the seen nodes are a closed cut, so the value is the number of its arcs
-pub returns-else-is_worn-clause-reached : goal.returns-else-is_worn-clause-reached
-returns-else-is_worn-clause-reached c =
+pub returns-else-is_worn-clause-least : goal.returns-else-is_worn-clause-least
+returns-else-is_worn-clause-least c =
     let net = c.args.ground.net.now in
     let dir = c.args.ground.direction in
     let seen = c.search_out-search.new.seen in
     let j = c.loop-value.invariant in
-    let n : (1 ≤ c.args.node) × (c.args.node ≤ net.nodes) = (omega arith, omega arith) in
     let done = marked_in c.args.done.now in
     let X = seen_in c.args.done.now seen in
     let closed : IsClosedFor dir net c.loop-value.flow.flows X =
@@ -28,8 +27,11 @@ returns-else-is_worn-clause-reached c =
       sources = λ v h. ap X (eqb-true v c.args.node h) ∙ here;
       sinks = λ v d. seen_apart c.args.done.now seen v d;
     } in
-    parted_reached dir net c.args.node c.args.ground.root c.loop-value.value done X n c.requires.root
-    c.requires.done
-    cut
-    (raised_parted dir net c.args.node done c.loop-value.flow.flows c.loop-value.value X c.requires.limits
-    c.requires.unit j.raised cut closed)
+    record {
+      reached =
+          parted_reached dir net c.args.node c.args.ground.root c.loop-value.value done X j.raised.node c.requires.root
+          c.requires.done cut
+          (raised_parted dir net c.args.node done c.loop-value.flow.flows c.loop-value.value X c.requires.limits
+          c.requires.unit j.raised cut closed);
+      fewer = j.below;
+    }

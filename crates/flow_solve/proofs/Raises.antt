@@ -50,7 +50,7 @@ value_most net s t xs k n a f v =
     let c = cap_over-le (leaves s) net.arcs in
     omega arith
 
-pub capacities_fit : (net : Net) → IsNet net → capacities net < 2 ^ 128
+pub capacities_fit : (net : Net) → IsNet net → capacities net + 2 ^ 64 < 2 ^ 128
 capacities_fit net n =
     let c = caps_within net.nodes net.arcs n.arcs_within in
     let m = mul-le-mul_right (2 ^ 64) n.arcs_most in

@@ -98,3 +98,10 @@ pub flow_fits : (net : Net) (s t xs : List ℕ) (k : ℕ) → IsNet net → AreT
 flow_fits net s t xs k n terminals f =
     let most = value_most net (one_of s) (one_of t) xs k n (terminals_apart net s t terminals) f.feasible f.value in
     omega (arith, most, capacities_fit net n)
+
+-- and so has what is worth 64 bits more
+pub flow_has_room : {net : Net} {s t xs : List ℕ} {k : ℕ} → IsNet net → AreTerminals net s t → IsFlow net s t xs k
+    → k + 2 ^ 64 < 2 ^ 128
+flow_has_room {net} {s} {t} {xs} {k} n terminals f =
+    let most = value_most net (one_of s) (one_of t) xs k n (terminals_apart net s t terminals) f.feasible f.value in
+    omega (arith, most, capacities_fit net n)

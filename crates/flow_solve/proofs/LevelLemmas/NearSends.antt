@@ -1,13 +1,17 @@
 -- What is sent from a source to a sink over one node or two, and the last half-arcs that are left.
-use Rattle.std.proofs.Common.{ℕ, ◌+◌, ◌*◌, ◌≤◌, ◌<◌, List, length, get_or, set, subst, sym, inl, inr, arith}
+use Rattle.std.proofs.Common.{◌≡◌, ℕ, ◌+◌, ◌*◌, ◌≤◌, ◌<◌, List, length, get_or, set, refl, subst, sym, inl, inr, arith}
 use Rattle.std.proofs.Common.{IsTrue, get_or-set_same, get_or-set_other, length-set}
 use Rattle.std.proofs.lemmas.Bool.{cases_eq}
 use Rattle.flow_net.specs.Nets.{Net}
 use Rattle.flow_net.specs.Limits.{AreTerminals}
 use Rattle.flow_net.specs.NodeSets.{one_of}
+use Rattle.flow_net.specs.Residual.{Table}
+use Rattle.flow_solve.specs.declared.levels.near_sends.Sending.{Sending}
 use Rattle.flow_solve.specs.Solving.{IsFlow}
+use Rattle.flow_solve.specs.Steps.{PaysSteps}
+use Rattle.flow_solve.specs.Task.{HasFlow}
 use Rattle.flow_solve.specs.levels.Carrying.{IsCarried}
-use Rattle.flow_solve.specs.levels.NearSends.{AreLast, LeadsToSink}
+use Rattle.flow_solve.specs.levels.NearSends.{AreLast, IsSending, KeepsSending, LeadsToSink}
 use Rattle.flow_solve.proofs.LevelLemmas.Carried.{carried_on, flow_carried}
 
 -- the last half-arc of a place is forgotten
@@ -32,3 +36,52 @@ module _ {net : Net} {s t : List ℕ} (d k : ℕ) {xs : List ℕ} (n : AreTermin
       → IsCarried net d u v xs ys → IsCarried net d v w ys zs → IsCarried net d w x zs ws → IsFlow net s t ws (k + d)
   sent_over_two u v w x ys zs ws su tx a b c =
       flow_carried net s t d k u x xs ws n su tx (carried_on (carried_on a b) c) f
+
+-- Nothing is sent, without a look or after one, and perhaps less may be done than before.
+pub keeps_still : {table : Table} {old : Sending} (left given : ℕ) → IsSending table old → left ≤ old.left
+    → old.left ≤ given → KeepsSending table old given table (record old { left = left })
+keeps_still left given s l g = record {
+  sending = record { task = s.task; flow = s.flow; last = s.last };
+  stays = record { task = refl; last = refl };
+  paid = record { never_lowered = omega arith; left = omega arith; steps = omega arith };
+  left = l;
+}
+
+pub keeps_looking : {before after : Table} {old : Sending} (left : ℕ) → IsSending before old
+    → after.flows ≡ before.flows → after.steps ≡ before.steps + 1 → left ≤ old.left
+    → KeepsSending before old (old.left + 1) after (record old { left = left })
+keeps_looking {old = old} left s e k l = record {
+  sending = record {
+    task = s.task;
+    flow = subst (λ (xs : List ℕ). HasFlow old.task xs old.value) (sym e) s.flow;
+    last = s.last;
+  };
+  stays = record { task = refl; last = refl };
+  paid = record { never_lowered = omega arith; left = omega arith; steps = omega arith };
+  left = l;
+}
+
+-- sends after a look
+pub keeps_looked : {before between after : Table} {old new : Sending} (left : ℕ) → between.steps ≡ before.steps + 1
+    → KeepsSending between old old.left after new → left ≤ new.left
+    → KeepsSending before old (old.left + 1) after (record new { left = left })
+keeps_looked left k s l = let paid = s.paid in record {
+  sending = record { task = s.sending.task; flow = s.sending.flow; last = s.sending.last };
+  stays = record { task = s.stays.task; last = s.stays.last };
+  paid = record { never_lowered = omega arith; left = omega arith; steps = omega arith };
+  left = omega (arith, s.left);
+}
+
+-- steps are paid, and fewer may be taken ahead
+pub pays_less : {before after : Table} {given left : ℕ} (ahead : ℕ) → PaysSteps before given after (left + ahead)
+    → PaysSteps before given after left
+pays_less ahead p = record { never_lowered = p.never_lowered; left = omega (arith, p.left); steps = omega (arith, p.steps) }
+
+pub pays_on : {before between after : Table} {given rest : ℕ} (left ahead next : ℕ)
+    → PaysSteps before given between (left + ahead) → PaysSteps between (left + 1) after rest → next < ahead
+    → PaysSteps before given after (rest + next)
+pays_on left ahead next p q l = record {
+  never_lowered = omega (arith, p.never_lowered, q.never_lowered);
+  left = omega (arith, p.left, q.left);
+  steps = omega (arith, p.steps, q.steps);
+}

@@ -2,7 +2,7 @@
 use Rattle.std.specs.Prelude.{◌≡◌, ◌≢◌, ℕ, ◌+◌, ◌*◌, ◌<◌, ◌≤◌, IsTrue, List, length, slice_index}
 use Rattle.flow_net.specs.Nets.{Net}
 use Rattle.flow_net.specs.NodeSets.{one_of}
-use Rattle.flow_net.specs.Residual.{Table, tail_of, head_of}
+use Rattle.flow_net.specs.Residual.{Table, tail_of, head_of, residual}
 use Rattle.flow_solve.specs.declared.levels.near_sends.Sending.{Sending}
 use Rattle.flow_solve.specs.declared.task.Task.{Task}
 use Rattle.flow_solve.specs.Steps.{PaysSteps}
@@ -44,3 +44,8 @@ pub record KeepsSending (before : Table) (old : Sending) (given : ℕ) (after : 
   pub stays : StaysAt old new
   pub paid : PaysSteps before given after new.left
   pub left : new.left ≤ old.left
+
+-- Of so much as may go over a half-arc, at most all was sent, and the rest remains there.
+pub record IsSent (net : Net) (whole sent : ℕ) (flows : List ℕ) (h : ℕ) : Type 0 where
+  pub most : sent ≤ whole
+  pub rest : whole ≤ sent + residual net flows h

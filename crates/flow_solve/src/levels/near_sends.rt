@@ -14,7 +14,7 @@ ghost use Rattle.flow_solve.specs.levels.Entries.{HasRows, IsOpening};
 ghost use Rattle.flow_solve.specs.Task.{HasFlow, KeepsFlow};
 ghost use Rattle.flow_solve.specs.Steps.{OnlyLooks, TakesSteps};
 ghost use Rattle.flow_solve.specs.levels.Carrying.{IsCarried};
-ghost use Rattle.flow_solve.specs.levels.NearSends.{AreLast, IsFirst, IsSending, KeepsSending};
+ghost use Rattle.flow_solve.specs.levels.NearSends.{AreLast, IsFirst, IsSending, IsSent, KeepsSending};
 
 use crate::levels::entries::{against_in, along_in};
 use crate::levels::rows::{entry_at, row_of};
@@ -143,13 +143,15 @@ fn send_over_one(flow: &mut FlowTable, sending: &mut Sending<'_, '_>, first: u32
     requires first { IsFirst sending.old.task first }
     requires most { most ≤ residual sending.old.task.packed.net.now flow.old.flows first }
     ensures kept { KeepsSending flow.old sending.old sending.old.left flow.new sending.new }
-    ensures sent { result ≤ most }
-    ensures room { most ≤ result + residual sending.old.task.packed.net.now flow.new.flows first }
+    ensures sent { IsSent sending.old.task.packed.net.now most result flow.new.flows first }
 {
     let packed = sending.task.packed;
     let node = head(packed.net, first);
     let end = sending.last[node as usize - 1];
-    if end as usize >= packed.halves.len() || first / 2 == end / 2 || !spend(&mut sending.left, 3) {
+    if end as usize >= packed.halves.len() || first / 2 == end / 2 {
+        return 0;
+    }
+    if !spend(&mut sending.left, 3) {
         return 0;
     }
     let amount = fit_last(sending.task, flow, sending.last, node, most);
@@ -180,8 +182,7 @@ fn send_over_two(
     requires between { between < 2 * length sending.old.task.packed.net.now.arcs }
     requires most { most ≤ residual sending.old.task.packed.net.now flow.old.flows first }
     ensures kept { KeepsSending flow.old sending.old (sending.old.left + 1) flow.new sending.new }
-    ensures sent { result ≤ most }
-    ensures room { most ≤ result + residual sending.old.task.packed.net.now flow.new.flows first }
+    ensures sent { IsSent sending.old.task.packed.net.now most result flow.new.flows first }
 {
     let packed = sending.task.packed;
     // Against an arc something remains only where it was just sent, and to read its end would be one more far read.
@@ -198,7 +199,10 @@ fn send_over_two(
         return 0;
     }
     let (_, room) = flow.look(packed.net, between);
-    if room == 0 || !are_apart(first, between, end) || !spend(&mut sending.left, 4) {
+    if room == 0 || !are_apart(first, between, end) {
+        return 0;
+    }
+    if !spend(&mut sending.left, 4) {
         return 0;
     }
     let amount = fit_last(sending.task, flow, sending.last, node, room.min(most));
@@ -231,7 +235,8 @@ fn send_over(flow: &mut FlowTable, sending: &mut Sending<'_, '_>, first: u32)
     }
     for spot in begin..end {
         let between = along_in(entry_at(packed, node, spot));
-        room -= send_over_two(flow, sending, first, between, room);
+        let sent = send_over_two(flow, sending, first, between, room);
+        room -= sent;
         if room == 0 {
             return;
         }

@@ -1,11 +1,11 @@
 -- `send_over_two`: the amount goes over three half-arcs of three arcs, so that each has its room when it comes to it.
-use Rattle.std.proofs.Common.{◌≡◌, ◌≢◌, ℕ, List, ◌+◌, ◌-◌, ◌/◌, ◌∙◌, sym, ap, subst, arith, rules}
+use Rattle.std.proofs.Common.{◌≡◌, ◌≢◌, ℕ, List, ◌+◌, ◌-◌, ◌/◌, ◌∙◌, le_refl, le-add_right, refl, sym, ap, subst, arith, rules}
 use Rattle.std.specs.Prelude.{slice_index}
 use Rattle.flow_net.specs.Residual.{tail_of, head_of, residual}
 use Rattle.flow_solve.specs.Task.{HasFlow}
 use Rattle.flow_solve.specs.levels.Carrying.{IsCarried}
-use Rattle.flow_solve.proofs.LevelLemmas.Carried.{flow_fits, flow_same}
-use Rattle.flow_solve.proofs.LevelLemmas.NearSends.{sent_over_two}
+use Rattle.flow_solve.proofs.LevelLemmas.Carried.{flow_has_room, flow_same}
+use Rattle.flow_solve.proofs.LevelLemmas.NearSends.{keeps_looking, keeps_still, sent_over_two}
 use Rattle.flow_solve.proofs.levels.near_sends.send_over_two.Goals as goal
 
 pub carry-requires-3-clause-room : goal.carry-requires-3-clause-room
@@ -21,31 +21,36 @@ carry-requires-3-clause-room c =
 
 pub carry-requires-2-clause-apart : goal.carry-requires-2-clause-apart
 carry-requires-2-clause-apart c =
-    omega (arith, c.tail.ensures.tail, c.if-tail-here.false, c.head-node.ensures.head, c.if-here-node.false)
+    λ e.
+    c.if-here-node.false
+    (sym c.if-tail-here.false ∙ c.tail.ensures.tail ∙ e ∙ sym c.head-node.ensures.head)
 
 pub overflow_add-sending : goal.overflow_add-sending
 overflow_add-sending c =
-    let task = c.args.sending.now.task in let net = task.packed.net.now in let s = task.s.now in let t = task.t.now in
-    let d = c.fit_last-amount.result in let k = c.args.sending.now.value in
-    let first = c.args.first in let between = c.args.between in
-    let place = c.head-node.result - 1 in let end = slice_index c.args.sending.now.last.now place in
-    let node = c.head-node.ensures.node in
-    let leads = c.requires.sending.last.ends place (omega arith) (omega arith) in
-    let on : tail_of net end ≡ head_of net between = omega (arith, leads.from, c.head-node.ensures.head) in
-    let come : tail_of net between ≡ head_of net first =
-    omega (arith, c.tail.ensures.tail, c.if-tail-here.false, c.head-here.ensures.head) in
-    let before = flow_same net s t c.args.flow.now.flows c.fit_last-amount.new.flow.flows k
-    (c.fit_last-amount.ensures.looks.flows ∙ c.look-room.ensures.flows) c.requires.sending.flow in
-    let xs = c.carry.new.flow.flows in let ys = c.carry-2.new.flow.flows in let zs = c.carry-3.new.flow.flows in
-    let now = sent_over_two d k c.requires.sending.task.terminals before (tail_of net first) (head_of net first)
-    (head_of net between) (head_of net end) xs ys zs c.requires.first.source leads.sink c.carry.ensures.carried
-    (subst (λ v. IsCarried net d v (head_of net between) xs ys) come c.carry-2.ensures.carried)
-    (subst (λ v. IsCarried net d v (head_of net end) ys zs) on c.carry-3.ensures.carried) in
-    omega (
-      arith,
-      flow_fits net s t zs (k + d) c.requires.sending.task.rows.limits c.requires.sending.task.terminals now,
-      c.from.ensures,
-    )
+    let sending = c.requires.sending in
+    omega (arith, flow_has_room sending.task.rows.limits sending.task.terminals sending.flow, c.from.ensures)
+
+pub returns-then-between-eq1-clause-kept : goal.returns-then-between-eq1-clause-kept
+returns-then-between-eq1-clause-kept c =
+    keeps_still c.args.sending.now.left (c.args.sending.now.left + 1) c.requires.sending (le_refl _) (le-add_right _ _)
+
+pub returns-then-end-packed-clause-kept : goal.returns-then-end-packed-clause-kept
+returns-then-end-packed-clause-kept c =
+    keeps_still c.args.sending.now.left (c.args.sending.now.left + 1) c.requires.sending (le_refl _) (le-add_right _ _)
+
+pub returns-then-tail-here-clause-kept : goal.returns-then-tail-here-clause-kept
+returns-then-tail-here-clause-kept c =
+    keeps_still c.args.sending.now.left (c.args.sending.now.left + 1) c.requires.sending (le_refl _) (le-add_right _ _)
+
+pub returns-then-room-eq0-clause-kept : goal.returns-then-room-eq0-clause-kept
+returns-then-room-eq0-clause-kept c =
+    keeps_looking c.args.sending.now.left c.requires.sending c.look-room.ensures.flows c.look-room.ensures.steps
+    (le_refl _)
+
+pub returns-then-not-spend-clause-kept : goal.returns-then-not-spend-clause-kept
+returns-then-not-spend-clause-kept c =
+    keeps_looking c.spend.new.left c.requires.sending c.look-room.ensures.flows c.look-room.ensures.steps
+    (omega (arith, c.if-not-spend.ensures.none refl))
 
 pub returns-clause-kept : goal.returns-clause-kept
 returns-clause-kept c =
@@ -56,8 +61,7 @@ returns-clause-kept c =
     let node = c.head-node.ensures.node in
     let leads = c.requires.sending.last.ends place (omega arith) (omega arith) in
     let on : tail_of net end ≡ head_of net between = omega (arith, leads.from, c.head-node.ensures.head) in
-    let come : tail_of net between ≡ head_of net first =
-    omega (arith, c.tail.ensures.tail, c.if-tail-here.false, c.head-here.ensures.head) in
+    let come = sym c.tail.ensures.tail ∙ c.if-tail-here.false ∙ c.head-here.ensures.head in
     let before = flow_same net s t c.args.flow.now.flows c.fit_last-amount.new.flow.flows k
     (c.fit_last-amount.ensures.looks.flows ∙ c.look-room.ensures.flows) c.requires.sending.flow in
     let xs = c.carry.new.flow.flows in let ys = c.carry-2.new.flow.flows in let zs = c.carry-3.new.flow.flows in
@@ -76,11 +80,14 @@ returns-clause-kept c =
       left = search rules;
     }
 
-pub returns-clause-room : goal.returns-clause-room
-returns-clause-room c =
+pub returns-clause-sent : goal.returns-clause-sent
+returns-clause-sent c =
     let apart = c.are_apart.ensures c.if-not-are_apart.false in
     let third = c.carry-3.ensures.others c.args.first apart.2 in
     let second = c.carry-2.ensures.others c.args.first apart.0 in
     let kept = ap (λ (xs : List ℕ). residual c.args.sending.now.task.packed.net.now xs c.args.first)
     (c.fit_last-amount.ensures.looks.flows ∙ c.look-room.ensures.flows) in
-    omega (arith, second, third, kept, c.carry.ensures.room, c.requires.most)
+    record {
+      most = omega (arith, c.fit_last-amount.ensures.most, c.min.ensures);
+      rest = omega (arith, second, third, kept, c.carry.ensures.room, c.requires.most);
+    }

@@ -1,15 +1,41 @@
 -- `walk_from_sources`: from each source until it is dead; a dead node stays so.
-use Rattle.std.proofs.Common.{ℕ, IsTrue, get_or, below_more, sym, subst, arith, rules}
+use Rattle.std.proofs.Common.{ℕ, IsTrue, get_or, below_more, refl, sym, subst, arith, rules}
 use Rattle.std.specs.Prelude.{slice_index}
 use Rattle.flow_net.specs.NodeSets.{one_of}
 use Rattle.flow_solve.specs.residual.Searches.{seen}
 use Rattle.flow_solve.specs.levels.Phases.{cell_of, first_at, IsDead}
-use Rattle.flow_net.proofs.NodeLists.{place_in}
-use Rattle.flow_solve.proofs.ResidualLemmas.Searched.{unmarked_unseen}
+use Rattle.flow_net.proofs.NodeLists.{one_of-at, place_in}
+use Rattle.flow_solve.proofs.ResidualLemmas.Searched.{seen_marked, unmarked_unseen}
 use Rattle.flow_solve.proofs.LevelLemmas.Walks.{dead_on}
 use Rattle.flow_solve.proofs.levels.phases.walk_from_sources.Goals.{then-phase-source-lt-WANTED}
 use Rattle.flow_solve.proofs.levels.phases.walk_from_sources.Goals.{else-phase-source-lt-WANTED}
 use Rattle.flow_solve.proofs.levels.phases.walk_from_sources.Goals as goal
+
+-- no source yet
+pub loop-source-init : goal.loop-source-init
+loop-source-init c = record {
+  walks = c.requires.walks;
+  same = record { current = refl; current_size = refl; path = refl; path_size = refl };
+  dead = λ k l. absurd (omega (arith, l));
+  gentle = λ level o g. g;
+  never_lowered = omega arith;
+  steps = omega arith;
+}
+
+pub walk-requires-clause-node : goal.walk-requires-clause-node
+walk-requires-clause-node c =
+    c.requires.run.terminals.sources_within c.loop-source.source-index 0 c.loop-source-test.true
+
+pub walk-requires-clause-source : goal.walk-requires-clause-source
+walk-requires-clause-source c = one_of-at c.args.phase.s.now c.loop-source.source-index c.loop-source-test.true
+
+pub walk-requires-clause-ranked : goal.walk-requires-clause-ranked
+walk-requires-clause-ranked c =
+    let source = get_or c.args.phase.s.now c.loop-source.source-index 0 in
+    let node = c.requires.run.terminals.sources_within c.loop-source.source-index 0 c.loop-source-test.true in
+    c.requires.ranked source
+    (seen_marked c.args.phase.dist.now source node.0 (omega (arith, node.1, c.requires.run.dist_size))
+    c.if-phase-source-lt-WANTED.true)
 
 -- one more source is dead, or isn't seen
 pub loop-source-preserved : goal.loop-source-preserved

@@ -19,6 +19,22 @@ loop-place-init c = record {
   never_lowered = omega arith;
 }
 
+-- its half-arcs are those of the network
+pub bounds-packed-place : goal.bounds-packed-place
+bounds-packed-place c =
+    let packed = c.requires.run.packed in
+    omega (arith, packed.most c.args.node c.requires.node.1, packed.halves_size, c.loop-place-test.true)
+
+pub head-requires : goal.head-requires
+head-requires c =
+    (mine_at c.requires.run.packed.limits c.requires.run.packed c.requires.node c.requires.current
+    c.loop-place.invariant.looking c.loop-place-test.true).half
+
+pub look-room-requires-clause-in_range : goal.look-room-requires-clause-in_range
+look-room-requires-clause-in_range c =
+    (mine_at c.requires.run.packed.limits c.requires.run.packed c.requires.node c.requires.current
+    c.loop-place.invariant.looking c.loop-place-test.true).half
+
 -- one is found: the place moves up to it
 pub returns-then-room-gt0-clause-looked : goal.returns-then-room-gt0-clause-looked
 returns-then-room-gt0-clause-looked c = record {

@@ -1,8 +1,26 @@
 -- `augment`: after the push what remains on each half-arc is less by the amount.
-use Rattle.std.proofs.Common.{arith}
+use Rattle.std.proofs.Common.{ℕ, ◌≤◌, subst, arith}
+use Rattle.std.proofs.lemmas.List.{get_or_default}
+use Rattle.flow_net.specs.Residual.{residual}
 use Rattle.flow_solve.specs.levels.Phases.{path_of}
 use Rattle.flow_solve.proofs.LevelLemmas.Descents.{rooms_after}
 use Rattle.flow_solve.proofs.levels.walking.augment.Goals as goal
+
+pub least_on-depth-requires-clause-halves : goal.least_on-depth-requires-clause-halves
+least_on-depth-requires-clause-halves c = c.requires.halves
+
+pub push_over-requires-clause-halves : goal.push_over-requires-clause-halves
+push_over-requires-clause-halves c = c.requires.halves
+
+pub push_over-requires-clause-room : goal.push_over-requires-clause-room
+push_over-requires-clause-room c = λ k d l.
+    let found = c.least_on-depth.ensures in let net = c.args.net.now in
+    rw found.flows
+    (subst (λ (h : ℕ). c.least_on-depth.result.1 ≤ residual net c.args.flow.now.flows h)
+    (get_or_default (path_of c.args.walks.now c.args.len) k 0 d l) (found.filling.least k l))
+
+pub tail-node-requires : goal.tail-node-requires
+tail-node-requires c = c.requires.halves c.least_on-depth.result.0 0 c.least_on-depth.ensures.filling.place
 
 pub returns-clause-filling : goal.returns-clause-filling
 returns-clause-filling c = c.least_on-depth.ensures.filling

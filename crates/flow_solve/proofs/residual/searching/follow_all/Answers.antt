@@ -17,6 +17,42 @@ bounds-queue-progress c =
     omega
     (arith, c.requires.next, queue_short c.args.dist.now c.args.queue.now c.args.progress.seen s.order, s.queue_size)
 
+-- no half-arc yet
+pub loop-spot-init : goal.loop-spot-init
+loop-spot-init c = record {
+  fits = c.requires.fits;
+  flows = refl;
+  cells = c.requires.cells;
+  begun = omega arith;
+  here = refl;
+  level = refl;
+  near = c.requires.near;
+  search = c.requires.search;
+  grown = record { kept = λ p m. (refl, refl); ahead = λ i l. refl; more = omega arith; count = λ until k. k };
+  followed = refl;
+  done = λ p l from. absurd (omega (arith, l, from));
+  come = λ p m. inl m;
+  next_level = λ p m. inl m;
+  only = λ side closed in_side holds. holds;
+  never_lowered = omega arith;
+  steps = omega arith;
+}
+
+-- each half-arc of a row is one of the network
+pub arrive-requires-clause-half : goal.arrive-requires-clause-half
+arrive-requires-clause-half c =
+    let place = get_or c.args.queue.now c.args.progress.followed 0 in
+    let inside = c.requires.search.order.places c.args.progress.followed c.requires.next in
+    (c.requires.packed.holds place c.loop-spot.spot (omega (arith, inside, c.requires.cells))
+    c.loop-spot.invariant.begun c.loop-spot-test.true).0
+
+pub bounds-halves-spot : goal.bounds-halves-spot
+bounds-halves-spot c =
+    let place = get_or c.args.queue.now c.args.progress.followed 0 in
+    let inside = c.requires.search.order.places c.args.progress.followed c.requires.next in
+    omega
+    (arith, c.requires.packed.most (place + 1) (omega (arith, inside, c.requires.cells)), c.requires.packed.halves_size)
+
 -- what was come to is unseen, and no nearer than any seen node
 pub enter-progress-requires-clause-arrival : goal.enter-progress-requires-clause-arrival
 enter-progress-requires-clause-arrival c =
@@ -132,6 +168,16 @@ loop-spot-preserved c =
             steps = omega (arith, old.steps, looks.steps, old.begun);
           })
     ]
+
+pub returns-clause-search : goal.returns-clause-search
+returns-clause-search c =
+    let s = c.loop-spot.invariant.search in
+    record { via_size = s.via_size; queue_size = s.queue_size; few = s.few; order = s.order; wanted = s.wanted }
+
+pub returns-clause-grown : goal.returns-clause-grown
+returns-clause-grown c =
+    let g = c.loop-spot.invariant.grown in
+    record { kept = g.kept; ahead = g.ahead; more = g.more; count = g.count }
 
 -- the node is followed: nothing that remains leads from it to an unseen node
 pub returns-clause-followed : goal.returns-clause-followed

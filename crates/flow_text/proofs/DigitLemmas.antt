@@ -1,5 +1,5 @@
 -- The value of a field, digit by digit from its front.
-use Rattle.std.proofs.Common.{◌≡◌, ◌<◌, ◌≤◌, ℕ, suc, ◌+◌, ◌-◌, ◌*◌, ◌^◌, ◌%◌, true, false, List, length, get_or, drop}
+use Rattle.std.proofs.Common.{◌≡◌, ◌<◌, ◌≤◌, ℕ, suc, ◌+◌, ◌-◌, ◌*◌, ◌^◌, ◌%◌, true, List, length, get_or, drop}
 use Rattle.std.proofs.Common.{refl, ◌∙◌, arith, add-one, drop-cons}
 use Rattle.std.specs.Char.{is_ascii_digit}
 use Rattle.std.specs.Str.{all_ascii_digits}
@@ -8,7 +8,7 @@ use Rattle.std.proofs.Math.Nat.{pow-suc, one-le-pow, mul-le-mul_left, pow-le-pow
 use Rattle.std.proofs.lemmas.Grind.{common_steps}
 use Rattle.flow_text.specs.Digits.{value_of}
 use Rattle.flow_text.specs.Numbers.{number_of}
-use Rattle.flow_text.specs.declared.numbers.Number.TheVariants.{NotDigits, Above, Value}
+use Rattle.flow_text.specs.declared.numbers.Number.TheVariants.{Value}
 
 -- the bytes before place i are digits
 abbrev pub AreDigits : List ℕ → ℕ → Type 0

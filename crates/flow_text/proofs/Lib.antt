@@ -7,6 +7,7 @@ pub mod ReaderLemmas
 pub mod PieceLemmas
 pub mod EndLemmas
 pub mod TerminalLemmas
+pub mod TestLemmas
 pub mod KindLemmas
 pub mod ProblemLemmas
 pub mod SolutionLemmas

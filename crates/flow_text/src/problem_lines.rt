@@ -33,7 +33,7 @@ fn size_in(others: Fields<'_>) -> Result<(u32, u32), FaultCode>
     let Some((max, nodes, arcs)) = three(others) else {
         return Err(FaultCode::WrongFields);
     };
-    if max != b"max".as_slice() {
+    if !is_word(max, b"max") {
         return Err(FaultCode::NotMax);
     }
     let nodes = number_in(
@@ -41,9 +41,13 @@ fn size_in(others: Fields<'_>) -> Result<(u32, u32), FaultCode>
         FEWEST_NODES as u128,
         MOST_NODES as u128,
         FaultCode::NodesOutOfRange,
-    )?;
-    let arcs = number_in(arcs, 0, MOST_ARCS as u128, FaultCode::ArcsOutOfRange)?;
-    Ok((nodes as u32, arcs as u32))
+    );
+    let arcs = number_in(arcs, 0, MOST_ARCS as u128, FaultCode::ArcsOutOfRange);
+    match (nodes, arcs) {
+        (Ok(nodes), Ok(arcs)) => Ok((nodes as u32, arcs as u32)),
+        (Err(code), _) => Err(code),
+        (_, Err(code)) => Err(code),
+    }
 }
 
 /// What `n ID s` or `n ID t` says behind its letter: the node, and whether it is a source.

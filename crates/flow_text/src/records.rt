@@ -26,28 +26,23 @@ pub(crate) fn three<'a>(mut fields: Fields<'a>) -> Option<(&'a [u8], &'a [u8], &
         (λ found. fields.entry ≡ found.0.now ∷ found.1.now ∷ found.2.now ∷ []) }
 {
     let first = fields.next()?;
-    let second = fields.next()?;
-    let third = fields.next()?;
-    if fields.next().is_some() {
-        return None;
-    }
+    let (second, third) = two(fields)?;
     Some((first, second, third))
 }
 
 /// The two fields that are left, if there are as many.
+#[inline(always)]
 pub(crate) fn two<'a>(mut fields: Fields<'a>) -> Option<(&'a [u8], &'a [u8])>
     ensures { MatchOption result ((length fields.entry == 2) ≡ false)
         (λ found. fields.entry ≡ found.0.now ∷ found.1.now ∷ []) }
 {
     let first = fields.next()?;
-    let second = fields.next()?;
-    if fields.next().is_some() {
-        return None;
-    }
+    let second = one(fields)?;
     Some((first, second))
 }
 
 /// The one field that is left, if there is but one.
+#[inline(always)]
 pub(crate) fn one<'a>(mut fields: Fields<'a>) -> Option<&'a [u8]>
     ensures { MatchOption result ((length fields.entry == 1) ≡ false) (λ found. fields.entry ≡ found.now ∷ []) }
 {
@@ -78,7 +73,6 @@ pub(crate) fn number_in(
 }
 
 /// SRC, DST and the number of `SRC DST NUMBER`; `code` is the fault of a number that has more than 64 bits.
-#[tactic(auto, unfolding(crate::specs::Tests::ends_tests))]
 pub(crate) fn ends_in(
     others: Fields<'_>,
     nodes: u32,
@@ -97,8 +91,13 @@ pub(crate) fn ends_in(
     let Some((src, dst, number)) = three(others) else {
         return Err(FaultCode::WrongFields);
     };
-    let src = number_in(src, 1, nodes as u128, FaultCode::NodeOutOfRange)?;
-    let dst = number_in(dst, 1, nodes as u128, FaultCode::NodeOutOfRange)?;
-    let number = number_in(number, 0, GREATEST_CAPACITY as u128, code)?;
-    Ok((src as u32, dst as u32, number as u64))
+    let src = number_in(src, 1, nodes as u128, FaultCode::NodeOutOfRange);
+    let dst = number_in(dst, 1, nodes as u128, FaultCode::NodeOutOfRange);
+    let number = number_in(number, 0, GREATEST_CAPACITY as u128, code);
+    match (src, dst, number) {
+        (Ok(src), Ok(dst), Ok(number)) => Ok((src as u32, dst as u32, number as u64)),
+        (Err(code), _, _) => Err(code),
+        (_, Err(code), _) => Err(code),
+        (_, _, Err(code)) => Err(code),
+    }
 }

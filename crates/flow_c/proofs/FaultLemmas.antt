@@ -1,7 +1,10 @@
--- What a status tells, and that good lists have no fault.
+-- What a refusal and a status tell, and that good lists have no fault.
 use Rattle.std.proofs.Common.{◌≡◌, ◌<◌, ℕ, zero, suc, ◌⊎◌, List, [], ◌++◌, length, inl, inr, arith}
-use Rattle.std.proofs.Common.{refl}
+use Rattle.std.proofs.Common.{refl, sym, subst, rules}
+use Rattle.std.proofs.Common.{◌≤◌, ◌∷◌}
+use Rattle.std.proofs.lemmas.Grind.{common_steps}
 use Rattle.std.specs.List.{All}
+use Rattle.flow_net.specs.declared.limits.TheConstants.{FEWEST_NODES}
 use Rattle.flow_net.specs.Limits.{AreDistinct}
 use Rattle.flow_tools.proofs.NodeSumLemmas.{distinct_front}
 use Rattle.flow_c.specs.Lists.{from_one}
@@ -10,14 +13,47 @@ use Rattle.flow_c.specs.declared.refusals.Refusal.TheVariants.{Nodes, Lengths, B
 use Rattle.flow_c.specs.Refusals.{HasBadEnd, HasBadTerminal, HasBadTerminals, IsReason, status_number}
 use Rattle.flow_c.specs.Refusals.{IsTold, AreArcs, AreEnds}
 
+module _ (L : Type 0) (n : ℕ) (src dst sources sinks : List ℕ) (r : Refusal) where
+  -- why arcs are refused
+  pub arcs_reason : (r ≡ Memory) ⊎ ((r ≡ BadEnd) × HasBadEnd n src dst) → IsReason L n src dst sources sinks r
+  arcs_reason h = elim h [
+    | inl memory ↦ subst (IsReason L n src dst sources sinks) (sym memory) tt
+    | inr bad ↦ subst (IsReason L n src dst sources sinks) (sym bad.0) bad.1
+  ]
+
+  -- why terminals are refused
+  pub terminals_reason : (r ≡ Memory) ⊎ ((r ≡ Terminal)
+      × (HasBadTerminal n [] sources ⊎ HasBadTerminal n (from_one sources) sinks)) → IsReason L n src dst sources sinks r
+  terminals_reason h = elim h [
+    | inl memory ↦ subst (IsReason L n src dst sources sinks) (sym memory) tt
+    | inr bad ↦ subst (IsReason L n src dst sources sinks) (sym bad.0) (inr (inr bad.1))
+  ]
+
+-- where the lists ought to have more lengths, they are refused for the same reason
+pub reason_more : (L M : Type 0) (n : ℕ) (src dst sources sinks : List ℕ) (r : Refusal) → (M → L)
+    → IsReason L n src dst sources sinks r → IsReason M n src dst sources sinks r
+reason_more L M n src dst sources sinks Nodes more h = h
+reason_more L M n src dst sources sinks Lengths more h = λ m. h (more m)
+reason_more L M n src dst sources sinks BadEnd more h = h
+reason_more L M n src dst sources sinks Terminal more h = h
+reason_more L M n src dst sources sinks Memory more h = h
+
 -- the status of a refusal tells its reason
 pub told_by : (L : Type 0) (n : ℕ) (src dst sources sinks : List ℕ) (r : Refusal)
     → IsReason L n src dst sources sinks r → IsTold L n src dst sources sinks (status_number r)
-told_by L n src dst sources sinks Nodes h = grind arith
-told_by L n src dst sources sinks Lengths h = grind arith
-told_by L n src dst sources sinks BadEnd h = grind arith
-told_by L n src dst sources sinks Terminal h = grind arith
-told_by L n src dst sources sinks Memory h = grind arith
+told_by L n src dst sources sinks Nodes h = search rules
+told_by L n src dst sources sinks Lengths h = search rules
+told_by L n src dst sources sinks BadEnd h = search rules
+told_by L n src dst sources sinks Terminal h = search rules
+told_by L n src dst sources sinks Memory h = search rules
+
+-- no refusal has the status of a success
+pub never_none : (r : Refusal) → status_number r ≡ 0 → ⊥
+never_none Nodes e = omega (arith, e)
+never_none Lengths e = omega (arith, e)
+never_none BadEnd e = omega (arith, e)
+never_none Terminal e = omega (arith, e)
+never_none Memory e = omega (arith, e)
 
 no_bad_end : (n : ℕ) (src dst : List ℕ) → length dst ≡ length src → All (λ v. v < n) src → All (λ v. v < n) dst
     → HasBadEnd n src dst → ⊥
@@ -70,3 +106,7 @@ pub good_refused : (L : Type 0) (n : ℕ) (src dst sources sinks : List ℕ) (r 
     → (status_number r ≡ 0) ⊎ (status_number r ≡ 5)
 good_refused L n src dst sources sinks r same h =
     good_lists L n (status_number r) src dst sources sinks same (told_by L n src dst sources sinks r h)
+
+-- the first two nodes are terminals of whatever network
+pub first_two : (n : ℕ) → FEWEST_NODES ≤ n → AreEnds n (0 ∷ []) (1 ∷ [])
+first_two n least = grind (arith, common_steps)

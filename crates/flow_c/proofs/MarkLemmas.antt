@@ -1,7 +1,7 @@
--- One node more is taken: it is marked, differs from those before, and is in their set.
+-- One node more is taken: it is a node, differs from those before, and is marked.
 use Rattle.std.proofs.Common.{◌≡◌, ◌<◌, ℕ, zero, suc, ◌+◌, ◌||◌, true, false, Bool, List, [], ◌∷◌, ◌++◌, length}
 use Rattle.std.proofs.Common.{get_or, set, ◌∙◌, sym, ap, inl, inr, arith, eqb, eq-eqb, append_assoc, take}
-use Rattle.std.proofs.Common.{add-one}
+use Rattle.std.proofs.Common.{add-one, ◌≤◌, refl, append-nil}
 use Rattle.std.proofs.lemmas.Bool.{cases_eq, ne_eqb}
 use Rattle.std.proofs.lemmas.List.{get_or-set_same, get_or-set_other, map-append, take-append-drop, get_or_append_left}
 use Rattle.std.proofs.lemmas.List.{get_or-append-add}
@@ -16,7 +16,7 @@ use Rattle.flow_net.specs.Limits.{AreDistinct}
 use Rattle.flow_net.specs.MarkedNodes.{marked}
 use Rattle.flow_text.proofs.TerminalLemmas.{AreDistinct-sink}
 use Rattle.flow_net.proofs.NodeLists.{place_in}
-use Rattle.flow_c.specs.Lists.{from_one}
+use Rattle.flow_c.specs.Lists.{from_one, AreTaken}
 use Rattle.flow_c.specs.Refusals.{HasTwice}
 
 -- a node more in a list
@@ -48,7 +48,7 @@ marked-more marks before taken n within same v =
     rw (← append_assoc before taken ((n + 1) ∷ [])) (rw add-one (marked-one marks (before ++ taken) n within same v))
 
 -- all differ with one more that isn't marked
-pub distinct-more : (marks : List Bool) (before taken : List ℕ) (n : ℕ)
+distinct-more : (marks : List Bool) (before taken : List ℕ) (n : ℕ)
     → ((v : ℕ) → marked marks v ≡ one_of (before ++ taken) v) → get_or marks n false ≡ false
     → AreDistinct (before ++ taken) → AreDistinct (before ++ (taken ++ (n + 1) ∷ []))
 distinct-more marks before taken n same free distinct =
@@ -58,7 +58,7 @@ distinct-more marks before taken n same free distinct =
     (sym parts ∙ sym at ∙ free))
 
 -- the list of those taken is one longer
-pub taken-more : (given : List ℕ) (i : ℕ) → i < length given
+taken-more : (given : List ℕ) (i : ℕ) → i < length given
     → from_one (take (i + 1) given) ≡ from_one (take i given) ++ (get_or given i 0 + 1) ∷ []
 taken-more given i within =
     let a : i + 1 ≡ suc i = omega arith in
@@ -66,12 +66,29 @@ taken-more given i within =
     rw a (rw b (ap from_one (take-suc given i 0 within) ∙ map-append suc (take i given) (get_or given i 0 ∷ [])))
 
 -- a property of one more
-pub All-one : (P : ℕ → Type 0) (xs : List ℕ) (x : ℕ) → All P xs → P x → All P (xs ++ x ∷ [])
+All-one : (P : ℕ → Type 0) (xs : List ℕ) (x : ℕ) → All P xs → P x → All P (xs ++ x ∷ [])
 All-one P xs x all at = All-append P xs (x ∷ []) all one
   where
     one : All P (x ∷ [])
     one zero d h = at
     one (suc k) d h = absurd (omega arith)
+
+-- one more node of a list is taken
+pub AreTaken-more : (n : ℕ) (marks : List Bool) (before given taken : List ℕ) (i : ℕ) → i < length given
+    → get_or given i 0 < n → get_or marks (get_or given i 0) false ≡ false
+    → ((v : ℕ) → marked marks v ≡ one_of (before ++ taken) v) → AreTaken n before (take i given) taken
+    → AreTaken n before (take (i + 1) given) (taken ++ (get_or given i 0 + 1) ∷ [])
+AreTaken-more n marks before given taken i within low free same old = record {
+  all = ap (λ xs. xs ++ (get_or given i 0 + 1) ∷ []) old.all ∙ sym (taken-more given i within);
+  within =
+      All-one (λ v. (1 ≤ v) × (v ≤ n)) taken (get_or given i 0 + 1) old.within (omega arith, omega (arith, low));
+  distinct = distinct-more marks before taken (get_or given i 0) same free old.distinct;
+}
+
+-- none are taken as yet
+pub none_taken : (n : ℕ) (before : List ℕ) → AreDistinct before → AreTaken n before [] []
+none_taken n before distinct =
+    record { all = refl; within = λ k d l. absurd (omega (arith, l)); distinct = rw append-nil distinct }
 
 -- a node that is among those taken already stands at two places
 pub twice : (before given : List ℕ) (i : ℕ) → i < length given

@@ -1,8 +1,9 @@
 -- Networks that stand in lists which a caller lends. The lists count nodes from 0, networks count them from 1.
-use Rattle.std.specs.Prelude.{◌≡◌, ◌==◌, ℕ, suc, ◌+◌, Bool, not, List, length, map, replicate, slice_index}
+use Rattle.std.specs.Prelude.{◌≡◌, ◌==◌, ℕ, suc, ◌+◌, ◌≤◌, ◌++◌, Bool, not, List, length, map, replicate, slice_index}
 use Rattle.std.specs.Prelude.{if◌then◌else◌}
-use Rattle.std.specs.List.{range_with_len}
+use Rattle.std.specs.List.{All, range_with_len}
 use Rattle.flow_net.specs.declared.networks.Arc.{Arc}
+use Rattle.flow_net.specs.Limits.{AreDistinct}
 use Rattle.flow_net.specs.Nets.{Net, Instance}
 use Rattle.flow_c.specs.declared.lists.Lent.{Lent}
 use Rattle.flow_tools.specs.solving.Solutions.{IsSolution, IsMarkedCut}
@@ -18,6 +19,12 @@ listed_net n src dst cap = record { nodes = n; arcs = map (listed_arc src dst ca
 -- the nodes of a list, counted from 1
 abbrev pub from_one : List ℕ → List ℕ
 from_one vs = map suc vs
+
+-- the nodes of a list are taken, counted from 1: they are nodes, and differ from each other and from those before
+pub record AreTaken (n : ℕ) (before given taken : List ℕ) : Type 0 where
+  pub all : taken ≡ from_one given
+  pub within : All (λ v. (1 ≤ v) × (v ≤ n)) taken
+  pub distinct : AreDistinct (before ++ taken)
 
 -- the network of the lists with its terminals
 abbrev pub listed : ℕ → List ℕ → List ℕ → List ℕ → List ℕ → List ℕ → Instance

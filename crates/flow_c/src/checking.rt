@@ -1,5 +1,5 @@
 //! The check of a flow that a caller lends.
-ghost use Rattle.std.specs.Prelude.{◌≡◌, ℕ, ◌<◌, ◌^◌, List, [], length, replicate, IfOk, IfErr, MatchOption};
+ghost use Rattle.std.specs.Prelude.{◌≡◌, ℕ, ◌<◌, ◌^◌, List, [], length, replicate, IfOk, IfErr, MatchOption, MatchResult};
 ghost use Rattle.flow_net.specs.NodeSets.{one_of};
 ghost use Rattle.flow_net.specs.Flows.{Fits};
 ghost use Rattle.flow_tools.specs.checking.NodeSums.{AreNodeFlows};
@@ -70,16 +70,23 @@ fn value_of(network: &FlowNetwork, sums: &NodeFlows) -> u128
     sums.outflow_of(network.sources()).cast_unsigned()
 }
 
-/// Checks a flow of a network.
-fn check_flow(alloc: Global, network: &FlowNetwork, given: &[u64]) -> Result<Checked, Refusal>
-    requires { length given.now ≡ length network.now.net.arcs }
-    ensures checked { IfOk result (λ checked. IsChecked network.now given.now checked.verdict checked.told) }
-    ensures refused { IfErr result (λ r. r ≡ Memory) }
+/// Checks a flow of a network, in a table and with sums of zeros.
+fn verdict_on(
+    alloc: Global,
+    network: &FlowNetwork,
+    given: &[u64],
+    table: &mut FlowTable,
+    sums: &mut NodeFlows,
+) -> Result<Checked, Refusal>
+    requires fits { Fits network.now.net table.old.flows }
+    requires count { length given.now ≡ length network.now.net.arcs }
+    requires empty { table.old.flows ≡ replicate (length network.now.net.arcs) 0 }
+    requires no_sums { AreNodeFlows network.now.net.nodes [] sums.old.into.items sums.old.out.items }
+    ensures { MatchResult result (λ checked. IsChecked network.now given.now checked.verdict checked.told)
+        (λ r. r ≡ Memory) }
 {
     let (net, s, t) = (network.net(), network.sources(), network.sinks());
-    let mut table = FlowTable::new(alloc, net)?;
-    let mut sums = NodeFlows::new(alloc, net.nodes())?;
-    if let Some(arc) = put_flow(net, given, &mut table, &mut sums) {
+    if let Some(arc) = put_flow(net, given, table, sums) {
         return Ok(Checked {
             verdict: 2,
             told: arc as u128,
@@ -91,11 +98,23 @@ fn check_flow(alloc: Global, network: &FlowNetwork, given: &[u64]) -> Result<Che
             told: node as u128 - 1,
         });
     }
-    let told = value_of(network, &sums);
-    if is_greatest(alloc, net, s, t, &mut table)? {
+    let told = value_of(network, sums);
+    if is_greatest(alloc, net, s, t, table)? {
         return Ok(Checked { verdict: 0, told });
     }
     Ok(Checked { verdict: 1, told })
+}
+
+/// Checks a flow of a network.
+fn check_flow(alloc: Global, network: &FlowNetwork, given: &[u64]) -> Result<Checked, Refusal>
+    requires { length given.now ≡ length network.now.net.arcs }
+    ensures { MatchResult result (λ checked. IsChecked network.now given.now checked.verdict checked.told)
+        (λ r. r ≡ Memory) }
+{
+    let net = network.net();
+    let mut table = FlowTable::new(alloc, net)?;
+    let mut sums = NodeFlows::new(alloc, net.nodes())?;
+    verdict_on(alloc, network, given, &mut table, &mut sums)
 }
 
 /// Checks a flow of the network of the lists.

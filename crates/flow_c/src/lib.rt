@@ -165,8 +165,8 @@ pub extern "C" fn provedflow_links_lists(
         nodes src.now dst.now → (pair ≢ 0 → AreEnds nodes sources.now sinks.now)
         → (result ≡ 0) ⊎ (result ≡ 5) }
 {
-    let undirected = undirected != 0;
-    let found = if pair != 0 {
+    let (undirected, pair) = (undirected != 0, pair != 0);
+    let found = if pair {
         let lent = Lent {
             nodes,
             src,

@@ -1,11 +1,10 @@
 //! Networks from lists that a caller lends.
-ghost use Rattle.std.specs.Prelude.{◌≡◌, ◌⊎◌, ℕ, ◌≤◌, ◌++◌, [], length, IfOk, IfErr};
-ghost use Rattle.std.specs.List.{All};
+ghost use Rattle.std.specs.Prelude.{◌≡◌, ◌⊎◌, ℕ, ◌≤◌, ◌++◌, [], length, IfOk, IfErr, MatchResult};
 ghost use Rattle.flow_net.specs.NodeSets.{one_of};
 ghost use Rattle.flow_net.specs.Limits.{AreDistinct};
 ghost use Rattle.flow_net.specs.MarkedNodes.{marked};
 ghost use Rattle.flow_net.specs.declared.limits.TheConstants.{FEWEST_NODES, MOST_NODES};
-ghost use Rattle.flow_c.specs.Lists.{listed_net, network_of, from_one};
+ghost use Rattle.flow_c.specs.Lists.{listed_net, network_of, from_one, AreTaken};
 ghost use Rattle.flow_c.specs.Refusals.{IsReasonFor, HasBadEnd, HasBadTerminal, AreLengthsOf};
 ghost use Rattle.flow_c.specs.declared.refusals.Refusal.TheVariants.{BadEnd, Terminal, Memory};
 
@@ -68,12 +67,10 @@ fn read_terminals(
     requires count { length marks.old ≡ nodes }
     requires marks { (v : ℕ) → marked marks.old v ≡ one_of before.now v }
     requires distinct { AreDistinct before.now }
-    ensures taken { IfOk result (λ taken. taken.items ≡ from_one given.now) }
-    ensures within { IfOk result (λ taken. All (λ v. (1 ≤ v) × (v ≤ nodes)) taken.items) }
-    ensures distinct { IfOk result (λ taken. AreDistinct (before.now ++ taken.items)) }
-    ensures marks { IfOk result (λ taken. (v : ℕ) → marked marks.new v ≡ one_of (before.now ++ taken.items) v) }
     ensures count { length marks.new ≡ nodes }
-    ensures refused { IfErr result (λ r. (r ≡ Memory) ⊎ ((r ≡ Terminal) × HasBadTerminal nodes before.now given.now)) }
+    ensures taken { MatchResult result (λ taken. AreTaken nodes before.now given.now taken.items
+        × ((v : ℕ) → marked marks.new v ≡ one_of (before.now ++ taken.items) v))
+        (λ r. (r ≡ Memory) ⊎ ((r ≡ Terminal) × HasBadTerminal nodes before.now given.now)) }
 {
     let mut taken = Vec::new(alloc);
     for i in 0..given.len() {
@@ -92,13 +89,9 @@ fn read_terminals(
 /// The sources and the sinks.
 fn read_both(alloc: Global, lent: Lent<'_>) -> Result<(Vec<u32>, Vec<u32>), Refusal>
     requires most { lent.nodes ≤ MOST_NODES }
-    ensures sources { IfOk result (λ both. both.0.items ≡ from_one lent.entry.sources.now) }
-    ensures sinks { IfOk result (λ both. both.1.items ≡ from_one lent.entry.sinks.now) }
-    ensures sources_within { IfOk result (λ both. All (λ v. (1 ≤ v) × (v ≤ lent.entry.nodes)) both.0.items) }
-    ensures sinks_within { IfOk result (λ both. All (λ v. (1 ≤ v) × (v ≤ lent.entry.nodes)) both.1.items) }
-    ensures distinct { IfOk result (λ both. AreDistinct (both.0.items ++ both.1.items)) }
-    ensures refused { IfErr result (λ r. (r ≡ Memory) ⊎ ((r ≡ Terminal)
-        × (HasBadTerminal lent.entry.nodes [] lent.entry.sources.now
+    ensures { MatchResult result (λ both. AreTaken lent.entry.nodes [] lent.entry.sources.now both.0.items
+        × AreTaken lent.entry.nodes both.0.items lent.entry.sinks.now both.1.items)
+        (λ r. (r ≡ Memory) ⊎ ((r ≡ Terminal) × (HasBadTerminal lent.entry.nodes [] lent.entry.sources.now
         ⊎ HasBadTerminal lent.entry.nodes (from_one lent.entry.sources.now) lent.entry.sinks.now))) }
 {
     let mut marks = filled(alloc, false, lent.nodes as usize)?;

@@ -86,8 +86,10 @@ pub(crate) fn count_links(
     if lent.src.len() > MOST_ARCS as usize || lent.dst.len() != lent.src.len() {
         return Err(Refusal::Lengths);
     }
-    let cap = filled(alloc, 1u64, lent.src.len())?;
-    let network = read_network(alloc, lent, cap.as_slice())?;
+    let network = {
+        let cap = filled(alloc, 1u64, lent.src.len())?;
+        read_network(alloc, lent, cap.as_slice())?
+    };
     let links = connect(alloc, network.into_problem(), undirected, pair)?;
     Ok(links)
 }

@@ -1,8 +1,16 @@
--- `provedflow_flow_lists`: good lists are refused for want of memory alone.
-use Rattle.flow_c.proofs.FaultLemmas.{good_refused}
+-- `provedflow_flow_lists`: a refusal is told, with nothing written; good lists are refused for want of memory alone.
+use Rattle.std.proofs.Common.{refl}
+use Rattle.flow_c.proofs.FaultLemmas.{never_none, told_by, good_refused}
 use Rattle.flow_c.proofs.provedflow_flow_lists.Goals as goal
 
-pub returns-in-Err-clause-refused : goal.returns-in-Err-clause-refused
-returns-in-Err-clause-refused c = λ arcs ends.
-    rw c.status_of.ensures
-    (good_refused _ _ _ _ _ _ c.in-Err.refusal (λ l. l.0.1) c.in-Err.ensures.refused arcs ends)
+pub returns-in-Err : goal.returns-in-Err
+returns-in-Err c =
+    let r = c.in-Err.refusal in let h = c.in-Err.ensures in
+    rw c.status_of.ensures (record {
+      ok = λ e. absurd (never_none r e);
+      flow = λ _. h.flow;
+      high = λ _. refl;
+      low = λ _. refl;
+      told = told_by _ _ _ _ _ _ r h.refused;
+      refused = good_refused _ _ _ _ _ _ r (λ l. l.0.1) h.refused;
+    })

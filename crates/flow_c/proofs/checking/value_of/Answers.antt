@@ -8,24 +8,29 @@ use Rattle.flow_c.specs.Checks.{HasWord}
 use Rattle.flow_c.proofs.CheckLemmas.{carried_most, word_of}
 use Rattle.flow_c.proofs.checking.value_of.Goals as goal
 
-pub outflow_of-requires-clause-fit : goal.outflow_of-requires-clause-fit
-outflow_of-requires-clause-fit c =
+pub outflow_of-requires : goal.outflow_of-requires
+outflow_of-requires c =
     let p = c.args.network.now in let t = c.net.ensures.terminals in let r = c.requires.2 in let xs = c.requires.0 in
     let into = c.args.sums.now.into.items in let out = c.args.sums.now.out.items in
     let limits = rw c.net.ensures.net at c.nodes.ensures.is_net in
     let apart = distinct_front p.sources p.sinks t.distinct in
-    rw c.sources.ensures.sources (
-      omega (
-        arith,
-        into_at p.net.nodes p.sources r.0 into out t.sources_within apart r.2,
-        carried_most p.net r.0 xs (λ u v. one_of p.sources v) limits c.requires.1 r.1,
-      ),
-      omega (
-        arith,
-        out_at p.net.nodes p.sources r.0 into out t.sources_within apart r.2,
-        carried_most p.net r.0 xs (λ u v. one_of p.sources u) limits c.requires.1 r.1,
-      ),
-    )
+    rw c.sources.ensures.sources (record {
+      same = r.2.out_len ∙ sym r.2.into_len;
+      within = rw r.2.into_len t.sources_within;
+      distinct = apart;
+      fit = (
+        omega (
+          arith,
+          into_at p.net.nodes p.sources r.0 into out t.sources_within apart r.2,
+          carried_most p.net r.0 xs (λ u v. one_of p.sources v) limits c.requires.1 r.1,
+        ),
+        omega (
+          arith,
+          out_at p.net.nodes p.sources r.0 into out t.sources_within apart r.2,
+          carried_most p.net r.0 xs (λ u v. one_of p.sources u) limits c.requires.1 r.1,
+        ),
+      );
+    })
 
 pub returns-clause-value : goal.returns-clause-value
 returns-clause-value c = λ xs fits sums.

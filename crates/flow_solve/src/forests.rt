@@ -45,7 +45,7 @@ mod rows;
 use crate::residual::half_arcs::Direction;
 use degrees::{are_balanced, are_even, least_and_paired};
 use flow_net::{FlowTable, Network};
-use growing::{Front, begin, grow, is_whole, next_node, reach, set_places_back};
+use growing::{Front, begin, choice_of, grow, is_whole, next_node, reach, set_places_back};
 use joining::{Budgeted, raise};
 use marks::unmark_all;
 use rows::{Parts, fill_rows, number_arcs, parts_of};
@@ -93,8 +93,8 @@ fn begin_forest(
 {
     let mut now = ground;
     now.numbered = ready & !ground.paired;
-    let front = begin(now, done, hints, count, all);
-    grow(now, rows, done, hints, front)
+    let front = begin(now, done, hints);
+    grow(now, rows, done, hints, front, choice_of(ground, count, all))
 }
 
 /// Puts down what searches need, unless it is there already. Answers false where the rows tell of no arcs any more.
@@ -143,6 +143,7 @@ fn complete(
     let mut ground = ground;
     ground.numbered = !ground.paired;
     let nodes = ground.net.nodes();
+    let choice = choice_of(ground, count, known.value);
     flow.clear();
     set_places_back(ground, hints);
     let mut front = begun;
@@ -151,7 +152,7 @@ fn complete(
         front = next_node(ground, rows, done, hints, front);
         least = raise(ground, rows, done, seen, hints, flow, front.node, least)?;
         front = reach(ground, done, hints, front);
-        front = grow(ground, rows, done, hints, front);
+        front = grow(ground, rows, done, hints, front, choice);
     }
     if least.value > count && !is_whole(nodes, done) {
         return None;

@@ -5,8 +5,9 @@
 //! before has taken there, and the first begins somewhere in it: else forests would pass over the same cells again, and
 //! grow alike.
 //!
-//! Where arcs are scarce, a forest goes first over one whose opposite none has taken, as notes in the hints tell. Else
-//! the last forest finds many arcs left in pairs, one against the other, and so comes to few nodes by itself.
+//! Where arcs are scarce, a forest between the first and the last goes first over an arc whose opposite none has taken,
+//! as notes in the hints tell. Else the last forest finds many arcs left in pairs, one against the other, and so comes
+//! to few nodes by itself.
 ghost use Rattle.std.specs.Prelude.{◌≡◌, ℕ, ◌+◌, ◌*◌, ◌<◌, ◌≤◌, false, IfSome, IsTrue, length};
 ghost use Rattle.flow_net.specs.Nets.{IsNode};
 ghost use Rattle.flow_solve.specs.Forests.{HasGrown, HasMarked, IsLead, IsStand, marked_in};
@@ -27,10 +28,25 @@ pub(crate) struct Front {
     pub node: u32,
     /// The cell from which it goes on in that node's row, or one before the row.
     pub place: u32,
-    /// Whether it goes first over arcs whose opposite none before it has taken.
-    pub is_choosy: bool,
+}
+
+/// How a forest chooses among the arcs that lead on from a node.
+#[derive(Clone, Copy)]
+pub(crate) struct Choice {
+    /// Whether it goes first over those whose opposite no forest before it has taken.
+    is_choosy: bool,
     /// Whether a forest after it will: then it notes which opposites it takes.
-    pub takes_notes: bool,
+    takes_notes: bool,
+}
+
+/// How a forest chooses, after `count` others, of `all` that there will be. The first finds no notes, and nobody needs
+/// those of the last two: what an arc's opposite leads to, the forest itself has come to.
+pub(crate) fn choice_of(ground: Ground<'_>, count: u64, all: u64) -> Choice {
+    let left = all.saturating_sub(count);
+    Choice {
+        is_choosy: ground.scarce && count > 0 && left > 1,
+        takes_notes: ground.scarce && left > 2,
+    }
 }
 
 /// A cell whose arc leads on to a node that the forest hasn't come to.
@@ -95,15 +111,22 @@ fn fresh_lead(
 
 /// Notes that a forest has taken an arc from a node to another, at a cell of the other's row whose arc leads back, if
 /// it is one that takes notes.
-fn note_opposite(ground: Ground<'_>, rows: &[u32], hints: &mut [u32], front: Front, to: u32) {
-    if !front.takes_notes {
+fn note_opposite(
+    ground: Ground<'_>,
+    rows: &[u32],
+    hints: &mut [u32],
+    choice: Choice,
+    node: u32,
+    to: u32,
+) {
+    if !choice.takes_notes {
         return;
     }
     let begin = get(ground.first, (to as usize).wrapping_sub(1));
     let end = get(ground.first, to as usize);
     for cell in begin..end {
         let place = cell as usize;
-        if get(rows, place) % TAKEN == front.node && get(hints, place) == 0 {
+        if get(rows, place) % TAKEN == node && get(hints, place) == 0 {
             put(hints, place, 1);
             return;
         }
@@ -160,6 +183,7 @@ fn go_on(
     done: &mut [u32],
     hints: &mut [u32],
     front: Front,
+    choice: Choice,
 ) -> Option<Lead>
     requires stand { IsStand ground done.old }
     ensures { HasGrown ground.entry rows.old done.old rows.new done.new }
@@ -171,14 +195,23 @@ fn go_on(
     let begin = ground.first[node as usize - 1];
     let end = ground.first[node as usize];
     let from = place_to_go_on(ground, hints, front).max(begin);
-    let lead = lead_from(ground, rows, done, hints, front.is_choosy, begin, from, end)?;
+    let lead = lead_from(
+        ground,
+        rows,
+        done,
+        hints,
+        choice.is_choosy,
+        begin,
+        from,
+        end,
+    )?;
     if lead.behind == 0 {
         return None;
     }
     rows[lead.cell as usize] += TAKEN;
     mark(done, lead.behind);
     keep_place(ground, hints, node, lead.cell.wrapping_add(1));
-    note_opposite(ground, rows, hints, front, lead.behind);
+    note_opposite(ground, rows, hints, choice, node, lead.behind);
     Some(lead)
 }
 
@@ -196,7 +229,6 @@ fn come_to(ground: Ground<'_>, hints: &mut [u32], front: Front, node: u32) -> Fr
         near: front.near.saturating_add(1),
         node,
         place: 0,
-        ..front
     }
 }
 
@@ -230,6 +262,7 @@ pub(crate) fn grow(
     done: &mut [u32],
     hints: &mut [u32],
     front: Front,
+    choice: Choice,
 ) -> Front
     requires stand { IsStand ground done.old }
     ensures grown { HasGrown ground.entry rows.old done.old rows.new done.new }
@@ -240,7 +273,7 @@ pub(crate) fn grow(
     let mut front = front;
     let mut depth = 0u32;
     while front.count < nodes {
-        if let Some(lead) = go_on(ground, rows, done, hints, front) {
+        if let Some(lead) = go_on(ground, rows, done, hints, front, choice) {
             put(hints, queue_at(ground, depth), lead.cell);
             depth += 1;
             front = come_to(ground, hints, front, lead.behind);
@@ -254,15 +287,8 @@ pub(crate) fn grow(
     front
 }
 
-/// A forest that has come to its root, after `count` others, of `all` that there will be. The first finds no notes, and
-/// nobody needs those of the last two: what an arc's opposite leads to, the forest itself has come to.
-pub(crate) fn begin(
-    ground: Ground<'_>,
-    done: &mut [u32],
-    hints: &mut [u32],
-    count: u64,
-    all: u64,
-) -> Front
+/// A forest that has come to its root.
+pub(crate) fn begin(ground: Ground<'_>, done: &mut [u32], hints: &mut [u32]) -> Front
     requires size { ground.net.now.nodes ≤ 32 * length done.old }
     requires root { IsNode ground.net.now ground.root }
     ensures root { IsTrue (marked_in done.new ground.entry.root) }
@@ -270,14 +296,11 @@ pub(crate) fn begin(
 {
     unmark_all(done);
     mark(done, ground.root);
-    let left = all.saturating_sub(count);
     let nowhere = Front {
         count: 0,
         near: 0,
         node: 0,
         place: 0,
-        is_choosy: ground.scarce && count > 0 && left > 1,
-        takes_notes: ground.scarce && left > 2,
     };
     come_to(ground, hints, nowhere, ground.root)
 }

@@ -1,6 +1,6 @@
 -- What the sums at the nodes say of a flow.
-use Rattle.std.proofs.Common.{◌≡◌, ℕ, ◌+◌, ◌-◌, ◌*◌, ◌^◌, ◌≤◌, ◌<◌, Bool, List, ◌∙◌, sym, subst, inl, inr, Option, Some, None}
-use Rattle.std.proofs.Common.{MatchOption, ℤ, pos, ◌-ℤ◌, arith, rules}
+use Rattle.std.proofs.Common.{◌≡◌, ℕ, ◌+◌, ◌-◌, ◌*◌, ◌^◌, ◌≤◌, ◌<◌, ℤ, pos, ◌-ℤ◌, Bool, List, ◌∙◌, sym, subst, inl, inr}
+use Rattle.std.proofs.Common.{Option, Some, None, MatchOption, arith, rules}
 use Rattle.std.proofs.lemmas.Bool.{cases_lt}
 use Rattle.std.proofs.lemmas.Int.{ints}
 use Rattle.std.specs.Int.{cast_unsigned, w128}

@@ -23,7 +23,8 @@ module _ (L : Type 0) (n : ℕ) (src dst sources sinks : List ℕ) (r : Refusal)
 
   -- why terminals are refused
   pub terminals_reason : (r ≡ Memory) ⊎ ((r ≡ Terminal)
-      × (HasBadTerminal n [] sources ⊎ HasBadTerminal n (from_one sources) sinks)) → IsReason L n src dst sources sinks r
+      × (HasBadTerminal n [] sources ⊎ HasBadTerminal n (from_one sources) sinks))
+      → IsReason L n src dst sources sinks r
   terminals_reason h = elim h [
     | inl memory ↦ subst (IsReason L n src dst sources sinks) (sym memory) tt
     | inr bad ↦ subst (IsReason L n src dst sources sinks) (sym bad.0) (inr (inr bad.1))

@@ -75,7 +75,11 @@ keeps_looked left k s l = let paid = s.paid in record {
 -- steps are paid, and fewer may be taken ahead
 pub pays_less : {before after : Table} {given left : ℕ} (ahead : ℕ) → PaysSteps before given after (left + ahead)
     → PaysSteps before given after left
-pays_less ahead p = record { never_lowered = p.never_lowered; left = omega (arith, p.left); steps = omega (arith, p.steps) }
+pays_less ahead p = record {
+  never_lowered = p.never_lowered;
+  left = omega (arith, p.left);
+  steps = omega (arith, p.steps);
+}
 
 pub pays_on : {before between after : Table} {given rest : ℕ} (left ahead next : ℕ)
     → PaysSteps before given between (left + ahead) → PaysSteps between (left + 1) after rest → next < ahead

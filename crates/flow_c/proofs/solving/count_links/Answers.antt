@@ -13,7 +13,8 @@ pub returns-in_err-network-clause-refused : goal.returns-in_err-network-clause-r
 returns-in_err-network-clause-refused c =
     let count = ap length c.as_slice.ensures.value ∙ c.in_ok-cap.ensures.len in
     passed_on _ _ _ _ c.from_residual-in_err-network.ensures.1
-    (reason_more _ _ _ _ _ _ _ _ (λ l. let few = l.0 in (omega (arith, few), l.1, count)) c.in_err-network.ensures.refused)
+    (reason_more _ _ _ _ _ _ _ _ (λ l. let few = l.0 in (omega (arith, few), l.1, count))
+    c.in_err-network.ensures.refused)
 
 pub returns-clause-ok : goal.returns-clause-ok
 returns-clause-ok c =

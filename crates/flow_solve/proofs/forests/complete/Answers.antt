@@ -31,7 +31,8 @@ loop-front-init c =
       balanced = subst (λ (z : List ℕ). IsFeasible net t t z) (sym zeros) (zeros_feasible net t t);
       least = record { reached = c.requires.reached; fewer = omega arith };
       forest =
-          c.make_ready.ensures c.if-not-make_ready.false c.args.known.value c.args.count c.args.done.now c.requires.forest;
+          c.make_ready.ensures c.if-not-make_ready.false c.args.known.value c.args.count c.args.done.now
+          c.requires.forest;
       paid = record {
         never_lowered = omega (arith, c.clear.ensures.steps);
         left = omega arith;

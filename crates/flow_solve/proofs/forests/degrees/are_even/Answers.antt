@@ -9,7 +9,8 @@ returns c = λ yes.
     let j = c.loop-node.invariant in
     let net = c.args.net.now in
     let cells = c.args.degrees.now in
-    eulerian net (c.requires.opposite c.if-not-is_paired.false) c.nodes-node-end.ensures.is_net (c.requires.balanced c.if-not-is_balanced.false)
+    eulerian net (c.requires.opposite c.if-not-is_paired.false) c.nodes-node-end.ensures.is_net
+    (c.requires.balanced c.if-not-is_balanced.false)
     (λ v at. (let low = at.0 in let high = at.1 in (
       slice_index cells (v - 1) / 2,
       omega (

@@ -24,7 +24,8 @@ returns-then-room-eq0-3 c =
       sending = kept.sending;
       stays = record { task = kept.stays.task ∙ old.stays.task; last = kept.stays.last ∙ old.stays.last };
       paid =
-          pays_less 0 (pays_on c.loop-spot.sending.left (c.row_of-begin.result.1 - c.loop-spot.spot) 0 old.paid kept.paid
+          pays_less 0
+          (pays_on c.loop-spot.sending.left (c.row_of-begin.result.1 - c.loop-spot.spot) 0 old.paid kept.paid
           (omega arith));
       left = le_trans kept.left old.left;
     }

@@ -1,5 +1,6 @@
 -- `send_over_two`: the amount goes over three half-arcs of three arcs, so that each has its room when it comes to it.
-use Rattle.std.proofs.Common.{◌≡◌, ◌≢◌, ℕ, List, ◌+◌, ◌-◌, ◌/◌, ◌∙◌, le_refl, le-add_right, refl, sym, ap, subst, arith, rules}
+use Rattle.std.proofs.Common.{◌≡◌, ◌≢◌, ℕ, List, ◌+◌, ◌-◌, ◌/◌, ◌∙◌, le_refl, le-add_right, refl, sym, ap, subst}
+use Rattle.std.proofs.Common.{arith, rules}
 use Rattle.std.specs.Prelude.{slice_index}
 use Rattle.flow_net.specs.Residual.{tail_of, head_of, residual}
 use Rattle.flow_solve.specs.Task.{HasFlow}

@@ -12,8 +12,9 @@ invariant_of-self c =
     record {
       all = λ q. let h = c.self.invariant.all q in grind (arith, common_steps);
       distinct =
-          rw items (AreDistinct-source (record { sources = c.self.inside.sources.items; sinks = c.self.inside.sinks.items })
-          c.args.node c.self.invariant.distinct (rw (← c.self.view_is) at c.requires));
+          rw items (AreDistinct-source
+          (record { sources = c.self.inside.sources.items; sinks = c.self.inside.sinks.items }) c.args.node
+          c.self.invariant.distinct (rw (← c.self.view_is) at c.requires));
     }
 
 -- a sink
@@ -24,6 +25,7 @@ invariant_of-self-then-is_ok-3 c =
     record {
       all = λ q. let h = c.self.invariant.all q in grind (arith, common_steps);
       distinct =
-          rw items (AreDistinct-sink (record { sources = c.self.inside.sources.items; sinks = c.self.inside.sinks.items })
-          c.args.node c.self.invariant.distinct (rw (← c.self.view_is) at c.requires));
+          rw items (AreDistinct-sink
+          (record { sources = c.self.inside.sources.items; sinks = c.self.inside.sinks.items }) c.args.node
+          c.self.invariant.distinct (rw (← c.self.view_is) at c.requires));
     }

@@ -1,8 +1,8 @@
 #!/usr/bin/env bash
 # Proves and builds the program, and puts it into a folder: install.sh [--library] DIR
-# With --library the library for C and its header are put beside it, by scripts/library.sh. What scripts/test.sh has
-# proved and built is taken as it is, as long as nothing has changed since. Progress goes to standard error. The one
-# line of standard output is the path of the program.
+# With --library the library for C and its header are put beside it, by scripts/library.sh. What scripts/test.sh or this
+# script has proved and built is taken as it is, as long as nothing has changed since. Progress goes to standard error.
+# The one line of standard output is the path of the program.
 set -eu
 library=
 if [ $# -eq 2 ] && [ "$1" = --library ]; then
@@ -22,10 +22,11 @@ folder=$(cd "$1" && pwd)
 cd "$(dirname "$0")/.."
 
 proved=crates/flow/out/flow.proved
-if [ -f "$proved" ] && [ "$(bash scripts/sum.sh crates/flow/out/flow)" = "$(cat "$proved")" ]; then
-  echo 'Nothing has changed since the tests proved and built flow.' >&2
+if [ -f "$proved" ] && [ "$(bash scripts/sum.sh all crates/flow/out/flow)" = "$(cat "$proved")" ]; then
+  echo 'Nothing has changed since flow was proved and built.' >&2
 else
   bash scripts/prove.sh flow
+  bash scripts/sum.sh all crates/flow/out/flow > "$proved"
 fi
 install -m 755 crates/flow/out/flow "$folder/flow"
 if [ -n "$library" ]; then

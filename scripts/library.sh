@@ -25,7 +25,7 @@ kit=$(dirname "$(rt doc)")
 
 # Whether nothing has changed since scripts/test.sh or this script kept the sum over built files.
 is_as_proved() { # SUM FILE..
-  [ -f "$1" ] && [ "$(bash scripts/sum.sh "${@:2}")" = "$(cat "$1")" ]
+  [ -f "$1" ] && [ "$(bash scripts/sum.sh all "${@:2}")" = "$(cat "$1")" ]
 }
 
 # Proves the crate and builds the archive over the libraries that the gate has proved and left. The gate only checks a
@@ -51,7 +51,7 @@ if [ -z "$archive" ]; then
     if ! is_as_proved crates/flow_c/out/below.proved crates/*/out/rlib/*/format || ! build_over_the_gate; then
       bash scripts/prove.sh flow_c
     fi
-    bash scripts/sum.sh "$archive" > "$archive.proved"
+    bash scripts/sum.sh all "$archive" > "$archive.proved"
   fi
   archive=$PWD/$archive
 fi

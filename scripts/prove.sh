@@ -1,7 +1,9 @@
 #!/usr/bin/env bash
 # Proves and builds the program or the library for C: prove.sh flow|flow_c
-# The program is then crates/flow/out/flow, the library's archive crates/flow_c/out/libflow_c.a. What was proved before
-# and hasn't changed is kept, and taken up. Progress goes to standard error, and nothing to standard output.
+# The program is then crates/flow/out/flow, the library's archive crates/flow_c/out/libflow_c.a. Each crate is proved
+# whole, by the kit's prover itself: `rt lib` proves it some functions at a time, to keep them for the next edit, and
+# takes half as long again. A library below is kept in crates/NAME/out/whole, and taken as it is while the texts that it
+# is made of are the same. Progress goes to standard error, and nothing to standard output.
 set -eu
 if [ $# -ne 1 ] || { [ "$1" != flow ] && [ "$1" != flow_c ]; }; then
   echo "usage: bash scripts/prove.sh flow|flow_c" >&2
@@ -12,53 +14,92 @@ if ! command -v rt > /dev/null; then
   exit 1
 fi
 cd "$(dirname "$0")/.."
+kit=$(dirname "$(rt doc)")
 
 # The prover keeps the memory that it has freed: to hand it back and to ask for it again takes a twentieth of its time.
 export MIMALLOC_PURGE_DELAY=-1
 
-# Proves the crates that the last one is made of, lowest first, and says which. Readers and solvers don't stand on each
-# other, so they are proved side by side where there are processors for both, the readers in the folder ROOM: both
-# rest on flow_net, and where one of the kit's commands works in a folder, others wait.
-prove() { # LAST ROOM
-  local cores
-  cores=$(nproc)
-  (echo "== flow_net" && cd crates/flow_net && rt lib) || return 1
-  if [ "$cores" -ge 3 ]; then
-    echo "== flow_solve, and flow_text beside it"
-    mkdir "$2/crates" && grep -E '^flow_(net|text):' crates.txt > "$2/crates.txt" || return 1
-    cp -a crates/flow_net crates/flow_text "$2/crates" || return 1
-    (cd "$2/crates/flow_text" && exec rt lib --jobs 1 > /dev/null) &
-    (cd crates/flow_solve && rt lib --jobs $((cores - 1))) || return 1
-    if wait $!; then # else it is proved again below, which tells why it fails
-      rm -rf crates/flow_text/out
-      mv "$2/crates/flow_text/out" crates/flow_text
+# One copy of the prover for each processor, as far as there is memory: three gigabytes for the crate that is proved,
+# two for one beside it, and half of one for each copy.
+jobs=$(awk -v cores="$(nproc)" '/^MemAvailable:/ { most = int(($2 / 1000000 - 5) / 0.5) }
+  END { print most < 1 ? 1 : most < cores ? most : cores }' /proc/meminfo)
+
+# The crates and the libraries of the kit that a crate's line in crates.txt names.
+named_by() { # CRATE
+  sed -nE "s/^$1( staticlib)?: *//p" crates.txt
+}
+
+# Proves a crate, whose libraries are proved, and builds what the words say, in the crate's folder.
+build() ( # CRATE ROOT WORDS..
+  crate=$1
+  root=$2
+  words=(--extern "std=$kit/rlibs/std.rlib")
+  shift 2
+  for library in $(named_by "$crate"); do
+    if [ -d "crates/$library" ]; then
+      words+=(--extern "$library=../$library/out/whole/$library.rlib")
+    else
+      words+=(--extern "$library=$kit/rlibs/$library.rlib")
     fi
-  fi
-  for crate in flow_text flow_solve flow_tools; do
-    (echo "== $crate" && cd "crates/$crate" && rt lib) || return 1
   done
-  echo "== $1"
-  cd "crates/$1"
-  if [ "$1" = flow_c ]; then
-    exec rt lib
+  for library in flow_net flow_text flow_solve flow_tools; do
+    words+=(-L "dependency=../$library/out/whole")
+  done
+  words+=(-L "dependency=$kit/rlibs" --antt-project "$kit/rattle/logic/antt-project.json")
+  cd "crates/$crate"
+  "$kit/bin/rattle" build --crate-name "$crate" "src/$root.rt" "${words[@]}" --logic-built "$kit/logic_built" \
+    --jobs "$jobs" "$@"
+)
+
+# Proves and builds a library that crates above it read, unless it is there and nothing of it has changed.
+library() { # CRATE
+  local whole=crates/$1/out/whole texts
+  texts="$1 $(named_by "$1")" # (who looks for texts of the kit's libraries finds none)
+  if [ -f "$whole/sum" ] && [ "$(bash scripts/sum.sh "$texts" "$whole/$1.rlib")" = "$(cat "$whole/sum")" ]; then
+    return
   fi
-  exec rt run -- solve --value < stdin
+  rm -rf "$whole"
+  mkdir -p "$whole"
+  build "$1" lib --statements -o "out/whole/$1.rlib" && bash scripts/sum.sh "$texts" "$whole/$1.rlib" > "$whole/sum"
+}
+
+# Proves the crates that the last one is made of, lowest first, and says which. Readers and solvers don't stand on each
+# other, so they are proved side by side.
+prove() { # LAST LOG
+  echo "== flow_net"
+  library flow_net || return 1
+  echo "== flow_text and flow_solve"
+  library flow_text > "$2.text" 2>&1 &
+  library flow_solve || return 1
+  wait $! || { cat "$2.text" && return 1; }
+  echo "== flow_tools"
+  library flow_tools || return 1
+  echo "== $1"
+  mkdir -p "crates/$1/out"
+  if [ "$1" = flow_c ]; then
+    build flow_c lib --crate-type staticlib --toolchain "$kit/toolchain" -o out/libflow_c.a
+    return
+  fi
+  build flow main --toolchain "$kit/toolchain" -o out/flow.o || return 1
+  cd crates/flow
+  "$kit/bin/rattle-link" --target x86_64-unknown-linux-gnu --toolchain "$kit/toolchain" -o out/flow out/flow.o \
+    "$kit/c/libos_c.a" "$kit/c/liblibc_c.a" || return 1
+  out/flow solve --value < stdin
 }
 
 cat >&2 <<TEXT
-Proving and building $1, since nothing is built that isn't proved. From nothing this takes eight to sixteen
-minutes on four cores, and up to six gigabytes of memory; what an earlier run has proved is kept, and taken up.
+Proving and building $1, since nothing is built that isn't proved. From nothing this takes six to twelve minutes
+on four cores, and up to four gigabytes of memory; a library that an earlier run has proved is taken as it is.
 TEXT
 
 { # The rest is read at once, so that a change of this file while the proof goes on does no harm.
 log=$(mktemp)
-room=$(mktemp -d)
 start=$SECONDS
 set -m # a group of processes of its own, to be ended as one
-prove "$1" "$room" > "$log" 2>&1 &
+prove "$1" "$log" > "$log" 2>&1 &
 proof=$!
 set +m
-trap 'kill -- "-$proof" 2> /dev/null || true; rm -rf "$room"' EXIT
+trap 'kill -- "-$proof" 2> /dev/null || true' EXIT
 
 # Says how far the proof is: at each crate's beginning, and each half minute.
 crate=
@@ -69,18 +110,17 @@ while kill -0 "$proof" 2> /dev/null; do
   if [ "$now" != "$crate" ] || [ $((SECONDS - said)) -ge 30 ]; then
     crate=$now
     said=$SECONDS
-    far=$(tail -n 1 "$log" | sed -n 's/^so far: \([0-9]* of [0-9]* functions\) checked.*/, \1/p')
-    printf '%2d:%02d  %s\n' $(((SECONDS - start) / 60)) $(((SECONDS - start) % 60)) "${crate:-starting}$far" >&2
+    printf '%2d:%02d  %s\n' $(((SECONDS - start) / 60)) $(((SECONDS - start) % 60)) "${crate:-starting}" >&2
   fi
 done
-trap 'rm -rf "$room"' EXIT
+trap - EXIT
 
 if ! wait "$proof"; then
   tail -n 20 "$log" >&2
   echo "$1 was not built; the whole output is in $log" >&2
   exit 1
 fi
-rm -f "$log"
+rm -f "$log" "$log.text"
 printf 'proved and built in %d minutes %d seconds\n' $(((SECONDS - start) / 60)) $(((SECONDS - start) % 60)) >&2
 exit 0
 }

@@ -60,9 +60,9 @@ gate=$(grep -E '^[0-9]+ passed, 0 failed$' "$folder/gate" | tail -n 1)
 [ -n "$gate" ] || exit 1
 passed=${gate%% *}
 if [ -x crates/flow/out/flow ]; then
-  bash scripts/sum.sh crates/flow/out/flow > crates/flow/out/flow.proved || exit 1
+  bash scripts/sum.sh all crates/flow/out/flow > crates/flow/out/flow.proved || exit 1
 fi
-bash scripts/sum.sh crates/*/out/rlib/*/format > crates/flow_c/out/below.proved || exit 1
+bash scripts/sum.sh all crates/*/out/rlib/*/format > crates/flow_c/out/below.proved || exit 1
 
 # count NAME: takes from the output of a part, whose last line has to be 'NAME: N passed, 0 failed', how many passed.
 count() {

@@ -235,21 +235,52 @@ pub fn commands<'a>(alloc: Global) -> Result<Command<'a>, AllocError> {
         .about("Maximum flows, minimum cuts and edge connectivity of networks in the DIMACS format")
         .after_help(ALL_STATUSES);
     for words in COMMANDS {
-        flow = flow.subcommand(command(alloc, words)?)?;
+        flow = with_command(alloc, flow, words)?;
     }
     Ok(flow)
 }
 
+/// A command with one more that is given after its name.
+fn with_command<'a>(
+    alloc: Global,
+    command: Command<'a>,
+    words: &CommandWords<'a>,
+) -> Result<Command<'a>, AllocError> {
+    let under_it = command_of(alloc, words)?;
+    command.subcommand(under_it)
+}
+
 /// A command with its help, its flags and its files.
-fn command<'a>(alloc: Global, words: &CommandWords<'a>) -> Result<Command<'a>, AllocError> {
-    let mut command = Command::new(alloc, words.name)
+fn command_of<'a>(alloc: Global, words: &CommandWords<'a>) -> Result<Command<'a>, AllocError> {
+    let command = Command::new(alloc, words.name)
         .about(words.about)
         .long_about(words.long_about)
         .after_help(words.statuses);
-    for &(name, about) in words.flags {
+    let with_flags = with_flags(alloc, command, words.flags)?;
+    with_files(alloc, with_flags, words.files)
+}
+
+/// A command with these flags, each a name and what it does.
+fn with_flags<'a>(
+    alloc: Global,
+    command: Command<'a>,
+    flags: &[(&'a str, &'a str)],
+) -> Result<Command<'a>, AllocError> {
+    let mut command = command;
+    for &(name, about) in flags {
         command = command.arg(flag(alloc, name, about))?;
     }
-    for file in words.files {
+    Ok(command)
+}
+
+/// A command with these files.
+fn with_files<'a>(
+    alloc: Global,
+    command: Command<'a>,
+    files: &[FileWords<'a>],
+) -> Result<Command<'a>, AllocError> {
+    let mut command = command;
+    for file in files {
         command = command.arg(file_named(alloc, file))?;
     }
     Ok(command)

@@ -53,18 +53,30 @@ fn run_files<S: Source, O: Output, E: Output>(
     out: &mut O,
     err: &mut E,
 ) -> u8 {
-    let mut problem = match source.input(files.problem) {
-        Some(problem) => problem,
-        None => return refuse_file(files.problem, err),
-    };
+    match source.input(files.problem) {
+        Some(mut problem) => run_on(alloc, job, &mut problem, files.solution, source, out, err),
+        None => refuse_file(files.problem, err),
+    }
+}
+
+/// Opens the solution where the job checks one, and runs the job on this problem.
+fn run_on<S: Source, O: Output, E: Output>(
+    alloc: Global,
+    job: Job,
+    problem: &mut S::In,
+    solution: Option<&str>,
+    source: &mut S,
+    out: &mut O,
+    err: &mut E,
+) -> u8 {
     match job {
-        Job::Check { .. } => match source.input(files.solution) {
-            Some(mut solution) => run(alloc, job, &mut problem, &mut solution, out, err),
-            None => refuse_file(files.solution, err),
+        Job::Check { .. } => match source.input(solution) {
+            Some(mut opened) => run(alloc, job, problem, &mut opened, out, err),
+            None => refuse_file(solution, err),
         },
         _ => {
             let mut nothing = Counted::new(&b""[..]);
-            run(alloc, job, &mut problem, &mut nothing, out, err)
+            run(alloc, job, problem, &mut nothing, out, err)
         }
     }
 }

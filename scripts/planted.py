@@ -308,6 +308,12 @@ def link_tree(one, other):
     shutil.copytree(one, other, copy_function=link, ignore=shutil.ignore_patterns("*.tmp.*"))
 
 
+def work_of(crate, groups, begin):
+    """How long the groups of a crate take, in edits: those of which nothing was collected prove first what they call."""
+    has_begun = begin and (begin / crate).is_dir()
+    return sum(map(len, groups)) + (0 if has_begun else 16)
+
+
 def edits_to_try(crate):
     """The edits of a crate that aren't known to be refused, those that don't fit their function, what each is
     remembered by, and how many are known."""
@@ -433,8 +439,7 @@ def main(words):
         sys.exit(__doc__)
     found = [(crate, *edits_to_try(crate)) for crate in crates]
     found = [(crate, groups_of(todo), misfits, names, known) for crate, todo, misfits, names, known in found]
-    # (the most edits take longest)
-    found.sort(key=lambda it: -sum(map(len, it[1])))
+    found.sort(key=lambda it: work_of(it[0], it[1], begin), reverse=True)
     passed = lacking = 0
     with ThreadPoolExecutor(int(os.environ.get("RT_JOBS") or 1)) as pool:
         tried = {}

@@ -65,13 +65,13 @@ library() { # CRATE
 
 # Proves the crates that the last one is made of, lowest first, and says which. Readers and solvers don't stand on each
 # other, so they are proved side by side.
-prove() { # LAST LOG
+prove() { # LAST ROOM
   echo "== flow_net"
   library flow_net || return 1
   echo "== flow_text and flow_solve"
-  library flow_text > "$2.text" 2>&1 &
+  library flow_text > "$2/flow_text" 2>&1 &
   library flow_solve || return 1
-  wait $! || { cat "$2.text" && return 1; }
+  wait $! || { cat "$2/flow_text" && return 1; }
   echo "== flow_tools"
   library flow_tools || return 1
   echo "== $1"
@@ -89,14 +89,16 @@ prove() { # LAST LOG
 
 cat >&2 <<TEXT
 Proving and building $1, since nothing is built that isn't proved. From nothing this takes six to twelve minutes
-on four cores, and up to four gigabytes of memory; a library that an earlier run has proved is taken as it is.
+on four cores, more than half of them for the solvers, and up to four gigabytes of memory; a library that an earlier
+run has proved is taken as it is.
 TEXT
 
 { # The rest is read at once, so that a change of this file while the proof goes on does no harm.
-log=$(mktemp)
+room=$(mktemp -d)
+log=$room/log
 start=$SECONDS
 set -m # a group of processes of its own, to be ended as one
-prove "$1" "$log" > "$log" 2>&1 &
+prove "$1" "$room" > "$log" 2>&1 &
 proof=$!
 set +m
 trap 'kill -- "-$proof" 2> /dev/null || true' EXIT
@@ -113,14 +115,13 @@ while kill -0 "$proof" 2> /dev/null; do
     printf '%2d:%02d  %s\n' $(((SECONDS - start) / 60)) $(((SECONDS - start) % 60)) "${crate:-starting}" >&2
   fi
 done
-trap - EXIT
 
 if ! wait "$proof"; then
   tail -n 20 "$log" >&2
   echo "$1 was not built; the whole output is in $log" >&2
   exit 1
 fi
-rm -f "$log" "$log.text"
+rm -rf "$room"
 printf 'proved and built in %d minutes %d seconds\n' $(((SECONDS - start) / 60)) $(((SECONDS - start) % 60)) >&2
 exit 0
 }

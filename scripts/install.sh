@@ -25,8 +25,10 @@ proved=crates/flow/out/flow.proved
 if [ -f "$proved" ] && [ "$(bash scripts/sum.sh all crates/flow/out/flow)" = "$(cat "$proved")" ]; then
   echo 'Nothing has changed since flow was proved and built.' >&2
 else
+  before=$(bash scripts/sum.sh all)
   bash scripts/prove.sh flow
-  bash scripts/sum.sh all crates/flow/out/flow > "$proved"
+  # (which text was proved isn't known where one has changed meanwhile)
+  [ "$(bash scripts/sum.sh all)" != "$before" ] || bash scripts/sum.sh all crates/flow/out/flow > "$proved"
 fi
 install -m 755 crates/flow/out/flow "$folder/flow"
 if [ -n "$library" ]; then

@@ -2,8 +2,8 @@
 # Proves and builds the program or the library for C: prove.sh flow|flow_c
 # The program is then crates/flow/out/flow, the library's archive crates/flow_c/out/libflow_c.a. Each crate is proved
 # whole, by the kit's prover itself: `rt lib` proves it some functions at a time, to keep them for the next edit, and
-# takes half as long again. A library below is kept in crates/NAME/out/whole, and taken as it is while the texts that it
-# is made of are the same. Progress goes to standard error, and nothing to standard output.
+# takes half as long again. A library below is kept in crates/NAME/out/whole, and taken as it is while nothing changes
+# of it and of those below it. Progress goes to standard error, and nothing to standard output.
 set -eu
 if [ $# -ne 1 ] || { [ "$1" != flow ] && [ "$1" != flow_c ]; }; then
   echo "usage: bash scripts/prove.sh flow|flow_c" >&2
@@ -51,16 +51,24 @@ build() ( # CRATE ROOT WORDS..
     --jobs "$jobs" "$@"
 )
 
-# Proves and builds a library that crates above it read, unless it is there and nothing of it has changed.
+# Proves and builds a library that crates above it read, unless it is there, and it and those below it are unchanged.
 library() { # CRATE
-  local whole=crates/$1/out/whole texts
-  texts="$1 $(named_by "$1")" # (who looks for texts of the kit's libraries finds none)
-  if [ -f "$whole/sum" ] && [ "$(bash scripts/sum.sh "$texts" "$whole/$1.rlib")" = "$(cat "$whole/sum")" ]; then
+  local whole=crates/$1/out/whole texts=$1 files=("crates/$1/out/whole/$1.rlib") below before
+  for below in $(named_by "$1"); do
+    if [ -d "crates/$below" ]; then
+      texts+=" $below"
+      files+=("crates/$below/out/whole/$below.rlib")
+    fi
+  done
+  if [ -f "$whole/sum" ] && [ "$(bash scripts/sum.sh "$texts" "${files[@]}")" = "$(cat "$whole/sum")" ]; then
     return
   fi
   rm -rf "$whole"
   mkdir -p "$whole"
-  build "$1" lib --statements -o "out/whole/$1.rlib" && bash scripts/sum.sh "$texts" "$whole/$1.rlib" > "$whole/sum"
+  before=$(bash scripts/sum.sh "$texts")
+  build "$1" lib --statements -o "out/whole/$1.rlib" || return 1
+  # (which text was proved isn't known where one has changed meanwhile)
+  [ "$(bash scripts/sum.sh "$texts")" != "$before" ] || bash scripts/sum.sh "$texts" "${files[@]}" > "$whole/sum"
 }
 
 # Proves the crates that the last one is made of, lowest first, and says which. Readers and solvers don't stand on each
@@ -101,7 +109,7 @@ set -m # a group of processes of its own, to be ended as one
 prove "$1" "$room" > "$log" 2>&1 &
 proof=$!
 set +m
-trap 'kill -- "-$proof" 2> /dev/null || true' EXIT
+trap 'kill -- "-$proof" 2> /dev/null || true; rm -rf "$room"' EXIT
 
 # Says how far the proof is: at each crate's beginning, and each half minute.
 crate=
@@ -117,11 +125,12 @@ while kill -0 "$proof" 2> /dev/null; do
 done
 
 if ! wait "$proof"; then
-  tail -n 20 "$log" >&2
-  echo "$1 was not built; the whole output is in $log" >&2
+  whole=$(mktemp)
+  cp "$log" "$whole"
+  tail -n 20 "$whole" >&2
+  echo "$1 was not built; the whole output is in $whole" >&2
   exit 1
 fi
-rm -rf "$room"
 printf 'proved and built in %d minutes %d seconds\n' $(((SECONDS - start) / 60)) $(((SECONDS - start) % 60)) >&2
 exit 0
 }

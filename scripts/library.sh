@@ -23,35 +23,12 @@ trap 'rm -rf "$scratch"' EXIT
 
 kit=$(dirname "$(rt doc)")
 
-# Whether nothing has changed since scripts/test.sh or this script kept the sum over built files.
-is_as_proved() { # SUM FILE..
-  [ -f "$1" ] && [ "$(bash scripts/sum.sh all "${@:2}")" = "$(cat "$1")" ]
-}
-
-# Proves the crate and builds the archive over the libraries that the gate has proved and left. The gate only checks a
-# static library, and `rt lib`, which builds one, takes none of the gate's, and would prove all of them again. What an
-# earlier check of the crate has proved is taken up: scripts/test.sh leaves there what the gate's edits began with.
-build_over_the_gate() {
-  local crate words=(--extern "std=$kit/rlibs/std.rlib")
-  for crate in flow_net flow_text flow_solve flow_tools; do
-    words+=(--extern "$crate=../$crate/out/rlib/$crate.rlib")
-  done
-  echo 'Building the library over what the tests have proved.' >&2
-  (
-    cd crates/flow_c
-    "$kit/bin/rattle" build --crate-name flow_c src/lib.rt "${words[@]}" -L "dependency=$kit/rlibs" \
-      --antt-project "$kit/rattle/logic/antt-project.json" --logic-built "$kit/logic_built" --crate-type staticlib \
-      --incremental out/incremental --toolchain "$kit/toolchain" --backend llvm -o out/libflow_c.a
-  ) > "$scratch/log" 2>&1 || { tail -n 3 "$scratch/log" >&2; return 1; }
-}
-
 if [ -z "$archive" ]; then
   archive=crates/flow_c/out/libflow_c.a
-  if ! is_as_proved "$archive.proved" "$archive"; then
-    if ! is_as_proved crates/flow_c/out/below.proved crates/*/out/rlib/*/format || ! build_over_the_gate; then
-      bash scripts/prove.sh flow_c
-    fi
-    bash scripts/sum.sh all "$archive" > "$archive.proved"
+  proved=$archive.proved
+  if ! [ -f "$proved" ] || [ "$(bash scripts/sum.sh all "$archive")" != "$(cat "$proved")" ]; then
+    bash scripts/prove.sh flow_c
+    bash scripts/sum.sh all "$archive" > "$proved"
   fi
   archive=$PWD/$archive
 fi

@@ -3,10 +3,11 @@
 # The program is then crates/flow/out/flow, the library's archive crates/flow_c/out/libflow_c.a. Each crate is proved
 # whole, by the kit's prover itself: `rt lib` proves it some functions at a time, to keep them for the next edit, and
 # takes half as long again. A library below is kept in crates/NAME/out/whole, and taken as it is while nothing changes
-# of it and of those below it. Progress goes to standard error, and nothing to standard output.
+# of it and of those below it; `prove.sh gate` keeps those that the gate has just proved and built, for the test
+# command. Progress goes to standard error, and nothing to standard output.
 set -eu
-if [ $# -ne 1 ] || { [ "$1" != flow ] && [ "$1" != flow_c ]; }; then
-  echo "usage: bash scripts/prove.sh flow|flow_c" >&2
+if [ $# -ne 1 ] || ! [[ $1 =~ ^(flow|flow_c|gate)$ ]]; then
+  echo "usage: bash scripts/prove.sh flow|flow_c|gate" >&2
   exit 2
 fi
 if ! command -v rt > /dev/null; then
@@ -51,29 +52,37 @@ build() ( # CRATE ROOT WORDS..
     --jobs "$jobs" "$@"
 )
 
-# Proves and builds a library that crates above it read, unless it is there, and it and those below it are unchanged.
-library() { # CRATE
-  local whole=crates/$1/out/whole texts=$1 files=("crates/$1/out/whole/$1.rlib") below before
+# Prints the sum over a library and all that it is built over, and with a word more over their texts alone.
+sum_of() { # CRATE [TEXTS]
+  local texts=$1 files=("crates/$1/out/whole/$1.rlib") below
   for below in $(named_by "$1"); do
     if [ -d "crates/$below" ]; then
       texts+=" $below"
       files+=("crates/$below/out/whole/$below.rlib")
     fi
   done
-  if [ -f "$whole/sum" ] && [ "$(bash scripts/sum.sh "$texts" "${files[@]}")" = "$(cat "$whole/sum")" ]; then
+  [ $# -eq 1 ] || files=()
+  bash scripts/sum.sh "$texts" "${files[@]}"
+}
+
+# Proves and builds a library that crates above it read, unless it is there, and it and those below it are unchanged.
+library() { # CRATE
+  local whole=crates/$1/out/whole texts
+  if [ -f "$whole/sum" ] && [ "$(sum_of "$1")" = "$(cat "$whole/sum")" ]; then
     return
   fi
   rm -rf "$whole"
   mkdir -p "$whole"
-  before=$(bash scripts/sum.sh "$texts")
+  texts=$(sum_of "$1" texts)
   build "$1" lib --statements -o "out/whole/$1.rlib" || return 1
   # (which text was proved isn't known where one has changed meanwhile)
-  [ "$(bash scripts/sum.sh "$texts")" != "$before" ] || bash scripts/sum.sh "$texts" "${files[@]}" > "$whole/sum"
+  [ "$(sum_of "$1" texts)" != "$texts" ] || sum_of "$1" > "$whole/sum"
 }
 
 # Proves the crates that the last one is made of, lowest first, and says which. Readers and solvers don't stand on each
 # other, so they are proved side by side; the readers give way, since the solvers take longer.
 prove() { # LAST ROOM
+  local begun=()
   echo "== flow_net"
   library flow_net || return 1
   echo "== flow_text and flow_solve"
@@ -85,7 +94,9 @@ prove() { # LAST ROOM
   echo "== $1"
   mkdir -p "crates/$1/out"
   if [ "$1" = flow_c ]; then
-    build flow_c lib --crate-type staticlib --toolchain "$kit/toolchain" -o out/libflow_c.a
+    # (the test command leaves what the gate's edits of the crate began with, which is its whole proof)
+    [ ! -d crates/flow_c/out/begun ] || begun=(--incremental out/begun)
+    build flow_c lib "${begun[@]}" --crate-type staticlib --toolchain "$kit/toolchain" -o out/libflow_c.a
     return
   fi
   build flow main --toolchain "$kit/toolchain" -o out/flow.o || return 1
@@ -94,6 +105,17 @@ prove() { # LAST ROOM
     "$kit/c/libos_c.a" "$kit/c/liblibc_c.a" || return 1
   out/flow solve --value < stdin
 }
+
+if [ "$1" = gate ]; then
+  for crate in flow_net flow_text flow_solve flow_tools; do
+    whole=crates/$crate/out/whole
+    rm -rf "$whole"
+    mkdir "$whole"
+    cp -a "crates/$crate/out/rlib/$crate.rlib" "$whole"
+    sum_of "$crate" > "$whole/sum"
+  done
+  exit 0
+fi
 
 cat >&2 <<TEXT
 Proving and building $1, since nothing is built that isn't proved. From nothing this takes six to twelve minutes

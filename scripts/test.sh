@@ -62,7 +62,7 @@ passed=${gate%% *}
 if [ -x crates/flow/out/flow ]; then
   bash scripts/sum.sh all crates/flow/out/flow > crates/flow/out/flow.proved || exit 1
 fi
-bash scripts/sum.sh all crates/*/out/rlib/*/format > crates/flow_c/out/below.proved || exit 1
+bash scripts/prove.sh gate || exit 1
 
 # count NAME: takes from the output of a part, whose last line has to be 'NAME: N passed, 0 failed', how many passed.
 count() {
@@ -113,8 +113,7 @@ add header python3 scripts/header.py
 say "the library for C"
 # What the gate's edits of the crate began with is its whole proof: the library needs no other one.
 if [ -d "$folder/begun/flow_c" ]; then
-  rm -rf crates/flow_c/out/incremental
-  cp -a "$folder/begun/flow_c" crates/flow_c/out/incremental
+  cp -a "$folder/begun/flow_c" crates/flow_c/out/begun
 fi
 bash scripts/library.sh "$folder/made" > /dev/null || exit 1
 add library python3 scripts/try_library.py "$folder/made" crates/flow/out/flow

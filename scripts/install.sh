@@ -21,15 +21,7 @@ mkdir -p "$1"
 folder=$(cd "$1" && pwd)
 cd "$(dirname "$0")/.."
 
-proved=crates/flow/out/flow.proved
-if [ -f "$proved" ] && [ "$(bash scripts/sum.sh all crates/flow/out/flow)" = "$(cat "$proved")" ]; then
-  echo 'Nothing has changed since flow was proved and built.' >&2
-else
-  before=$(bash scripts/sum.sh all)
-  bash scripts/prove.sh flow
-  # (which text was proved isn't known where one has changed meanwhile)
-  [ "$(bash scripts/sum.sh all)" != "$before" ] || bash scripts/sum.sh all crates/flow/out/flow > "$proved"
-fi
+bash scripts/prove.sh flow
 install -m 755 crates/flow/out/flow "$folder/flow"
 if [ -n "$library" ]; then
   bash scripts/library.sh "$folder" > /dev/null

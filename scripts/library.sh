@@ -25,11 +25,7 @@ kit=$(dirname "$(rt doc)")
 
 if [ -z "$archive" ]; then
   archive=crates/flow_c/out/libflow_c.a
-  proved=$archive.proved
-  if ! [ -f "$proved" ] || [ "$(bash scripts/sum.sh all "$archive")" != "$(cat "$proved")" ]; then
-    bash scripts/prove.sh flow_c
-    bash scripts/sum.sh all "$archive" > "$proved"
-  fi
+  bash scripts/prove.sh flow_c
   archive=$PWD/$archive
 fi
 

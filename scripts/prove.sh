@@ -2,9 +2,9 @@
 # Proves and builds the program or the library for C: prove.sh flow|flow_c
 # The program is then crates/flow/out/flow, the library's archive crates/flow_c/out/libflow_c.a. Each crate is proved
 # whole, by the kit's prover itself: `rt lib` proves it some functions at a time, to keep them for the next edit, and
-# takes half as long again. A library below is kept in crates/NAME/out/whole, and taken as it is while nothing changes
-# of it and of those below it; `prove.sh gate` keeps those that the gate has just proved and built, for the test
-# command. Progress goes to standard error, and nothing to standard output.
+# takes half as long again. What this script or scripts/test.sh has proved and built is taken as it is, as long as
+# nothing changes of it and of what is below it, libraries in crates/NAME/out/whole among it; `prove.sh gate` keeps those
+# that the gate has just proved, for the test command. Progress goes to standard error, and nothing to standard output.
 set -eu
 if [ $# -ne 1 ] || ! [[ $1 =~ ^(flow|flow_c|gate)$ ]]; then
   echo "usage: bash scripts/prove.sh flow|flow_c|gate" >&2
@@ -75,7 +75,7 @@ library() { # CRATE
   mkdir -p "$whole"
   texts=$(sum_of "$1" texts)
   build "$1" lib --statements -o "out/whole/$1.rlib" || return 1
-  # (which text was proved isn't known where one has changed meanwhile)
+  # (as below: which text was proved isn't known where one has changed meanwhile)
   [ "$(sum_of "$1" texts)" != "$texts" ] || sum_of "$1" > "$whole/sum"
 }
 
@@ -117,6 +117,13 @@ if [ "$1" = gate ]; then
   exit 0
 fi
 
+built=crates/flow/out/flow
+[ "$1" = flow ] || built=crates/flow_c/out/libflow_c.a
+if [ -f "$built.proved" ] && [ "$(bash scripts/sum.sh all "$built")" = "$(cat "$built.proved")" ]; then
+  echo "Nothing has changed since $1 was proved and built." >&2
+  exit 0
+fi
+
 cat >&2 <<TEXT
 Proving and building $1, since nothing is built that isn't proved. From nothing this takes six to twelve minutes
 on four cores, more than half of them for the solvers, and up to four gigabytes of memory; a library that an earlier
@@ -127,6 +134,7 @@ TEXT
 room=$(mktemp -d)
 log=$room/log
 start=$SECONDS
+texts=$(bash scripts/sum.sh all)
 set -m # a group of processes of its own, to be ended as one
 prove "$1" "$room" > "$log" 2>&1 &
 proof=$!
@@ -153,6 +161,8 @@ if ! wait "$proof"; then
   echo "$1 was not built; the whole output is in $whole" >&2
   exit 1
 fi
+# (which text was proved isn't known where one has changed meanwhile)
+[ "$(bash scripts/sum.sh all)" != "$texts" ] || bash scripts/sum.sh all "$built" > "$built.proved"
 printf 'proved and built in %d minutes %d seconds\n' $(((SECONDS - start) / 60)) $(((SECONDS - start) % 60)) >&2
 exit 0
 }

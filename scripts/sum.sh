@@ -1,8 +1,8 @@
 #!/usr/bin/env bash
 # Prints one sum over all that built files rest on: the kit, the texts of crates, and the files' own bytes:
-# sum.sh CRATES FILE.. where CRATES is one word, names with blanks between them, or `all`. Who proves and builds files
-# keeps it beside them, and who needs them takes them as they are where the sum is still the same: scripts/prove.sh the
-# libraries below, scripts/install.sh the program, scripts/library.sh the library for C.
+# sum.sh CRATES FILE.. where CRATES is one word, names with blanks between them, or `all`. scripts/prove.sh keeps it
+# beside what it has proved and built, and scripts/test.sh beside the gate's program; what has its sum still is taken as
+# it is.
 set -eu
 cd "$(dirname "$0")/.."
 crates=$1

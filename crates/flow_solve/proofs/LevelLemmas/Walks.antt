@@ -214,14 +214,3 @@ module _ {net : Net} {first halves rank current xs : List ℕ} {x p before steps
         falls = falls;
         remains = some;
       }
-
--- the ranks that the code compares
-pub rank_falls : (net : Net) (rank : List ℕ) (x y h : ℕ) → y ≡ head_of net h → tail_of net h ≡ x → 1 ≤ x → 1 ≤ y
-    → get_or rank (y - 1) 0 < get_or rank (x - 1) 0 → cell_of rank (head_of net h) < cell_of rank (tail_of net h)
-rank_falls net rank x y h e f o p l =
-    omega (arith, cell_at rank x o, cell_at rank y p, ap (cell_of rank) e, ap (cell_of rank) f)
-
-pub rank_rises : (net : Net) (rank : List ℕ) (x y h : ℕ) → y ≡ head_of net h → tail_of net h ≡ x → 1 ≤ x → 1 ≤ y
-    → get_or rank (x - 1) 0 ≤ get_or rank (y - 1) 0 → cell_of rank (tail_of net h) ≤ cell_of rank (head_of net h)
-rank_rises net rank x y h e f o p l =
-    omega (arith, cell_at rank x o, cell_at rank y p, ap (cell_of rank) e, ap (cell_of rank) f)

@@ -1,6 +1,6 @@
 //! Walks from a source to sinks, along half-arcs that lead to lower ranks (Dinitz 1970).
-ghost use Rattle.std.specs.Prelude.{◌≡◌, ℕ, Bool, List, ◌+◌, ◌-◌, ◌*◌, ◌<◌, ◌≤◌, IsTrue, IfSome, IfNone, length};
-ghost use Rattle.std.specs.Prelude.{slice_index};
+ghost use Rattle.std.specs.Prelude.{◌≡◌, ◌⊎◌, ℕ, Bool, List, ◌+◌, ◌-◌, ◌*◌, ◌<◌, ◌≤◌, IsTrue, IsFalse, IfSome, IfNone};
+ghost use Rattle.std.specs.Prelude.{length, slice_index};
 ghost use Rattle.std.specs.List.{All};
 ghost use Rattle.flow_net.specs.Nets.{Net, IsNode};
 ghost use Rattle.flow_net.specs.Limits.{IsNet, AreTerminals};
@@ -100,6 +100,28 @@ fn augment(net: &Network, flow: &mut FlowTable, walks: &Walks<'_>, len: u32) -> 
     Augmentation { sent, depth, node }
 }
 
+/// Whether a half-arc leads to a lower rank than its node's own, and has a residual capacity. It looks only at one that
+/// leads to a lower rank.
+#[inline(always)]
+fn is_admissible(net: &Network, flow: &mut FlowTable, rank: &[u32], half: u32, own: u32) -> bool
+    requires fits { Fits net.now flow.old.flows }
+    requires ranks { length rank.now ≡ net.now.nodes }
+    requires half { half < 2 * length net.now.arcs }
+    ensures yes { IsTrue result → (cell_of rank.now (head_of net.now half) < own)
+        × (1 ≤ residual net.now flow.old.flows half) × (flow.new.steps ≡ flow.old.steps + 1) }
+    ensures no { IsFalse result
+        → ((own ≤ cell_of rank.now (head_of net.now half)) × (flow.new.steps ≡ flow.old.steps))
+        ⊎ ((cell_of rank.now (head_of net.now half) < own) × (residual net.now flow.old.flows half ≡ 0)
+        × (flow.new.steps ≡ flow.old.steps + 1)) }
+    ensures flows { flow.new.flows ≡ flow.old.flows }
+{
+    if rank[head(net, half) as usize - 1] >= own {
+        return false;
+    }
+    let (_, room) = flow.look(net, half);
+    room > 0
+}
+
 /// Moves a node's place on to its first half-arc that leads to a lower rank and has a residual capacity, or behind all.
 fn admissible(phase: Phase<'_>, flow: &mut FlowTable, current: &mut [u32], node: u32) -> Option<u32>
     requires run { IsPhase phase }
@@ -114,23 +136,20 @@ fn admissible(phase: Phase<'_>, flow: &mut FlowTable, current: &mut [u32], node:
     ensures steps_some { IfSome result (λ h. Looks phase.entry current.old flow.old current.new flow.new 1) }
     ensures steps_none { IfNone result (Looks phase.entry current.old flow.old current.new flow.new 0) }
 {
-    let Phase { packed, rank, .. } = phase;
-    let end = packed.first[node as usize];
-    let own = rank[node as usize - 1];
+    let end = phase.packed.first[node as usize];
+    let own = phase.rank[node as usize - 1];
     let mut place = current[node as usize - 1];
+    let mut found = None;
     while place < end {
-        let half = packed.halves[place as usize];
-        if rank[head(packed.net, half) as usize - 1] < own {
-            let (_, room) = flow.look(packed.net, half);
-            if room > 0 {
-                current[node as usize - 1] = place;
-                return Some(half);
-            }
+        let half = phase.packed.halves[place as usize];
+        if is_admissible(phase.packed.net, flow, phase.rank, half, own) {
+            found = Some(half);
+            break;
         }
         place += 1;
     }
-    current[node as usize - 1] = end;
-    None
+    current[node as usize - 1] = place;
+    found
 }
 
 /// What the walks of a phase go by.

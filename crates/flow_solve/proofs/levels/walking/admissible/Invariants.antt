@@ -1,5 +1,5 @@
 -- `admissible`: the half-arcs passed are filled, or lead to no lower rank, and each took a look at most.
-use Rattle.std.proofs.Common.{◌≡◌, ◌-◌, ◌≤◌}
+use Rattle.std.proofs.Common.{◌≡◌, ◌-◌, ◌≤◌, None}
 use Rattle.flow_net.specs.Flows.{Fits}
 use Rattle.flow_solve.proofs.LevelLemmas.Walks.{IsLooking}
 use Rattle.flow_solve.proofs.levels.walking.admissible.Given as goal
@@ -8,9 +8,9 @@ abbrev pub invariant-loop-place : goal.invariant-loop-place
 invariant-loop-place l = record {
   fits : Fits l.phase.packed.net.now l.flow.flows;
   flows : l.flow.flows ≡ l.fn.flow.flows;
-  current : l.current ≡ l.fn.current;
+  nothing : l.found ≡ None;
   looking : IsLooking l.phase.packed.net.now l.phase.packed.first.now l.phase.packed.halves.now l.phase.rank.now
-      l.fn.current l.fn.flow.flows l.node
+      l.current l.fn.flow.flows l.node
       l.place l.fn.flow.steps l.flow.steps;
   never_lowered : l.fn.flow.steps ≤ l.flow.steps;
 }

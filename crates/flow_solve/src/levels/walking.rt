@@ -1,6 +1,6 @@
 //! Walks from a source to sinks, along half-arcs that lead to lower ranks (Dinitz 1970).
 ghost use Rattle.std.specs.Prelude.{◌≡◌, ◌⊎◌, ℕ, Bool, List, ◌+◌, ◌-◌, ◌*◌, ◌<◌, ◌≤◌, IsTrue, IsFalse, IfSome, IfNone};
-ghost use Rattle.std.specs.Prelude.{length, slice_index};
+ghost use Rattle.std.specs.Prelude.{length, slice_index, slice_set};
 ghost use Rattle.std.specs.List.{All};
 ghost use Rattle.flow_net.specs.Nets.{Net, IsNode};
 ghost use Rattle.flow_net.specs.Limits.{IsNet, AreTerminals};
@@ -167,6 +167,21 @@ pub(crate) struct Phase<'a> {
     pub rank: &'a [u32],
 }
 
+/// Goes back over a half-arc: the place of the node that it leaves moves on past it. Answers the node.
+#[inline(always)]
+fn retreat(net: &Network, current: &mut [u32], half: u32) -> u32
+    requires half { half < 2 * length net.now.arcs }
+    requires size { length current.old ≡ net.now.nodes }
+    requires low { slice_index current.old (tail_of net.now half - 1) < u32.MAX }
+    ensures tail { result ≡ tail_of net.now half }
+    ensures node { IsNode net.now result }
+    ensures passed { current.new ≡ slice_set current.old (result - 1) (slice_index current.old (result - 1) + 1) }
+{
+    let node = tail(net, half);
+    current[node as usize - 1] += 1;
+    node
+}
+
 /// Walks from a source until it is dead: it goes on along admissible half-arcs, augments where it comes to a sink, goes
 /// back to where the first half-arc was filled, and takes one back from a node that has none.
 ///
@@ -186,25 +201,24 @@ pub(crate) fn walk(phase: Phase<'_>, flow: &mut FlowTable, walks: &mut Walks<'_>
     ensures never_lowered { flow.old.steps ≤ flow.new.steps }
     ensures steps { PaysOwed phase.entry walks.old.current.now flow.old walks.new.current.now flow.new }
 {
-    let packed = phase.packed;
     let mut node = source;
     let mut depth: u32 = 0;
     'turns: loop {
         if phase.dist[node as usize - 1] == 0 {
-            let done = augment(packed.net, flow, walks, depth);
+            let done = augment(phase.packed.net, flow, walks, depth);
             walks.value += u128::from(done.sent);
             depth = done.depth;
             node = done.node;
         } else if let Some(half) = admissible(phase, flow, walks.current, node) {
             walks.path[depth as usize] = half;
             depth += 1;
-            node = head(packed.net, half);
+            node = head(phase.packed.net, half);
         } else if depth == 0 {
             return;
         } else {
             depth -= 1;
-            node = tail(packed.net, walks.path[depth as usize]);
-            walks.current[node as usize - 1] += 1;
+            let half = walks.path[depth as usize];
+            node = retreat(phase.packed.net, walks.current, half);
         }
     }
 }

@@ -9,6 +9,7 @@ use Rattle.flow_net.specs.Residual.{tail_of}
 use Rattle.flow_net.proofs.NodeLists.{terminals_apart}
 use Rattle.flow_solve.specs.levels.Phases.{cell_of, first_at, owed, IsInPhase, IsDead, IsGentle}
 use Rattle.flow_solve.proofs.LevelLemmas.Places.{cell_at}
+use Rattle.flow_net.proofs.Zips.{tail_is_node}
 use Rattle.flow_solve.proofs.Raises.{value_most, capacities_fit}
 use Rattle.flow_solve.proofs.LevelLemmas.Walks.{moved_up, on_up, set_next}
 use Rattle.flow_solve.proofs.LevelLemmas.Turning.{turning_as, turning_augment, turning_gentle, turning_advance}
@@ -172,15 +173,18 @@ returns-then-depth-eq0-clause-steps c =
     (sym c.admissible.ensures.flows) paid
 
 -- a half-arc of the path is one of the network's
-pub tail-node-requires : goal.tail-node-requires
-tail-node-requires c = half_on c.turns.invariant.turning (c.turns.depth - 1) (omega (arith, c.if-depth-eq0.false))
+pub retreat-node-requires-clause-half : goal.retreat-node-requires-clause-half
+retreat-node-requires-clause-half c =
+    half_on c.turns.invariant.turning (c.turns.depth - 1) (omega (arith, c.if-depth-eq0.false))
 
-pub overflow_add-walks-else-depth-eq0 : goal.overflow_add-walks-else-depth-eq0
-overflow_add-walks-else-depth-eq0 c =
-    let node = c.tail-node.ensures.node in let net = c.args.phase.packed.net.now in
-    let place = c.admissible.ensures.looked.places c.tail-node.result node in
-    let most = c.requires.run.packed.most c.tail-node.result (omega (arith, node)) in
-    let cell = cell_at c.admissible.new.current c.tail-node.result node.0 in
+pub retreat-node-requires-clause-low : goal.retreat-node-requires-clause-low
+retreat-node-requires-clause-low c =
+    let net = c.args.phase.packed.net.now in let half = slice_index c.turns.walks.path.now (c.turns.depth - 1) in
+    let node = tail_is_node net half c.requires.run.packed.limits
+    (half_on c.turns.invariant.turning (c.turns.depth - 1) (omega (arith, c.if-depth-eq0.false))) in
+    let place = c.admissible.ensures.looked.places (tail_of net half) node in
+    let most = c.requires.run.packed.most (tail_of net half) (omega (arith, node)) in
+    let cell = cell_at c.admissible.new.current (tail_of net half) node.0 in
     omega (arith, place, most, cell, c.requires.run.packed.limits.arcs_most)
 
 -- the turn that goes back
@@ -193,9 +197,10 @@ turns-smaller c =
     c.requires.run.packed.limits c.admissible.ensures.looked in
     subst (λ (zs : List ℕ). to_go net halves rank zs c.admissible.new.flow.flows (c.turns.depth - 1)
     < to_go net halves rank c.turns.walks.current.now c.turns.flow.flows c.turns.depth)
-    (sym (stepped c.admissible.new.current c.tail-node.result c.tail-node.ensures.node.0
+    (sym (c.retreat-node.ensures.passed ∙ stepped c.admissible.new.current c.retreat-node.result
+    c.retreat-node.ensures.node.0
     ∙ ap (λ (z : ℕ). set c.admissible.new.current (z - 1) (cell_of c.admissible.new.current z + 1))
-    c.tail-node.ensures.tail))
+    c.retreat-node.ensures.tail))
     (subst (λ (ys : List ℕ). to_go net halves rank
     (set c.admissible.new.current (tail_of net (slice_index c.turns.walks.path.now (c.turns.depth - 1)) - 1)
     (cell_of c.admissible.new.current (tail_of net (slice_index c.turns.walks.path.now (c.turns.depth - 1))) + 1)) ys
@@ -210,20 +215,19 @@ turns-preserved c =
     let back = turning_retreat old.turning c.admissible.new.flow.steps (c.turns.depth - 1)
     (omega (arith, c.if-depth-eq0.false)) c.requires.run.packed.limits c.requires.run.packed inner
     c.admissible.ensures.looked c.in_default.ensures.none (omega (arith, c.in_default.ensures.steps_none)) in
-    let node = c.tail-node.ensures.node in
-    let y = c.tail-node.result in
-    let o = set_next c.admissible.new.current c.tail-node.result node.0 (omega (arith, node, found.looked.size)) in
-    let same = stepped c.admissible.new.current c.tail-node.result node.0 in
+    let node = c.retreat-node.ensures.node in
+    let y = c.retreat-node.result in
+    let o = set_next c.admissible.new.current c.retreat-node.result node.0 (omega (arith, node, found.looked.size)) in
+    let same = c.retreat-node.ensures.passed ∙ stepped c.admissible.new.current c.retreat-node.result node.0 in
     record {
       turning =
-          turning_as back (stepped c.admissible.new.current c.tail-node.result c.tail-node.ensures.node.0
-          ∙ ap (λ (z : ℕ). set c.admissible.new.current (z - 1)
-          (cell_of c.admissible.new.current z + 1)) c.tail-node.ensures.tail) found.flows c.tail-node.ensures.tail refl
-          refl;
+          turning_as back (same ∙ ap (λ (z : ℕ). set c.admissible.new.current (z - 1)
+          (cell_of c.admissible.new.current z + 1)) c.retreat-node.ensures.tail) found.flows c.retreat-node.ensures.tail
+          refl refl;
       same = record {
         current = old.same.current;
         current_size =
-            length-set c.admissible.new.current (y - 1) _ ∙ found.looked.size ∙ sym c.requires.walks.phase.size;
+            c.retreat-node.auto.current ∙ found.looked.size ∙ sym c.requires.walks.phase.size;
         path = old.same.path;
         path_size = old.same.path_size;
       };

@@ -120,6 +120,51 @@ fn run_phase(phase: Phase<'_>, flow: &mut FlowTable, walks: &mut Walks<'_>)
     walk_from_sources(phase, flow, walks);
 }
 
+/// Runs phases until a search backwards from the sinks sees no source.
+fn run_until_cut(
+    task: Task<'_>,
+    flow: &mut FlowTable,
+    dist: &mut [u32],
+    rank: &mut [u32],
+    queue: &mut [u32],
+    walks: &mut Walks<'_>,
+)
+    requires task { IsTask task }
+    requires cells { AreCells task.packed.net.now dist.old rank.old queue.old }
+    requires size { length walks.old.current.now ≡ task.packed.net.now.nodes }
+    requires path_size { length walks.old.path.now ≡ task.packed.net.now.nodes }
+    requires flow { HasFlow task flow.old.flows walks.old.value }
+    ensures flow { HasFlow task.entry flow.new.flows walks.new.value }
+    ensures greatest { IsGreatest task.entry.packed.net.now (one_of task.entry.s.now) (one_of task.entry.t.now)
+        walks.new.value }
+    ensures least { IsLeastCapacity task.entry.packed.net.now (one_of task.entry.s.now) (one_of task.entry.t.now)
+        walks.new.value }
+    ensures steps { TakesSteps flow.old flow.new (phases_bound task.entry.packed.net.now) }
+{
+    let Task { packed, s, t } = task;
+    let plan = Plan {
+        packed,
+        direction: Direction::Backwards,
+        starts: t,
+        until: s,
+        enough: count(s),
+    };
+    // Read by the loop's invariant alone, `invariant-phases`: after so many phases the sources are farther than that.
+    let mut phases = 0u32;
+    'phases: while find_levels(plan, flow, dist, rank, queue) {
+        let phase = Phase {
+            packed,
+            s,
+            t,
+            dist,
+            rank,
+        };
+        run_phase(phase, flow, walks);
+        // Each phase brings the sources farther from the sinks, so there are fewer than `n`.
+        phases += 1;
+    }
+}
+
 /// Raises a feasible flow by phases until a search backwards from the sinks sees no source, and answers its value,
 /// which is the greatest. `value` is the flow's value before. It takes at most `3·n²·m` steps, whatever flow it starts
 /// from.
@@ -133,37 +178,16 @@ pub fn run_phases(task: Task<'_>, flow: &mut FlowTable, cells: &mut [u32], value
         result }
     ensures steps { TakesSteps flow.old flow.new (phases_bound task.entry.packed.net.now) }
 {
-    let Task { packed, s, t } = task;
-    let n = packed.net.nodes() as usize;
+    let n = task.packed.net.nodes() as usize;
     let (dist, rest) = cells.split_at_mut(n);
     let (rank, rest) = rest.split_at_mut(n);
     let (current, rest) = rest.split_at_mut(n);
     let (path, queue) = rest.split_at_mut(n);
-    let plan = Plan {
-        packed,
-        direction: Direction::Backwards,
-        starts: t,
-        until: s,
-        enough: count(s),
-    };
     let mut walks = Walks {
         current,
         path,
         value,
     };
-    // Read by the loop's invariant alone, `invariant-phases`: after so many phases the sources are farther than that.
-    let mut phases = 0u32;
-    'phases: while find_levels(plan, flow, dist, rank, queue) {
-        let phase = Phase {
-            packed,
-            s,
-            t,
-            dist,
-            rank,
-        };
-        run_phase(phase, flow, &mut walks);
-        // Each phase brings the sources farther from the sinks, so there are fewer than `n`.
-        phases += 1;
-    }
+    run_until_cut(task, flow, dist, rank, queue, &mut walks);
     walks.value
 }

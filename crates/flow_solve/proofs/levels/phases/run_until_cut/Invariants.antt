@@ -1,14 +1,14 @@
--- `run_phases`: the flow is one of its value, the sources are farther from the sinks than there were phases, and the
+-- `run_until_cut`: the flow is one of its value, the sources are farther from the sinks than there were phases, and the
 -- steps are paid.
 use Rattle.std.proofs.Common.{◌+◌, ◌-◌, ◌*◌, ◌<◌, ◌≤◌, length}
 use Rattle.flow_solve.specs.levels.Phases.{AreSameWalks, IsFar}
 use Rattle.flow_solve.specs.Solving.{IsFlow}
-use Rattle.flow_solve.proofs.levels.phases.run_phases.Given as goal
+use Rattle.flow_solve.proofs.levels.phases.run_until_cut.Given as goal
 
 abbrev pub invariant-phases : goal.invariant-phases
 invariant-phases l = record {
   flow : IsFlow l.packed.net.now l.s l.t l.flow.flows l.walks.value;
-  same : AreSameWalks l.initial.walks l.walks;
+  same : AreSameWalks l.fn.walks l.walks;
   far : IsFar l.packed.net.now l.s l.t l.flow.flows l.phases;
   few : l.phases < l.packed.net.now.nodes;
   never_lowered : l.fn.flow.steps ≤ l.flow.steps;

@@ -1,4 +1,4 @@
--- `run_phases`: each phase brings the sources farther from the sinks.
+-- `run_until_cut`: each phase brings the sources farther from the sinks.
 use Rattle.std.proofs.Common.{ℕ, List, ◌-◌, length, sym, subst, arith, rules}
 use Rattle.flow_net.proofs.NodeLists.{terminals_apart}
 use Rattle.flow_solve.specs.residual.Searches.{seen}
@@ -6,7 +6,7 @@ use Rattle.flow_solve.specs.levels.Phases.{IsFar}
 use Rattle.flow_solve.proofs.LevelLemmas.Bounds.{run_paid}
 use Rattle.flow_solve.proofs.LevelLemmas.Distances.{far_start}
 use Rattle.flow_solve.proofs.Raises.{settled}
-use Rattle.flow_solve.proofs.levels.phases.run_phases.Goals as goal
+use Rattle.flow_solve.proofs.levels.phases.run_until_cut.Goals as goal
 
 -- no phase yet
 pub phases-init : goal.phases-init
@@ -16,7 +16,7 @@ phases-init c = record {
   far =
       far_start c.args.task.packed.net.now c.args.task.s.now c.args.task.t.now c.args.flow.now.flows
       (terminals_apart c.args.task.packed.net.now c.args.task.s.now c.args.task.t.now c.requires.task.terminals);
-  few = omega (arith, c.nodes-n.ensures.is_net.nodes_least);
+  few = omega (arith, c.requires.task.packed.limits.nodes_least);
   never_lowered = omega arith;
   steps = omega arith;
 }
@@ -46,7 +46,7 @@ returns-clause-greatest c =
     let old = c.phases.invariant in let found = c.find_levels.ensures in
     let task = c.args.task in
     (settled task.packed.net.now task.s.now task.t.now c.phases.flow.flows (seen c.find_levels.new.dist)
-    c.phases.walks.value c.nodes-n.ensures.is_net old.flow (found.missed c.phases-test.false).whole
+    c.phases.walks.value c.requires.task.packed.limits old.flow (found.missed c.phases-test.false).whole
     (found.missed c.phases-test.false).outside).0
 
 pub returns-clause-least : goal.returns-clause-least
@@ -54,7 +54,7 @@ returns-clause-least c =
     let old = c.phases.invariant in let found = c.find_levels.ensures in
     let task = c.args.task in
     (settled task.packed.net.now task.s.now task.t.now c.phases.flow.flows (seen c.find_levels.new.dist)
-    c.phases.walks.value c.nodes-n.ensures.is_net old.flow (found.missed c.phases-test.false).whole
+    c.phases.walks.value c.requires.task.packed.limits old.flow (found.missed c.phases-test.false).whole
     (found.missed c.phases-test.false).outside).1
 
 -- fewer phases than nodes, each with its search
@@ -62,7 +62,7 @@ pub returns-clause-steps : goal.returns-clause-steps
 returns-clause-steps c =
     let old = c.phases.invariant in let found = c.find_levels.ensures in let net = c.args.task.packed.net.now in
     let paid = run_paid net.nodes (length net.arcs) (net.nodes - 1) c.phases.phases c.args.flow.now.steps
-    c.find_levels.new.flow.steps (omega (arith, old.few)) (omega (arith, c.nodes-n.ensures.is_net.nodes_least))
+    c.find_levels.new.flow.steps (omega (arith, old.few)) (omega (arith, c.requires.task.packed.limits.nodes_least))
     (omega (arith, old.few)) (omega (arith, old.steps, found.looks.steps)) in
     omega (arith, paid, old.never_lowered, found.looks.never_lowered)
 

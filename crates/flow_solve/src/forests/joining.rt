@@ -36,6 +36,8 @@ struct Search {
     place: u32,
     /// The last half-arc of the path that it has found, or [`END`].
     found: u32,
+    /// Whether half-arcs were used since it saw nodes that led nowhere.
+    is_worn: bool,
     /// How many looks and pushes are left.
     left: u64,
 }
@@ -324,6 +326,7 @@ fn begin_search(
         tail: 1,
         place: 0,
         found: END,
+        is_worn: false,
         left,
     }
 }
@@ -335,6 +338,32 @@ fn forget(ground: Ground<'_>, seen: &mut [u32], hints: &mut [u32], from: u32, ta
         unmark(seen, node);
         put(hints, place_at(ground, node), 0);
     }
+}
+
+/// Goes on with a search from its node until it has found a path. Where it finds none it begins anew if it is worn: what
+/// led nowhere may lead on over half-arcs that were used since.
+fn search_anew(
+    ground: Ground<'_>,
+    rows: &[u32],
+    done: &[u32],
+    seen: &mut [u32],
+    hints: &mut [u32],
+    flow: &mut FlowTable,
+    node: u32,
+    search: Search,
+) -> Search
+    requires fits { Fits ground.net.now flow.old.flows }
+    requires size { ground.net.now.nodes ≤ 32 * length seen.old }
+    requires node { IsNode ground.net.now node }
+    ensures looks { PaysLooks flow.old search.left flow.new result.left }
+{
+    let next = search_out(ground, rows, done, seen, hints, flow, node, search);
+    if next.found != END || !next.is_worn {
+        return next;
+    }
+    forget(ground, seen, hints, 0, next.tail);
+    let anew = begin_search(ground, seen, hints, node, next.left);
+    search_out(ground, rows, done, seen, hints, flow, node, anew)
 }
 
 /// The search once a unit has been sent along the path that it has found. What it has seen on that way it may see again
@@ -353,6 +382,7 @@ fn after_unit(
         at: search.from,
         tail: search.from,
         found: END,
+        is_worn: search.is_worn || search.from < search.tail,
         left,
         ..search
     }
@@ -465,6 +495,30 @@ fn is_closed(
     Some(left)
 }
 
+/// Tests that a search has seen its first node, and that nothing remains on the half-arcs that lead out of the nodes
+/// that are seen. Answers how many looks are left, or none if it isn't so.
+fn is_cut_off(
+    ground: Ground<'_>,
+    done: &[u32],
+    seen: &[u32],
+    flow: &mut FlowTable,
+    node: u32,
+    left: u64,
+) -> Option<u64>
+    requires limits { IsNet ground.net.now }
+    requires fits { Fits ground.net.now flow.old.flows }
+    requires node { 1 ≤ node }
+    ensures seen { IfSome result (λ _. IsTrue (seen_in done.now seen.now node)) }
+    ensures closed { IfSome result
+        (λ _. IsClosedFor ground.entry.direction ground.entry.net.now flow.old.flows (seen_in done.now seen.now)) }
+    ensures looks { MatchOption result (OnlyLooks flow.old flow.new left) (λ r. PaysLooks flow.old left flow.new r) }
+{
+    if !is_seen(done, seen, node) {
+        return None;
+    }
+    is_closed(ground, done, seen, flow, left)
+}
+
 /// Whether it is a node that the forest hasn't come to.
 fn is_apart(ground: Ground<'_>, done: &[u32], node: u32) -> bool
     ensures node { IsTrue result → IsNode ground.entry.net.now node }
@@ -504,28 +558,17 @@ pub(crate) fn raise(
         return None;
     }
     let mut search = begin_search(ground, seen, hints, node, wanted.left);
-    let mut is_worn = false;
     let mut value = 0;
     while value < wanted.value {
-        search = search_out(ground, rows, done, seen, hints, flow, node, search);
-        if search.found != END {
-            let left = send(ground, done, hints, flow, node, search.found, search.left)?;
-            is_worn |= search.from < search.tail;
-            search = after_unit(ground, seen, hints, search, left);
-            value += 1;
-        } else if is_worn {
-            // What led nowhere may lead on over half-arcs that were used since.
-            forget(ground, seen, hints, 0, search.tail);
-            search = begin_search(ground, seen, hints, node, search.left);
-            is_worn = false;
-        } else {
-            if !is_seen(done, seen, node) {
-                return None;
-            }
-            let left = is_closed(ground, done, seen, flow, search.left)?;
+        search = search_anew(ground, rows, done, seen, hints, flow, node, search);
+        if search.found == END {
+            let left = is_cut_off(ground, done, seen, flow, node, search.left)?;
             forget(ground, seen, hints, 0, search.tail);
             return Some(Budgeted { value, left });
         }
+        let left = send(ground, done, hints, flow, node, search.found, search.left)?;
+        search = after_unit(ground, seen, hints, search, left);
+        value += 1;
     }
     forget(ground, seen, hints, 0, search.tail);
     Some(Budgeted {

@@ -1,5 +1,5 @@
 -- `raise`: searches and pushes in turn, until the flow is worth what is wanted, or the nodes seen are a closed set.
-use Rattle.std.proofs.Common.{◌≡◌, ◌∙◌, ℕ, List, ap, subst, sym, true}
+use Rattle.std.proofs.Common.{◌≡◌, ◌∙◌, ℕ, List, ap, subst, true}
 use Rattle.std.proofs.lemmas.Bool.{eqb-true}
 use Rattle.flow_net.specs.NodeSets.{just}
 use Rattle.flow_net.specs.Cuts.{IsCut}
@@ -10,18 +10,18 @@ use Rattle.flow_solve.proofs.ForestLemmas.Marks.{seen_apart}
 use Rattle.flow_solve.proofs.forests.joining.raise.Goals as goal
 
 -- the seen nodes are a closed cut, so the value is the number of its arcs
-pub returns-else-is_worn-clause-least : goal.returns-else-is_worn-clause-least
-returns-else-is_worn-clause-least c =
+pub returns-then-search-clause-least : goal.returns-then-search-clause-least
+returns-then-search-clause-least c =
     let net = c.args.ground.net.now in
     let dir = c.args.ground.direction in
-    let seen = c.search_out-search.new.seen in
+    let seen = c.search_anew-search.new.seen in
     let j = c.loop-value.invariant in
     let done = marked_in c.args.done.now in
     let X = seen_in c.args.done.now seen in
     let closed : IsClosedFor dir net c.loop-value.flow.flows X =
-    subst (λ (z : List ℕ). IsClosedFor dir net z X) c.search_out-search.ensures.looks.flows
-    c.in_ok-left-2.ensures.closed in
-    let here : X c.args.node ≡ true = sym c.is_seen.ensures ∙ c.if-not-is_seen.false in
+    subst (λ (z : List ℕ). IsClosedFor dir net z X) c.search_anew-search.ensures.looks.flows
+    c.in_ok-left.ensures.closed in
+    let here : X c.args.node ≡ true = c.in_ok-left.ensures.seen in
     let cut : IsCut (just c.args.node) done X =
     record {
       sources = λ v h. ap X (eqb-true v c.args.node h) ∙ here;

@@ -1,5 +1,5 @@
--- `raise`: the flow carries what was raised, its steps are paid, and each turn raises it, or begins a worn search anew.
-use Rattle.std.proofs.Common.{◌≤◌, ◌-◌, ◌+◌, ◌*◌, if◌then◌else◌}
+-- `raise`: the flow carries what was raised, its steps are paid, and each turn raises it.
+use Rattle.std.proofs.Common.{◌≤◌, ◌-◌}
 use Rattle.flow_net.specs.Flows.{Fits}
 use Rattle.flow_solve.specs.Forests.{IsRaised, marked_in}
 use Rattle.flow_solve.specs.Steps.{PaysSteps}
@@ -14,4 +14,4 @@ invariant-loop-value l = record {
 }
 
 abbrev pub decreases-loop-value : goal.decreases-loop-value
-decreases-loop-value l = 2 * (l.wanted.value - l.value) + (if l.is_worn then 1 else 0)
+decreases-loop-value l = l.wanted.value - l.value

@@ -45,7 +45,7 @@ mod rows;
 use crate::residual::half_arcs::Direction;
 use degrees::{are_balanced, are_even, least_and_paired};
 use flow_net::{FlowTable, Network};
-use growing::{Front, begin, choice_of, grow, is_whole, next_node, reach, set_places_back};
+use growing::{Front, begin, choice_of, grow, grow_from, is_whole, next_node, set_places_back};
 use joining::{Budgeted, raise};
 use marks::unmark_all;
 use rows::{Parts, fill_rows, number_arcs, parts_of};
@@ -107,6 +107,13 @@ fn make_ready(ground: Ground<'_>, ready: bool, rows: &mut [u32], hints: &mut [u3
     ready || number_arcs(ground, rows, hints)
 }
 
+/// Whether a forest is done after `count` others: it has come to all nodes, or as many as the least number are there.
+fn is_done(nodes: u32, done: &[u32], count: u64, least: u64) -> bool
+    ensures { IsTrue result → count < least → (v : ℕ) → 1 ≤ v → v ≤ nodes → IsTrue (marked_in done.now v) }
+{
+    least <= count || is_whole(nodes, done)
+}
+
 /// Joins the nodes that a forest hasn't come to, one after the other, and lets the forest grow on from each, as long as
 /// the least number is greater than that of the forests before it. Answers the least number afterwards: if it is
 /// greater, the forest has come to all nodes, and what searches need is there. Answers nothing where looks and pushes
@@ -151,10 +158,9 @@ fn complete(
     while front.count < nodes && least.value > count {
         front = next_node(ground, rows, done, hints, front);
         least = raise(ground, rows, done, seen, hints, flow, front.node, least)?;
-        front = reach(ground, done, hints, front);
-        front = grow(ground, rows, done, hints, front, choice);
+        front = grow_from(ground, rows, done, hints, front, choice);
     }
-    if least.value > count && !is_whole(nodes, done) {
+    if !is_done(nodes, done, count, least.value) {
         return None;
     }
     Some(least)

@@ -8,7 +8,7 @@
 //! Where arcs are scarce, a forest between the first and the last goes first over an arc whose opposite none has taken,
 //! as notes in the hints tell. Else the last forest finds many arcs left in pairs, one against the other, and so comes
 //! to few nodes by itself.
-ghost use Rattle.std.specs.Prelude.{◌≡◌, ℕ, ◌+◌, ◌*◌, ◌<◌, ◌≤◌, false, IfSome, IsTrue, length};
+ghost use Rattle.std.specs.Prelude.{◌≡◌, ℕ, ◌+◌, ◌*◌, ◌<◌, ◌≤◌, false, IfSome, IsTrue, List, length};
 ghost use Rattle.flow_net.specs.Nets.{IsNode};
 ghost use Rattle.flow_solve.specs.Forests.{HasGrown, HasMarked, IsLead, IsStand, marked_in};
 
@@ -305,16 +305,25 @@ pub(crate) fn begin(ground: Ground<'_>, done: &mut [u32], hints: &mut [u32]) -> 
     come_to(ground, hints, nowhere, ground.root)
 }
 
-/// A forest that comes to a node without an arc.
-pub(crate) fn reach(ground: Ground<'_>, done: &mut [u32], hints: &mut [u32], front: Front) -> Front
-    requires size { ground.net.now.nodes ≤ 32 * length done.old }
+/// Lets a forest come to a node without an arc, and grow on from there.
+pub(crate) fn grow_from(
+    ground: Ground<'_>,
+    rows: &mut [u32],
+    done: &mut [u32],
+    hints: &mut [u32],
+    front: Front,
+    choice: Choice,
+) -> Front
+    requires stand { IsStand ground done.old }
     requires node { IsNode ground.net.now front.node }
     requires count { front.count < ground.net.now.nodes }
-    ensures reached { HasMarked front.node done.old done.new }
-    ensures count { result.count ≡ front.count + 1 }
+    ensures grown { (reached : List ℕ) × HasMarked front.node done.old reached
+        × HasGrown ground.entry rows.old reached rows.new done.new }
+    ensures count { front.count < result.count }
 {
     mark(done, front.node);
-    come_to(ground, hints, front, front.node)
+    let reached = come_to(ground, hints, front, front.node);
+    grow(ground, rows, done, hints, reached, choice)
 }
 
 /// Sets the places back from which the rows of nodes are looked at for the next node to be joined.

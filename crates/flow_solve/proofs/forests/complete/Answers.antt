@@ -9,8 +9,6 @@ use Rattle.flow_solve.proofs.ForestLemmas.Joined.{raised_below, balanced_more}
 use Rattle.flow_solve.proofs.ForestLemmas.Marks.{mark_kept}
 use Rattle.flow_solve.proofs.ForestLemmas.Taken.{facing_limits, facing_nodes, forest_joined, grove_more}
 use Rattle.flow_solve.proofs.Payments.{paid_then}
-use Rattle.flow_solve.proofs.forests.complete.Goals.{else-least-count-2-via-then-least-count-2+else-not-is_whole}
-use Rattle.flow_solve.proofs.forests.complete.Goals.{else-least-count-2-via-else-least-count-2}
 use Rattle.flow_solve.proofs.forests.complete.Goals as goal
 
 pub loop-front-init : goal.loop-front-init
@@ -48,11 +46,12 @@ loop-front-preserved c =
     let r = c.in_ok-least.ensures in
     let w = c.next_node-front.result.node in
     let old = c.loop-front.done in
-    let new = c.grow-front.new.done in
-    let g = c.grow-front.ensures.grown in
-    let joined = c.reach-front.ensures.reached in
+    let new = c.grow_from-front.new.done in
+    let reached = c.grow_from-front.ensures.grown.0 in
+    let joined = c.grow_from-front.ensures.grown.1 in
+    let g = c.grow_from-front.ensures.grown.2 in
     let here : (v : ℕ) → marked_in old v ≡ true → marked_in new v ≡ true =
-    λ v h. g.more v (mark_kept w old c.reach-front.new.done v joined h) in
+    λ v h. g.more v (mark_kept w old reached v joined h) in
     let node : marked_in new w ≡ true = g.more w joined.here in
     record {
       fits = r.fits;
@@ -64,7 +63,7 @@ loop-front-preserved c =
       forest =
           g.forest c.in_ok-least.least.value c.args.count
           (forest_joined ground c.in_ok-least.least.value c.loop-front.least.value c.args.count w c.loop-front.rows old
-          c.reach-front.new.done j.stand.limits joined
+          reached j.stand.limits joined
           (raised_below ground.direction net w (marked_in old) c.raise.new.flow.flows c.in_ok-least.least.value
           j.stand.limits c.requires.unit r.raised) r.least.fewer j.forest);
       paid = paid_then _ _ _ _ _ _ j.paid r.paid;
@@ -74,10 +73,6 @@ pub returns-clause-grove : goal.returns-clause-grove
 returns-clause-grove c =
     grove_more _ _ _ _ c.loop-front.least.value c.args.count c.loop-front.rows
     (facing_limits c.args.ground.direction c.args.ground.net.now c.loop-front.invariant.stand.limits) c.loop-front.done
-    (λ more. elim c.else-least-count-2.branch [
-      | else-least-count-2-via-then-least-count-2+else-not-is_whole w ↦
-          λ v l m. w.is_whole.ensures w.if-not-is_whole.false v l
-          (omega (arith, m, facing_nodes c.args.ground.direction c.args.ground.net.now))
-      | else-least-count-2-via-else-least-count-2 w ↦ absurd (omega (arith, more, w.if-least-count-2.false))
-    ])
+    (λ more v l m. c.is_done.ensures c.if-not-is_done.false more v l
+    (omega (arith, m, facing_nodes c.args.ground.direction c.args.ground.net.now)))
     c.loop-front.invariant.forest

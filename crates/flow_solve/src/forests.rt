@@ -26,7 +26,8 @@
 //! | `n` | marks of the nodes that the forest has come to, and of those that a search has seen, as [`marks`] says |
 //! | `n + 1` | where the row of each node begins |
 //! | `m + 4·n + 1` | hints: what searches look at, as [`rows`] says, and four numbers for each node |
-ghost use Rattle.std.specs.Prelude.{◌≡◌, ℕ, ◌+◌, ◌*◌, ◌≤◌, ◌<◌, ◌-◌, IfSome, IsTrue, true, if◌then◌else◌, List, length};
+ghost use Rattle.std.specs.Prelude.{◌≡◌, ℕ, ◌+◌, ◌*◌, ◌≤◌, ◌<◌, ◌-◌, IfSome, IsTrue, true, false, if◌then◌else◌};
+ghost use Rattle.std.specs.Prelude.{List, length};
 ghost use Rattle.std.specs.List.{All};
 ghost use Rattle.flow_net.specs.Nets.{IsNode};
 ghost use Rattle.flow_net.specs.Flows.{Fits};
@@ -178,6 +179,63 @@ fn forests_for(least: u64, is_even: bool) -> u64
     }
 }
 
+/// The cells in parts: marks of nodes, where the row of each node begins, and hints.
+fn parted<'a>(net: &Network, cells: &'a mut [u32]) -> (&'a mut [u32], &'a mut [u32], &'a mut [u32])
+    requires { 6 * net.now.nodes + length net.now.arcs + 2 ≤ length cells.old }
+    ensures marks { length result.0.now ≡ net.now.nodes }
+    ensures first { length result.1.now ≡ net.now.nodes + 1 }
+    ensures hints { length result.2.now ≡ length net.now.arcs + 4 * net.now.nodes + 1 }
+{
+    let nodes = net.nodes() as usize;
+    let (marks, rest) = cells.split_at_mut(nodes);
+    let (first, rest) = rest.split_at_mut(nodes + 1);
+    let (hints, _spare) = rest.split_at_mut(net.len() as usize + 4 * nodes + 1);
+    (marks, first, hints)
+}
+
+/// Lets as many forests grow as there have to be, where the rows tell of all arcs. Knows and answers what [`run_pass`]
+/// does.
+fn grow_forests(
+    ground: Ground<'_>,
+    rows: &mut [u32],
+    done: &mut [u32],
+    seen: &mut [u32],
+    hints: &mut [u32],
+    flow: &mut FlowTable,
+    is_even: bool,
+    known: Budgeted,
+) -> Option<Budgeted>
+    requires fits { Fits ground.net.now flow.old.flows }
+    requires unit { All (λ a. a.cap ≡ 1) ground.net.now.arcs }
+    requires stand { IsStand ground done.old }
+    requires size { ground.net.now.nodes ≤ 32 * length seen.old }
+    requires rows { length rows.old ≡ length ground.net.now.arcs }
+    requires hints { length hints.old ≡ length ground.net.now.arcs + 4 * ground.net.now.nodes + 1 }
+    requires even { IsTrue is_even → IsEulerian ground.net.now }
+    requires reached { IsReached ground.net.now known.value }
+    requires grove { IsGrove (at_stage ground false) known.value 0 rows.old }
+    ensures fits { Fits ground.entry.net.now flow.new.flows }
+    ensures above { IfSome result (λ r. AreAbove ground.entry r.value) }
+    ensures least { IfSome result (λ r. HasFallen ground.entry.net.now known.value r.value) }
+    ensures paid { PaysIfAny flow.old known.left flow.new result }
+{
+    let nodes = ground.net.nodes();
+    let mut ready = false;
+    let mut least = known;
+    let mut count = 0;
+    while count < forests_for(least.value, is_even) {
+        let front = begin_forest(ground, ready, rows, done, hints, count, least.value);
+        if !is_whole(nodes, done) {
+            least = complete(
+                ground, ready, rows, done, seen, hints, flow, count, front, least,
+            )?;
+            ready = true;
+        }
+        count += 1;
+    }
+    Some(least)
+}
+
 /// Lets as many forests grow as there have to be. Backwards the first cells tell how many arcs leave each node. `known`
 /// holds the least number so far and how many looks and pushes are left; the answer is the same afterwards, or nothing
 /// where they are used up or a test fails.
@@ -202,30 +260,15 @@ fn run_pass(
     ensures least { IfSome result (λ r. HasFallen ground.entry.net.now known.value r.value) }
     ensures paid { PaysIfAny flow.old known.left flow.new result }
 {
-    let nodes = ground.net.nodes();
-    let (marks, cells) = cells.split_at_mut(nodes as usize);
-    let (first, cells) = cells.split_at_mut(nodes as usize + 1);
-    let (hints, _spare) = cells.split_at_mut(ground.net.len() as usize + 4 * nodes as usize + 1);
+    let (marks, first, hints) = parted(ground.net, cells);
     if !fill_rows(ground, marks, first, rows, hints) {
         return None;
     }
-    let (done, seen) = marks.split_at_mut(nodes as usize / 2);
+    let half = marks.len() / 2;
+    let (done, seen) = marks.split_at_mut(half);
     unmark_all(seen);
     let ground = Ground { first, ..ground };
-    let mut ready = false;
-    let mut least = known;
-    let mut count = 0;
-    while count < forests_for(least.value, is_even) {
-        let front = begin_forest(ground, ready, rows, done, hints, count, least.value);
-        if !is_whole(nodes, done) {
-            least = complete(
-                ground, ready, rows, done, seen, hints, flow, count, front, least,
-            )?;
-            ready = true;
-        }
-        count += 1;
-    }
-    Some(least)
+    grow_forests(ground, rows, done, seen, hints, flow, is_even, known)
 }
 
 /// A node that has the most arcs, by the numbers of those that leave each and of those that enter each.

@@ -1,9 +1,9 @@
--- `run_pass`: so many forests are done, and the steps are paid.
+-- `grow_forests`: so many forests are done, and the steps are paid.
 use Rattle.std.proofs.Common.{◌≡◌, ◌+◌, ◌-◌, ◌*◌, length}
 use Rattle.flow_net.specs.Flows.{Fits}
 use Rattle.flow_solve.specs.Forests.{HasFallen, IsGrove, IsStand, at_stage}
 use Rattle.flow_solve.specs.Steps.{PaysSteps}
-use Rattle.flow_solve.proofs.forests.run_pass.Given as goal
+use Rattle.flow_solve.proofs.forests.grow_forests.Given as goal
 
 abbrev pub invariant-loop-count : goal.invariant-loop-count
 invariant-loop-count l = record {

@@ -298,9 +298,14 @@ fn has_more_arcs(net: &Network, least: u64) -> bool {
 /// it costs to pass over longer rows.
 const MOST_FRESH: u64 = 8;
 
-/// Whether few forests need nearly all arcs where each node has so many or more.
-fn needs_all_arcs(net: &Network, least: u64) -> bool {
-    least <= MOST_FRESH && !has_more_arcs(net, least)
+/// Whether arcs are scarce, where they can be: few forests need nearly all if each node has so many or more.
+fn are_scarce(net: &Network, least: u64, can_be: bool) -> bool {
+    can_be && least <= MOST_FRESH && !has_more_arcs(net, least)
+}
+
+/// Whether nodes have so many arcs that forests go on in a row one behind the other.
+fn is_dense(net: &Network) -> bool {
+    has_more_arcs(net, u64::from(net.nodes()).isqrt())
 }
 
 /// The edge connectivity of a network in which every capacity is 1. It takes at most `budget` looks and pushes, and
@@ -332,7 +337,7 @@ pub fn connectivity_by_forests(
     }
     let is_balanced = are_balanced(net, cells);
     let is_even = are_even(net, cells, paired, is_balanced);
-    let dense = has_more_arcs(net, u64::from(net.nodes()).isqrt());
+    let dense = is_dense(net);
     let mut ground = Ground {
         net,
         root: hub(net, cells),
@@ -342,7 +347,7 @@ pub fn connectivity_by_forests(
         paired,
         numbered: false,
         dense,
-        scarce: (paired & !dense & !is_even) && needs_all_arcs(net, least),
+        scarce: are_scarce(net, least, paired & !dense & !is_even),
     };
     let start = Budgeted {
         value: least,

@@ -1,5 +1,5 @@
 -- Near sends: the half-arcs that they begin and end with.
-use Rattle.std.specs.Prelude.{◌≡◌, ◌≢◌, ℕ, ◌+◌, ◌*◌, ◌<◌, ◌≤◌, IsTrue, List, length, slice_index}
+use Rattle.std.specs.Prelude.{◌≡◌, ◌≢◌, ℕ, ◌+◌, ◌-◌, ◌*◌, ◌<◌, ◌≤◌, IsTrue, List, length, slice_index}
 use Rattle.flow_net.specs.Nets.{Net}
 use Rattle.flow_net.specs.NodeSets.{one_of}
 use Rattle.flow_net.specs.Residual.{Table, tail_of, head_of, residual}
@@ -26,6 +26,13 @@ pub record AreLast (net : Net) (t last : List ℕ) : Type 0 where
   pub size : length last ≡ net.nodes
   pub ends : (p : ℕ) → p < net.nodes → slice_index last p < 2 * length net.arcs
       → LeadsToSink net t (p + 1) (slice_index last p)
+
+-- A half-arc leads on from another one to another node, and this one's last half-arc is one of the network.
+pub record LeadsOn (net : Net) (cells : List ℕ) (first between end : ℕ) : Type 0 where
+  pub on : tail_of net between ≡ head_of net first
+  pub apart : tail_of net between ≢ head_of net between
+  pub last : end ≡ slice_index cells (head_of net between - 1)
+  pub within : end < 2 * length net.arcs
 
 -- a task, a flow of some value, and last half-arcs
 pub record IsSending (table : Table) (sending : Sending) : Type 0 where

@@ -4,7 +4,8 @@
 //! At each node next to a sink stands its *last half-arc*, one that leads there, until it is filled. The half-arcs of
 //! the sources are gone over one by one: what remains on one is sent on over the last half-arc of its node, and then
 //! along the arcs to nodes that have one, until nothing of it is left.
-ghost use Rattle.std.specs.Prelude.{◌≡◌, ◌≢◌, ℕ, ◌+◌, ◌-◌, ◌*◌, ◌/◌, ◌<◌, ◌≤◌, IsTrue, length, slice_index};
+ghost use Rattle.std.specs.Prelude.{◌≡◌, ◌≢◌, ℕ, ◌+◌, ◌-◌, ◌*◌, ◌/◌, ◌<◌, ◌≤◌, IfSome, IsTrue, length};
+ghost use Rattle.std.specs.Prelude.{slice_index};
 ghost use Rattle.std.specs.List.{All};
 ghost use Rattle.flow_net.specs.Nets.{IsNode};
 ghost use Rattle.flow_net.specs.NodeSets.{one_of};
@@ -14,7 +15,7 @@ ghost use Rattle.flow_solve.specs.levels.Entries.{HasRows, IsOpening};
 ghost use Rattle.flow_solve.specs.Task.{HasFlow, KeepsFlow};
 ghost use Rattle.flow_solve.specs.Steps.{OnlyLooks, TakesSteps};
 ghost use Rattle.flow_solve.specs.levels.Carrying.{IsCarried};
-ghost use Rattle.flow_solve.specs.levels.NearSends.{AreLast, IsFirst, IsSending, IsSent, KeepsSending};
+ghost use Rattle.flow_solve.specs.levels.NearSends.{AreLast, IsFirst, IsSending, IsSent, KeepsSending, LeadsOn};
 
 use crate::levels::entries::{against_in, along_in};
 use crate::levels::rows::{entry_at, row_of};
@@ -168,6 +169,34 @@ fn are_apart(first: u32, between: u32, end: u32) -> bool
     first / 2 != between / 2 && between / 2 != end / 2 && first / 2 != end / 2
 }
 
+/// The last half-arc of the node that an arc leads to, where there is one and the arc leads on from a source's half-arc
+/// to another node.
+#[inline(always)]
+fn last_behind(sending: &Sending<'_, '_>, first: u32, between: u32) -> Option<u32>
+    requires task { IsOpening sending.now.task }
+    requires last { length sending.now.last.now ≡ sending.now.task.packed.net.now.nodes }
+    requires first { first < 2 * length sending.now.task.packed.net.now.arcs }
+    requires between { between < 2 * length sending.now.task.packed.net.now.arcs }
+    ensures { let net = sending.now.task.packed.net.now in
+        IfSome result (λ end. LeadsOn net sending.now.last.now first between end) }
+{
+    let net = sending.task.packed.net;
+    // Against an arc something remains only where it was just sent, and to read its end would be one more far read.
+    if between % 2 == 1 {
+        return None;
+    }
+    let node = head(net, between);
+    let end = sending.last[node as usize - 1];
+    if end as usize >= sending.task.packed.halves.len() {
+        return None;
+    }
+    let here = head(net, first);
+    if tail(net, between) != here || here == node {
+        return None;
+    }
+    Some(end)
+}
+
 /// Sends on along an arc and then over the last half-arc of the node that it leads to, at most so much, what comes over
 /// a source's half-arc to the node that it leaves. Answers how much that is.
 fn send_over_two(
@@ -184,31 +213,19 @@ fn send_over_two(
     ensures kept { KeepsSending flow.old sending.old (sending.old.left + 1) flow.new sending.new }
     ensures sent { IsSent sending.old.task.packed.net.now most result flow.new.flows first }
 {
-    let packed = sending.task.packed;
-    // Against an arc something remains only where it was just sent, and to read its end would be one more far read.
-    if between % 2 == 1 {
+    let net = sending.task.packed.net;
+    let Some(end) = last_behind(sending, first, between) else {
+        return 0;
+    };
+    let (_, room) = flow.look(net, between);
+    if room == 0 || !are_apart(first, between, end) || !spend(&mut sending.left, 4) {
         return 0;
     }
-    let node = head(packed.net, between);
-    let end = sending.last[node as usize - 1];
-    if end as usize >= packed.halves.len() {
-        return 0;
-    }
-    let here = head(packed.net, first);
-    if tail(packed.net, between) != here || here == node {
-        return 0;
-    }
-    let (_, room) = flow.look(packed.net, between);
-    if room == 0 || !are_apart(first, between, end) {
-        return 0;
-    }
-    if !spend(&mut sending.left, 4) {
-        return 0;
-    }
+    let node = head(net, between);
     let amount = fit_last(sending.task, flow, sending.last, node, room.min(most));
-    carry(packed.net, flow, first, amount);
-    carry(packed.net, flow, between, amount);
-    carry(packed.net, flow, end, amount);
+    carry(net, flow, first, amount);
+    carry(net, flow, between, amount);
+    carry(net, flow, end, amount);
     sending.value += u128::from(amount);
     amount
 }

@@ -146,18 +146,18 @@ fn send_over_one(flow: &mut FlowTable, sending: &mut Sending<'_, '_>, first: u32
     ensures kept { KeepsSending flow.old sending.old sending.old.left flow.new sending.new }
     ensures sent { IsSent sending.old.task.packed.net.now most result flow.new.flows first }
 {
-    let packed = sending.task.packed;
-    let node = head(packed.net, first);
+    let net = sending.task.packed.net;
+    let node = head(net, first);
     let end = sending.last[node as usize - 1];
-    if end as usize >= packed.halves.len() || first / 2 == end / 2 {
-        return 0;
-    }
-    if !spend(&mut sending.left, 3) {
+    if end as usize >= sending.task.packed.halves.len()
+        || first / 2 == end / 2
+        || !spend(&mut sending.left, 3)
+    {
         return 0;
     }
     let amount = fit_last(sending.task, flow, sending.last, node, most);
-    carry(packed.net, flow, first, amount);
-    carry(packed.net, flow, end, amount);
+    carry(net, flow, first, amount);
+    carry(net, flow, end, amount);
     sending.value += u128::from(amount);
     amount
 }

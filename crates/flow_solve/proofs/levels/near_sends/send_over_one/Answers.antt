@@ -1,11 +1,16 @@
 -- `send_over_one`: the amount goes over the first half-arc and the last one of its node.
-use Rattle.std.proofs.Common.{◌≡◌, ℕ, ◌+◌, ◌-◌, le_refl, refl, sym, subst, arith, rules}
+use Rattle.std.proofs.Common.{◌≡◌, ℕ, ◌+◌, ◌-◌, ◌≤◌, le_refl, refl, sym, subst, arith, rules}
 use Rattle.std.specs.Prelude.{slice_index}
 use Rattle.flow_net.specs.Residual.{tail_of, head_of}
 use Rattle.flow_solve.specs.Task.{HasFlow}
 use Rattle.flow_solve.specs.levels.Carrying.{IsCarried}
 use Rattle.flow_solve.proofs.LevelLemmas.Carried.{flow_has_room, flow_same}
 use Rattle.flow_solve.proofs.LevelLemmas.NearSends.{keeps_still, sent_over_one}
+use Rattle.flow_solve.proofs.levels.near_sends.send_over_one.Goals.{
+  then-end-sending-via-then-end-sending,
+  then-end-sending-via-else-end-sending+then-first-end,
+  then-end-sending-via-else-end-sending+else-first-end+then-not-spend,
+}
 use Rattle.flow_solve.proofs.levels.near_sends.send_over_one.Goals as goal
 
 pub overflow_add-sending : goal.overflow_add-sending
@@ -13,14 +18,16 @@ overflow_add-sending c =
     let sending = c.requires.sending in
     omega (arith, flow_has_room sending.task.rows.limits sending.task.terminals sending.flow, c.from.ensures)
 
-pub returns-then-end-packed-clause-kept : goal.returns-then-end-packed-clause-kept
-returns-then-end-packed-clause-kept c =
-    keeps_still c.args.sending.now.left c.args.sending.now.left c.requires.sending (le_refl _) (le_refl _)
-
-pub returns-then-not-spend-clause-kept : goal.returns-then-not-spend-clause-kept
-returns-then-not-spend-clause-kept c =
-    keeps_still c.spend.new.left c.args.sending.now.left c.requires.sending
-    (omega (arith, c.if-not-spend.ensures.none refl)) (le_refl _)
+pub returns-then-end-sending-clause-kept : goal.returns-then-end-sending-clause-kept
+returns-then-end-sending-clause-kept c =
+    let still = λ (left : ℕ) (less : left ≤ c.args.sending.now.left).
+    keeps_still left c.args.sending.now.left c.requires.sending less (le_refl _) in
+    elim c.then-end-sending.branch [
+      | then-end-sending-via-then-end-sending w ↦ rw w.sending-is (still _ (le_refl _))
+      | then-end-sending-via-else-end-sending+then-first-end w ↦ rw w.sending-is (still _ (le_refl _))
+      | then-end-sending-via-else-end-sending+else-first-end+then-not-spend w ↦
+          rw w.sending-is (still w.spend.new.left (omega (arith, w.if-not-spend.ensures.none refl)))
+    ]
 
 pub returns-clause-kept : goal.returns-clause-kept
 returns-clause-kept c =

@@ -61,17 +61,6 @@ keeps_looking {old = old} left s e k l = record {
   left = l;
 }
 
--- sends after a look
-pub keeps_looked : {before between after : Table} {old new : Sending} (left : ℕ) → between.steps ≡ before.steps + 1
-    → KeepsSending between old old.left after new → left ≤ new.left
-    → KeepsSending before old (old.left + 1) after (record new { left = left })
-keeps_looked left k s l = let paid = s.paid in record {
-  sending = record { task = s.sending.task; flow = s.sending.flow; last = s.sending.last };
-  stays = record { task = s.stays.task; last = s.stays.last };
-  paid = record { never_lowered = omega arith; left = omega arith; steps = omega arith };
-  left = omega (arith, s.left);
-}
-
 -- steps are paid, and fewer may be taken ahead
 pub pays_less : {before after : Table} {given left : ℕ} (ahead : ℕ) → PaysSteps before given after (left + ahead)
     → PaysSteps before given after left

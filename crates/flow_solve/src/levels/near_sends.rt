@@ -230,26 +230,27 @@ fn send_over_two(
     amount
 }
 
-/// Sends what remains on a source's half-arc over one node and over two.
-fn send_over(flow: &mut FlowTable, sending: &mut Sending<'_, '_>, first: u32)
+/// Sends on along the arcs from a node, over one more node each, what comes there over a source's half-arc.
+#[inline(always)]
+fn send_behind(
+    flow: &mut FlowTable,
+    sending: &mut Sending<'_, '_>,
+    first: u32,
+    node: u32,
+    room: u64,
+)
     requires sending { IsSending flow.old sending.old }
     requires first { IsFirst sending.old.task first }
-    ensures { KeepsSending flow.old sending.old (sending.old.left + 1) flow.new sending.new }
+    requires node { IsNode sending.old.task.packed.net.now node }
+    requires room { room ≤ residual sending.old.task.packed.net.now flow.old.flows first }
+    ensures { KeepsSending flow.old sending.old sending.old.left flow.new sending.new }
 {
     let packed = sending.task.packed;
-    let (_, mut room) = flow.look(packed.net, first);
-    let node = head(packed.net, first);
-    if room == 0 || sending.last[node as usize - 1] == BARRED {
-        return;
-    }
-    room -= send_over_one(flow, sending, first, room);
-    if room == 0 {
-        return;
-    }
     let (begin, end) = row_of(packed, node);
     if !spend(&mut sending.left, u64::from(end - begin)) {
         return;
     }
+    let mut room = room;
     for spot in begin..end {
         let between = along_in(entry_at(packed, node, spot));
         let sent = send_over_two(flow, sending, first, between, room);
@@ -257,6 +258,24 @@ fn send_over(flow: &mut FlowTable, sending: &mut Sending<'_, '_>, first: u32)
         if room == 0 {
             return;
         }
+    }
+}
+
+/// Sends what remains on a source's half-arc over one node and over two.
+fn send_over(flow: &mut FlowTable, sending: &mut Sending<'_, '_>, first: u32)
+    requires sending { IsSending flow.old sending.old }
+    requires first { IsFirst sending.old.task first }
+    ensures { KeepsSending flow.old sending.old (sending.old.left + 1) flow.new sending.new }
+{
+    let net = sending.task.packed.net;
+    let (_, room) = flow.look(net, first);
+    let node = head(net, first);
+    if room == 0 || sending.last[node as usize - 1] == BARRED {
+        return;
+    }
+    let rest = room - send_over_one(flow, sending, first, room);
+    if rest > 0 {
+        send_behind(flow, sending, first, node, rest);
     }
 }
 

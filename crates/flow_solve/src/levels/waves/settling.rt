@@ -7,6 +7,7 @@ ghost use Rattle.std.specs.Prelude.{◌≡◌, ◌≢◌, ℕ, ◌+◌, ◌-◌,
 ghost use Rattle.std.specs.Prelude.{true, false, IfSome, length, slice_index};
 ghost use Rattle.std.specs.List.{All};
 ghost use Rattle.flow_net.specs.declared.limits.TheConstants.{MOST_NODES};
+ghost use Rattle.flow_net.specs.Limits.{AreTerminals};
 ghost use Rattle.flow_net.specs.NodeSets.{one_of};
 ghost use Rattle.flow_net.specs.Flows.{Fits};
 ghost use Rattle.flow_solve.specs.levels.Settling.{pair_at, HasRoles, HasSums};
@@ -153,6 +154,39 @@ fn are_even(roles: &[u32], balances: &[u32]) -> bool
     true
 }
 
+/// The roles of all nodes.
+fn cast_all(task: Task<'_>, roles: &mut [u32])
+    requires terminals { AreTerminals task.packed.net.now task.s.now task.t.now }
+    requires size { length roles.old ≡ task.packed.net.now.nodes }
+    ensures { HasRoles task.entry roles.new }
+{
+    roles.fill(INNER);
+    cast(roles, task.s, SOURCE);
+    cast(roles, task.t, SINK);
+}
+
+/// The value of the flow in a table, if it is feasible and nothing is on self-loops: with even balances to begin with.
+fn settled_value(
+    task: Task<'_>,
+    flow: &mut FlowTable,
+    roles: &[u32],
+    balances: &mut [u32],
+) -> Option<u128>
+    requires task { IsTask task }
+    requires fits { Fits task.packed.net.now flow.old.flows }
+    requires roles { HasRoles task roles.now }
+    requires sums { HasSums task flow.old.flows balances.old 0 0 0 }
+    ensures flow { IfSome result (HasFlow task.entry flow.new.flows) }
+    ensures looks { OnlyLooks flow.old flow.new (length task.entry.packed.net.now.arcs) }
+{
+    let (out, inward) = tally(task, flow, roles, balances)?;
+    if are_even(roles, balances) {
+        out.checked_sub(inward)
+    } else {
+        None
+    }
+}
+
 /// The value of the flow in a table, if it is feasible and nothing is on self-loops. One look at each arc, and `3·n`
 /// cells.
 pub(crate) fn settle(task: Task<'_>, flow: &mut FlowTable, cells: &mut [u32]) -> Option<u128>
@@ -166,13 +200,6 @@ pub(crate) fn settle(task: Task<'_>, flow: &mut FlowTable, cells: &mut [u32]) ->
     let (balances, rest) = cells.split_at_mut(2 * n);
     let (roles, _) = rest.split_at_mut(n);
     balances.fill(HALF);
-    roles.fill(INNER);
-    cast(roles, task.s, SOURCE);
-    cast(roles, task.t, SINK);
-    let (out, inward) = tally(task, flow, roles, balances)?;
-    if are_even(roles, balances) {
-        out.checked_sub(inward)
-    } else {
-        None
-    }
+    cast_all(task, roles);
+    settled_value(task, flow, roles, balances)
 }

@@ -147,6 +147,33 @@ fn at_rest<'a>(cells: &'a mut [u32], nodes: u32, allowance: u64) -> Wave<'a>
     }
 }
 
+/// Sends waves from the sources towards the sinks, in so many steps at most.
+fn send_there(task: Task<'_>, flow: &mut FlowTable, cells: &mut [u32], share: u64)
+    requires task { IsTask task }
+    requires cells { length cells.old ≡ 5 * task.packed.net.now.nodes }
+    requires fits { Fits task.packed.net.now flow.old.flows }
+    ensures fits { Fits task.entry.packed.net.now flow.new.flows }
+    ensures steps { TakesSteps flow.old flow.new share }
+{
+    let mut wave = at_rest(cells, task.packed.net.nodes(), share);
+    supply(task, flow, &mut wave);
+    send(task, flow, &mut wave);
+}
+
+/// Sends waves home to the sources with the excess that they left, in so many steps at most: the same way with sources
+/// and sinks exchanged.
+fn send_home(task: Task<'_>, flow: &mut FlowTable, cells: &mut [u32], share: u64)
+    requires task { IsTask task }
+    requires cells { length cells.old ≡ 5 * task.packed.net.now.nodes }
+    requires fits { Fits task.packed.net.now flow.old.flows }
+    ensures fits { Fits task.entry.packed.net.now flow.new.flows }
+    ensures steps { TakesSteps flow.old flow.new share }
+{
+    let Task { packed, s, t } = task;
+    let mut wave = at_rest(cells, packed.net.nodes(), share);
+    send(Task { packed, s: t, t: s }, flow, &mut wave);
+}
+
 /// Sends waves from a flow of some value on, and settles what they leave. Answers the flow's value: 0, with the table
 /// cleared, where something couldn't be brought home.
 pub fn send_waves(task: Task<'_>, flow: &mut FlowTable, cells: &mut [u32], begun: Sent) -> u128
@@ -156,18 +183,13 @@ pub fn send_waves(task: Task<'_>, flow: &mut FlowTable, cells: &mut [u32], begun
     ensures flow { HasFlow task.entry flow.new.flows result }
     ensures steps { TakesSteps flow.old flow.new begun.left }
 {
-    let Task { packed, s, t } = task;
-    let looks = u64::from(packed.net.len());
+    let looks = u64::from(task.packed.net.len());
     if begun.left <= looks {
         return begun.value;
     }
     let share = (begun.left - looks) / 2;
-    let mut there = at_rest(cells, packed.net.nodes(), share);
-    supply(task, flow, &mut there);
-    send(task, flow, &mut there);
-    let mut home = at_rest(cells, packed.net.nodes(), share);
-    // Home is the same way with sources and sinks exchanged.
-    send(Task { packed, s: t, t: s }, flow, &mut home);
+    send_there(task, flow, cells, share);
+    send_home(task, flow, cells, share);
     let Some(settled) = settle(task, flow, cells) else {
         flow.clear();
         return 0;

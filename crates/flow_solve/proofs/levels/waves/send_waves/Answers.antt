@@ -9,7 +9,7 @@ pub returns-in_default-clause-flow : goal.returns-in_default-clause-flow
 returns-in_default-clause-flow c =
     let task = c.args.task in let net = task.packed.net.now in
     let count : length c.settle.new.flow.flows ≡ length net.arcs =
-    ap length c.settle.ensures.looks.flows ∙ c.send-2.ensures.sent.fits.count in
+    ap length c.settle.ensures.looks.flows ∙ c.send_home.ensures.fits.count in
     let zeros : c.clear.new.self.flows ≡ replicate (length net.arcs) 0 =
     c.clear.ensures.flows ∙ ap (λ n. replicate n 0) count in
     subst (λ (xs : List ℕ). HasFlow task xs 0) (sym zeros) (zero_flow net task.s.now task.t.now)

@@ -122,8 +122,24 @@ fn lift(packed: Packed<'_>, flow: &mut FlowTable, wave: &mut Wave<'_>, sender: &
     sender.level = if least < most { least + 1 } else { UNSEEN };
 }
 
-/// Sends a node's excess on, and lifts the node as often as it is stuck, until it has none, takes no part any more, or
-/// the wave ends.
+/// Sends a sender's excess on, and lifts it as often as it is stuck, until it has none, takes no part any more, or the
+/// wave ends.
+#[inline(always)]
+fn send_on(packed: Packed<'_>, flow: &mut FlowTable, wave: &mut Wave<'_>, sender: &mut Sender<'_>)
+    requires waving { IsWaving packed flow.old wave.old }
+    requires row { IsRow packed.net.now sender.old.row }
+    ensures sent { HasSent packed.entry flow.old wave.old flow.new wave.new }
+{
+    'turns: while sender.level < UNSEEN && wave.left > wave.floor && spend(&mut wave.left, 1) {
+        pass(packed, flow, wave, sender);
+        if sender.amount == 0 {
+            break;
+        }
+        lift(packed, flow, wave, sender);
+    }
+}
+
+/// Discharges a node, as far as it goes.
 #[inline(never)]
 pub(super) fn discharge(packed: Packed<'_>, flow: &mut FlowTable, wave: &mut Wave<'_>, node: u32)
     requires waving { IsWaving packed flow.old wave.old }
@@ -139,13 +155,7 @@ pub(super) fn discharge(packed: Packed<'_>, flow: &mut FlowTable, wave: &mut Wav
         passed: wave.place(node).wrapping_shl(shift),
         amount: wave.excess(node),
     };
-    'turns: while sender.level < UNSEEN && wave.left > wave.floor && spend(&mut wave.left, 1) {
-        pass(packed, flow, wave, &mut sender);
-        if sender.amount == 0 {
-            break;
-        }
-        lift(packed, flow, wave, &mut sender);
-    }
+    send_on(packed, flow, wave, &mut sender);
     wave.set_level(node, sender.level, sender.passed.wrapping_shr(shift));
     wave.set_excess(node, sender.amount);
 }

@@ -1,6 +1,6 @@
--- `discharge`: what was sent and looked at is paid, and each turn takes something off what may still be done.
+-- `send_on`: what was sent and looked at is paid, and each turn takes something off what may still be done.
 use Rattle.flow_solve.specs.levels.Waves.{HasSent, IsRow, IsWaving}
-use Rattle.flow_solve.proofs.levels.waves.discharging.discharge.Given as goal
+use Rattle.flow_solve.proofs.levels.waves.discharging.send_on.Given as goal
 
 abbrev pub invariant-turns : goal.invariant-turns
 invariant-turns l = record {

@@ -1,6 +1,7 @@
 //! The search that gives the nodes their levels: backwards from the roots, no farther than excess may be lifted.
 ghost use Rattle.std.specs.Prelude.{◌≡◌, ◌+◌, ◌*◌, ◌<◌, ◌≤◌, true, length};
 ghost use Rattle.std.specs.List.{All};
+ghost use Rattle.flow_net.specs.Limits.{IsNet};
 ghost use Rattle.flow_net.specs.Nets.{IsNode};
 ghost use Rattle.flow_net.specs.Flows.{Fits};
 ghost use Rattle.flow_solve.specs.Steps.{PaysLooks};
@@ -114,6 +115,47 @@ fn list_all(wave: &mut Wave<'_>)
     }
 }
 
+/// Begins to look out for nodes with excess. Answers whether there are any that the searches before didn't find lost.
+fn looks_out(wave: &mut Wave<'_>) -> bool
+    requires { length wave.old.cells.now ≡ 5 * wave.old.nodes }
+    ensures { OnlyMarks wave.old wave.new }
+{
+    wave.queued = 0;
+    wave.farthest = 0;
+    wave.wanted = count_excess(wave).saturating_sub(wave.lost);
+    wave.wanted > 0
+}
+
+/// Forgets the last search: all nodes are unseen, and none is on a list.
+fn forget(cells: &mut [u32], nodes: u32)
+    requires { length cells.old ≡ 5 * nodes }
+{
+    let n = nodes as usize;
+    cells[..n].fill(UNSEEN);
+    cells[2 * n..3 * n].fill(0);
+}
+
+/// Puts the roots in the queue.
+fn enter_all(wave: &mut Wave<'_>, roots: &[u32])
+    requires roots { All (λ v. 1 ≤ v) roots.now }
+    ensures { OnlyMarks wave.old wave.new }
+{
+    for node in roots {
+        wave.enter(*node, 0);
+    }
+}
+
+/// Sets how far the next wave goes: up to which level it lifts, and how much it may do. Its nodes pass their half-arcs
+/// the other way.
+fn set_out(net: &Network, wave: &mut Wave<'_>)
+    requires { IsNet net.now }
+    ensures { OnlyMarks wave.old wave.new }
+{
+    wave.ceiling = wave.highest().min(net.nodes() - 1);
+    wave.floor = wave.left.saturating_sub(FUEL * u64::from(net.len()));
+    wave.turn ^= 1;
+}
+
 /// Searches backwards from the sinks of a task, the roots at level 0, its sources barred, and lists the nodes with
 /// excess by their levels. Answers whether there are any.
 #[inline(never)]
@@ -124,28 +166,15 @@ pub(super) fn search_levels(task: Task<'_>, flow: &mut FlowTable, wave: &mut Wav
     ensures looked { HasLookedOut flow.old wave.old flow.new wave.new }
     ensures spent { result ≡ true → wave.new.left < wave.old.left }
 {
-    let packed = task.packed;
-    let nodes = packed.net.nodes();
-    let n = nodes as usize;
-    if !spend(&mut wave.left, u64::from(nodes)) {
+    let net = task.packed.net;
+    if !spend(&mut wave.left, u64::from(net.nodes())) || !looks_out(wave) {
         return false;
     }
-    wave.queued = 0;
-    wave.farthest = 0;
-    wave.wanted = count_excess(wave).saturating_sub(wave.lost);
-    if wave.wanted == 0 {
-        return false;
-    }
-    wave.cells[..n].fill(UNSEEN);
-    wave.cells[2 * n..3 * n].fill(0);
+    forget(wave.cells, net.nodes());
     wave.set_levels(task.s, BARRED);
-    for node in task.t {
-        wave.enter(*node, 0);
-    }
-    scan_all(packed, flow, wave);
+    enter_all(wave, task.t);
+    scan_all(task.packed, flow, wave);
     list_all(wave);
-    wave.ceiling = wave.highest().min(nodes - 1);
-    wave.floor = wave.left.saturating_sub(FUEL * u64::from(packed.net.len()));
-    wave.turn ^= 1;
+    set_out(net, wave);
     wave.farthest > 0
 }

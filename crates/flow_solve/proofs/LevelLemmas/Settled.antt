@@ -66,19 +66,17 @@ few_more false out o x i e l h = omega arith
 
 -- the flow x of an arc is taken from its source's balance and added to its target's, and o and n are what of it leaves
 -- the sources and enters them
-pub record IsTallied (roles before between after : List ℕ) (a : Arc) (x o n : ℕ) : Type 0 where
+pub record IsTallied (roles before after : List ℕ) (a : Arc) (x o n : ℕ) : Type 0 where
   pub size : length after ≡ length before
-  pub lost : (v : ℕ) → 1 ≤ v → get_or roles (v - 1) 0 ≡ INNER
-      → pair_at between (v - 1) + cond (eqb a.src v) x 0 ≡ pair_at before (v - 1)
-  pub gained : (v : ℕ) → 1 ≤ v → get_or roles (v - 1) 0 ≡ INNER
-      → pair_at after (v - 1) ≡ pair_at between (v - 1) + cond (eqb a.dst v) x 0
+  pub booked : (v : ℕ) → 1 ≤ v → get_or roles (v - 1) 0 ≡ INNER
+      → pair_at after (v - 1) + cond (eqb a.src v) x 0 ≡ pair_at before (v - 1) + cond (eqb a.dst v) x 0
   pub left : o ≡ cond (eqb (get_or roles (a.src - 1) 0) SOURCE) x 0
   pub entered : n ≡ cond (eqb (get_or roles (a.dst - 1) 0) SOURCE) x 0
 
 -- what the balances, the roles and the sums are after one arc more
-pub sums_more : {net : Net} {s t xs before between after roles : List ℕ} {a : Arc} {x i out inward o n : ℕ} → IsNet net
+pub sums_more : {net : Net} {s t xs before after roles : List ℕ} {a : Arc} {x i out inward o n : ℕ} → IsNet net
     → AreTerminals net s t → Fits net xs → AreRoles net s t roles → i < length net.arcs → a ≡ arc_at net i
-    → x ≡ get_or xs i 0 → (a.src ≡ a.dst → x ≡ 0) → IsTallied roles before between after a x o n
+    → x ≡ get_or xs i 0 → (a.src ≡ a.dst → x ≡ 0) → IsTallied roles before after a x o n
     → AreSums net s t xs before i out inward → AreSums net s t xs after (i + 1) (out + o) (inward + n)
 sums_more {net} {s} {t} {xs} {roles} {a} {x} {i} {out} {inward} {o} {n} is_net terminals fits r l ea ex loop m old =
     let w = arc_within net i is_net l in
@@ -105,8 +103,7 @@ sums_more {net} {s} {t} {xs} {roles} {a} {x} {i} {out} {inward} {o} {n} is_net t
           omega (
             arith,
             old.balanced v low high inner,
-            m.lost v low at,
-            m.gained v low at,
+            m.booked v low at,
             more (λ b. just v b.src),
             more (λ b. just v b.dst),
           );

@@ -16,7 +16,7 @@ ghost use Rattle.flow_solve.specs.Steps.{OnlyLooks};
 
 use crate::residual::cells::{CELL, get};
 use crate::task::Task;
-use flow_net::FlowTable;
+use flow_net::{Arc, FlowTable};
 
 /// Each of the two cells of a balance of [`EVEN`].
 const HALF: u32 = 2_147_483_648;
@@ -93,6 +93,25 @@ fn book(roles: &[u32], balances: &mut [u32], node: u32, enters: bool, amount: u6
     true
 }
 
+/// Books what an arc carries at both of its ends. Answers whether it may carry that: nothing on a self-loop, and no more
+/// than the balances have room for.
+#[inline(always)]
+fn book_arc(roles: &[u32], balances: &mut [u32], arc: Arc, amount: u64) -> bool
+    requires src { (1 ≤ arc.src) × (arc.src ≤ length roles.now) }
+    requires dst { (1 ≤ arc.dst) × (arc.dst ≤ length roles.now) }
+    requires size { length balances.old ≡ 2 * length roles.now }
+    ensures size { length balances.new ≡ length balances.old }
+    ensures self_loop { result ≡ true → arc.src ≡ arc.dst → amount ≡ 0 }
+    ensures booked { result ≡ true → (v : ℕ) → 1 ≤ v → slice_index roles.now (v - 1) ≡ INNER
+        → pair_at balances.new (v - 1) + (if arc.src == v then amount else 0)
+        ≡ pair_at balances.old (v - 1) + (if arc.dst == v then amount else 0) }
+{
+    if arc.src == arc.dst && amount > 0 {
+        return false;
+    }
+    book(roles, balances, arc.src, false, amount) && book(roles, balances, arc.dst, true, amount)
+}
+
 /// An amount at a source, and 0 at any other node.
 fn at_source(roles: &[u32], node: u32, amount: u64) -> u128
     requires node { (1 ≤ node) × (node ≤ length roles.now) }
@@ -127,11 +146,7 @@ fn tally(
     for i in 0..net.len() {
         let arc = net.arc(i);
         let (_, amount) = flow.look(net, 2 * i + 1);
-        if arc.src == arc.dst && amount > 0 {
-            return None;
-        }
-        let has_left = book(roles, balances, arc.src, false, amount);
-        if !has_left || !book(roles, balances, arc.dst, true, amount) {
+        if !book_arc(roles, balances, arc, amount) {
             return None;
         }
         out += at_source(roles, arc.src, amount);

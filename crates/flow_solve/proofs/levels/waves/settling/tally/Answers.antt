@@ -2,8 +2,6 @@
 use Rattle.std.proofs.Common.{◌≡◌, ℕ, List, get_or, refl, ◌∙◌, ap, arith}
 use Rattle.flow_net.proofs.Zips.{against}
 use Rattle.flow_solve.proofs.LevelLemmas.Settled.{IsTallied, sums_more}
-use Rattle.flow_solve.proofs.levels.waves.settling.tally.Goals.{else-arc-via-then-arc+else-amount-gt0}
-use Rattle.flow_solve.proofs.levels.waves.settling.tally.Goals.{else-arc-via-else-arc}
 use Rattle.flow_solve.proofs.levels.waves.settling.tally.Goals as goal
 
 pub loop-i-preserved : goal.loop-i-preserved
@@ -14,16 +12,11 @@ loop-i-preserved c =
     let carried : x ≡ get_or xs i 0 =
     c.look-amount.ensures.residual ∙ (against net c.loop-i.flow.flows i).2
     ∙ ap (λ (ys : List ℕ). get_or ys i 0) old.looks.flows in
-    let loop : a.src ≡ a.dst → x ≡ 0 = λ e. elim c.else-arc.branch [
-      | else-arc-via-then-arc+else-amount-gt0 w ↦ omega (arith, w.if-amount-gt0.false)
-      | else-arc-via-else-arc w ↦ absurd (w.if-arc.false e)
-    ] in
-    let tallied : IsTallied c.args.roles.now c.loop-i.balances c.book-has_left.new.balances c.book.new.balances a x
-    c.at_source-out.result c.at_source-inward.result =
+    let tallied : IsTallied c.args.roles.now c.loop-i.balances c.book_arc.new.balances a x c.at_source-out.result
+    c.at_source-inward.result =
     record {
-      size = c.book.ensures.size ∙ c.book-has_left.ensures.size;
-      lost = c.if-not-has_left.ensures.lost refl refl;
-      gained = c.if-not-book.ensures.gained refl refl;
+      size = c.book_arc.ensures.size;
+      booked = c.if-not-book_arc.ensures.booked refl;
       left = c.at_source-out.ensures;
       entered = c.at_source-inward.ensures;
     } in
@@ -32,7 +25,7 @@ loop-i-preserved c =
       fits = c.look-amount.ensures.still_fits;
       sums =
           sums_more c.len-i-end.ensures.is_net c.requires.task.terminals c.requires.fits c.requires.roles (omega arith)
-          c.arc-arc.ensures.arc carried loop tallied old.sums;
+          c.arc-arc.ensures.arc carried (c.if-not-book_arc.ensures.self_loop refl) tallied old.sums;
       looks = record {
         flows = c.look-amount.ensures.flows ∙ old.looks.flows;
         never_lowered = omega (arith, old.looks.never_lowered, c.look-amount.ensures.steps);

@@ -139,7 +139,7 @@ fn send_on(packed: Packed<'_>, flow: &mut FlowTable, wave: &mut Wave<'_>, sender
     }
 }
 
-/// Discharges a node, as far as it goes.
+/// Discharges a node, from its current place on.
 #[inline(never)]
 pub(super) fn discharge(packed: Packed<'_>, flow: &mut FlowTable, wave: &mut Wave<'_>, node: u32)
     requires waving { IsWaving packed flow.old wave.old }

@@ -169,7 +169,7 @@ fn are_even(roles: &[u32], balances: &[u32]) -> bool
     true
 }
 
-/// The roles of all nodes.
+/// Gives all nodes their roles.
 fn cast_all(task: Task<'_>, roles: &mut [u32])
     requires terminals { AreTerminals task.packed.net.now task.s.now task.t.now }
     requires size { length roles.old ≡ task.packed.net.now.nodes }
@@ -213,7 +213,7 @@ pub(crate) fn settle(task: Task<'_>, flow: &mut FlowTable, cells: &mut [u32]) ->
 {
     let n = task.packed.net.nodes() as usize;
     let (balances, rest) = cells.split_at_mut(2 * n);
-    let (roles, _) = rest.split_at_mut(n);
+    let roles = &mut rest[..n];
     balances.fill(HALF);
     cast_all(task, roles);
     settled_value(task, flow, roles, balances)

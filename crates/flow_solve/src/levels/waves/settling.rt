@@ -93,8 +93,8 @@ fn book(roles: &[u32], balances: &mut [u32], node: u32, enters: bool, amount: u6
     true
 }
 
-/// Books what an arc carries at both of its ends. Answers whether it may carry that: nothing on a self-loop, and no more
-/// than the balances have room for.
+/// Books what an arc carries at both of its ends. Answers whether it may carry that: nothing on a self-loop, and as
+/// much as the balances have room for.
 #[inline(always)]
 fn book_arc(roles: &[u32], balances: &mut [u32], arc: Arc, amount: u64) -> bool
     requires src { (1 ≤ arc.src) × (arc.src ≤ length roles.now) }

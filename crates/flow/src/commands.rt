@@ -256,8 +256,8 @@ fn command_of<'a>(alloc: Global, words: &CommandWords<'a>) -> Result<Command<'a>
         .about(words.about)
         .long_about(words.long_about)
         .after_help(words.statuses);
-    let with_flags = with_flags(alloc, command, words.flags)?;
-    with_files(alloc, with_flags, words.files)
+    let flagged = with_flags(alloc, command, words.flags)?;
+    with_files(alloc, flagged, words.files)
 }
 
 /// A command with these flags, each a name and what it does.

@@ -340,8 +340,8 @@ fn forget(ground: Ground<'_>, seen: &mut [u32], hints: &mut [u32], from: u32, ta
     }
 }
 
-/// Goes on with a search from its node until it has found a path. Where it finds none it begins anew if it is worn: what
-/// led nowhere may lead on over half-arcs that were used since.
+/// Goes on with a search from its node until it has found a path. Where it finds none it begins anew if it is worn:
+/// what led nowhere may lead on over half-arcs that were used since.
 fn search_anew(
     ground: Ground<'_>,
     rows: &[u32],

@@ -230,60 +230,43 @@ const COMMANDS: &[CommandWords<'static>] = &[
 ///
 /// `AllocError` where memory was refused.
 pub fn commands<'a>(alloc: Global) -> Result<Command<'a>, AllocError> {
-    let mut flow = Command::new(alloc, "flow")
+    let commands = all_commands(alloc)?;
+    Command::new(alloc, "flow")
         .version("0.1.0")
         .about("Maximum flows, minimum cuts and edge connectivity of networks in the DIMACS format")
-        .after_help(ALL_STATUSES);
-    for words in COMMANDS {
-        flow = with_command(alloc, flow, words)?;
-    }
-    Ok(flow)
+        .after_help(ALL_STATUSES)
+        .subcommands(commands)
 }
 
-/// A command with one more that is given after its name.
-fn with_command<'a>(
-    alloc: Global,
-    command: Command<'a>,
-    words: &CommandWords<'a>,
-) -> Result<Command<'a>, AllocError> {
-    let under_it = command_of(alloc, words)?;
-    command.subcommand(under_it)
+/// The commands that are given after the program's name.
+fn all_commands<'a>(alloc: Global) -> Result<Vec<Command<'a>>, AllocError> {
+    let mut commands = Vec::new(alloc);
+    for words in COMMANDS {
+        commands.push(command_of(alloc, words)?)?;
+    }
+    Ok(commands)
 }
 
 /// A command with its help, its flags and its files.
 fn command_of<'a>(alloc: Global, words: &CommandWords<'a>) -> Result<Command<'a>, AllocError> {
-    let command = Command::new(alloc, words.name)
+    let args = args_of(alloc, words)?;
+    Command::new(alloc, words.name)
         .about(words.about)
         .long_about(words.long_about)
-        .after_help(words.statuses);
-    let flagged = with_flags(alloc, command, words.flags)?;
-    with_files(alloc, flagged, words.files)
+        .after_help(words.statuses)
+        .args(args)
 }
 
-/// A command with these flags, each a name and what it does.
-fn with_flags<'a>(
-    alloc: Global,
-    command: Command<'a>,
-    flags: &[(&'a str, &'a str)],
-) -> Result<Command<'a>, AllocError> {
-    let mut command = command;
-    for &(name, about) in flags {
-        command = command.arg(flag(alloc, name, about))?;
+/// The flags and the files of a command.
+fn args_of<'a>(alloc: Global, words: &CommandWords<'a>) -> Result<Vec<Arg<'a>>, AllocError> {
+    let mut args = Vec::new(alloc);
+    for &(name, about) in words.flags {
+        args.push(flag(alloc, name, about))?;
     }
-    Ok(command)
-}
-
-/// A command with these files.
-fn with_files<'a>(
-    alloc: Global,
-    command: Command<'a>,
-    files: &[FileWords<'a>],
-) -> Result<Command<'a>, AllocError> {
-    let mut command = command;
-    for file in files {
-        command = command.arg(file_named(alloc, file))?;
+    for file in words.files {
+        args.push(file_named(alloc, file))?;
     }
-    Ok(command)
+    Ok(args)
 }
 
 /// A flag that is given by its name.

@@ -5,6 +5,7 @@ ghost use Rattle.flow_net.specs.Nets.{Instance};
 ghost use Rattle.flow_net.specs.Limits.{IsNet, AreTerminals};
 ghost use Rattle.flow_net.specs.MarkedNodes.{marked};
 ghost use Rattle.flow_net.specs.Arrangements.{named, all_named, carried};
+ghost use Rattle.flow_net.specs.Namings.{AreInverse};
 ghost use Rattle.flow_solve.specs.Bounds.{work_cells};
 ghost use Rattle.flow_tools.specs.solving.ArrangedProblems.{AreListsFor, IsArrangedBy, IsArrangedIf, IsSameOrArranged};
 ghost use Rattle.flow_tools.specs.solving.Solutions.{IsSolution, IsMarkedCut};
@@ -70,6 +71,32 @@ fn rename_all(vs: &mut Vec<u32>, names: &[u32])
     }
 }
 
+/// Renames the nodes of a network by the names in the lists, and puts its arcs in order. It works in the cells of a
+/// solver, and takes no memory.
+fn arrange_by(network: FlowNetwork, lists: &mut Lists, work: &mut [u32]) -> FlowNetwork
+    requires lists { AreListsFor network.net lists.old }
+    requires inverse { AreInverse network.net.nodes lists.old.names.items lists.old.nodes.items }
+    requires cells { work_cells network.net ≤ length work.old }
+    ensures arranged { IsArrangedBy network result lists.new }
+    ensures cells { length work.new ≡ length work.old }
+{
+    let (mut net, mut sources, mut sinks) = network.into_parts();
+    let names = lists.names.as_slice();
+    let (counts, rest) = work.split_at_mut(net.nodes() as usize);
+    let (stands, _) = rest.split_at_mut(net.len() as usize);
+    arrange(
+        &mut net,
+        names,
+        lists.places.as_mut_slice(),
+        lists.spots.as_mut_slice(),
+        stands,
+        counts,
+    );
+    rename_all(&mut sources, names);
+    rename_all(&mut sinks, names);
+    FlowNetwork::new(net, sources, sinks)
+}
+
 /// Renames the nodes of a network by a search and puts its arcs in order, where there are lists for that; without lists
 /// it stays as it is, and where the search finds no naming. Answers the lists where it is arranged by them. It works in
 /// the cells of a solver, and takes no memory.
@@ -86,33 +113,18 @@ pub(crate) fn arrange_network(
     let Some(mut lists) = lists else {
         return (network, None);
     };
-    let (mut net, mut sources, mut sinks) = network.into_parts();
-    let n = net.nodes() as usize;
-    let m = net.len() as usize;
     let found = name_nodes(
-        &net,
-        sinks.as_slice(),
+        network.net(),
+        network.sinks(),
         lists.nodes.as_mut_slice(),
         lists.names.as_mut_slice(),
         work,
     );
     if !found {
-        return (FlowNetwork::new(net, sources, sinks), None);
+        return (network, None);
     }
-    let names = lists.names.as_slice();
-    let (counts, rest) = work.split_at_mut(n);
-    let (stands, _) = rest.split_at_mut(m);
-    arrange(
-        &mut net,
-        names,
-        lists.places.as_mut_slice(),
-        lists.spots.as_mut_slice(),
-        stands,
-        counts,
-    );
-    rename_all(&mut sources, names);
-    rename_all(&mut sinks, names);
-    (FlowNetwork::new(net, sources, sinks), Some(lists))
+    let network = arrange_by(network, &mut lists, work);
+    (network, Some(lists))
 }
 
 /// Arranges a problem whose arcs come in no order, for an answer that speaks of no node and no arc. The memory that

@@ -43,7 +43,7 @@ SENTENCES = {
         "| `MOST_FLOW_LINES` | `usize = {MOST_FLOW_LINES:_}` |",
         "| `MOST_NODES` | `u32 = {MOST_NODES:_}` |",
     ],
-    "crates/flow/src/commands.rt": [
+    "crates/flow_words/src/commands.rt": [
         "Limits: 2 to {MOST_NODES} nodes, {MOST_ARCS}\n",
         "arcs, whole capacities up to {GREATEST_CAPACITY}, lines of {LONGEST_LINE} bytes",
         "{GREATEST_CAPACITY}, {MOST_FLOW_LINES} lines f, lines of {LONGEST_LINE} bytes",

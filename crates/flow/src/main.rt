@@ -1,11 +1,10 @@
 //! `flow`: maximum flows, minimum cuts and edge connectivity of networks in the DIMACS format, from the command line.
 //!
-//! `clap` turns the words of the command line into a job and its files, the files are opened, and the run of
+//! `flow_words` reads the words of the command line, which name a job and its files, the files are opened, and the run of
 //! `flow_tools` does the rest. Its status is the program's: 0 done, 1 `check` says no, 2 command line,
 //! 3 input fault, 4 device or memory.
 #![tactic(auto)]
 
-mod commands;
 mod files;
 mod program;
 mod requests;

@@ -6,10 +6,9 @@ ghost use Rattle.flow_tools.specs.streams.Sending.{IsPut};
 ghost use Rattle.flow_tools.specs.running.AnswerExits.{IsTold};
 ghost use Rattle.flow.specs.Messages.{cannot_open, given_name};
 
-use crate::commands::commands;
 use crate::requests::{Files, job_of};
-use clap::error::ErrorKind;
 use flow_tools::{Counted, Failed, Input, Job, Output, put_all, run};
+use flow_words::{Refusal, read_words};
 use std::alloc::Global;
 
 /// Where the inputs that a command line names are opened.
@@ -31,16 +30,12 @@ pub fn program<S: Source, O: Output, E: Output>(
     out: &mut O,
     err: &mut E,
 ) -> u8 {
-    let command = match commands(alloc) {
-        Ok(command) => command,
-        Err(_) => return tell(err, b"flow: out of memory\n"),
-    };
-    match command.try_get_matches_from(words) {
+    match read_words(alloc, words) {
         Ok(matches) => match job_of(&matches) {
             Some((job, files)) => run_files(alloc, job, files, source, out, err),
             None => 2,
         },
-        Err(error) => refuse(alloc, error, out, err),
+        Err(refusal) => refuse(refusal, out, err),
     }
 }
 
@@ -101,18 +96,17 @@ fn put_cannot_open<E: Output>(err: &mut E, name: &[u8]) -> Result<(), Failed>
 }
 
 /// Prints what the words came to in place of a job: help, or why they are refused.
-fn refuse<O: Output, E: Output>(alloc: Global, error: clap::Error, out: &mut O, err: &mut E) -> u8 {
-    let text = match error.to_string(alloc) {
-        Ok(text) if error.kind() != ErrorKind::OutOfMemory => text,
-        _ => return tell(err, b"flow: out of memory\n"),
-    };
-    if error.use_stderr() {
-        let _ = put_refusal(err, text.as_str());
-        return 2;
-    }
-    match put_all(out, text.as_str().as_bytes()) {
-        Ok(()) => 0,
-        Err(_) => tell(err, b"flow: write failed\n"),
+fn refuse<O: Output, E: Output>(refusal: Refusal, out: &mut O, err: &mut E) -> u8 {
+    match refusal {
+        Refusal::Help(text) => match put_all(out, text.as_str().as_bytes()) {
+            Ok(()) => 0,
+            Err(_) => tell(err, b"flow: write failed\n"),
+        },
+        Refusal::Words(text) => {
+            let _ = put_refusal(err, text.as_str());
+            2
+        }
+        Refusal::OutOfMemory => tell(err, b"flow: out of memory\n"),
     }
 }
 

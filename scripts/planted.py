@@ -1,8 +1,8 @@
 #!/usr/bin/env python3
 """Tries wrong bodies in groups, and sees that the prover refuses each at a goal of the changed function.
 
-    python3 scripts/planted.py [--begin FOLDER] [CRATE ..]
-    python3 scripts/planted.py --gather TEMPORARY FOLDER
+    python3 scripts/planted.py [CRATE ..]
+    python3 scripts/planted.py --beside TEMPORARY FOLDER
 
 A wrong body is a file crates/CRATE/planted/NAME.edit, in the form of those in must-fail/: a line 'file:' and pairs of
 lines 'old:' and 'new:'. The gate tries each of must-fail/ in a check of its own. Here many share one. Each is made of a
@@ -13,12 +13,13 @@ nothing, which has to be proved, and sees that no goal failed of a function that
 
 What was refused is remembered, by the sums of all that it rests on, in the user's folder of caches.
 
-A check is of the group's copies alone, and of what they call. After the gate --begin FOLDER names what the gate's own
-edits began with: --gather TEMPORARY FOLDER, run beside the gate until it is ended, collects that out of the gate's
-temporary folder. Each check begins with that then, and reads the libraries that the gate has left in out/rlib; it is
-called as the gate calls it, since `rt check` builds libraries of its own, over which nothing of that holds. Of a crate
-that has fewer than two edits in must-fail/ nothing is collected. Without --begin the groups of a crate are tried one
-after another. RT_JOBS checks run at a time.
+A check is of the group's copies alone, and of what they call. With --beside all crates are tried beside the gate, whose
+temporary folder is named: what the gate's own edits of a crate begin with is collected into FOLDER as soon as it is
+whole, and the crate's groups begin with that, over the libraries that the gate has built below it. They are called as
+the gate calls its own, since `rt check` builds libraries of its own, over which nothing of that holds, and give way to
+it. Of a crate that has fewer than two edits in must-fail/ nothing is collected. Once there is a file FOLDER/ended, the
+gate is over, and all that is left is tried. Without --beside the groups of a crate are tried one after another. RT_JOBS
+checks run at a time; beside the gate, which has as many, half of that, as far as there is memory.
 
 The last line is 'planted: N passed, M failed'.
 """
@@ -26,9 +27,11 @@ import hashlib
 import os
 import re
 import shutil
+import signal
 import subprocess
 import sys
 import tempfile
+import threading
 import time
 from concurrent.futures import ThreadPoolExecutor
 from pathlib import Path
@@ -230,10 +233,12 @@ def libraries_of(crate):
     return [], []
 
 
-def keep_libraries(begin):
-    """Keeps the libraries that the gate has left, since other commands build theirs in their place."""
-    for library in ROOT.glob("crates/*/out/rlib/*.rlib"):
-        link_tree(library, begin / "libraries" / library.name)
+def keep_libraries(begin, crate):
+    """Keeps the libraries that the gate has built below a crate, since other commands build theirs in their place."""
+    for library in crates_below()[crate][:-1]:
+        kept = begin / "libraries" / f"{library}.rlib"
+        if not kept.exists():
+            link_whole(ROOT / "crates" / library / "out" / "rlib" / kept.name, kept)
 
 
 def check_over(begin, crate):
@@ -257,6 +262,8 @@ class Copy:
     def __init__(self, crate, folder, begin):
         self.crate, self.top, self.begin = crate, Path(folder), begin
         self.words = check_over(begin, crate) if begin else ["rt", "check", "--jobs", "1"]
+        if begin and not has_ended(begin):
+            self.words = ["nice", "-n", "19", *self.words]
         for name in ("crates.txt", "HANDLES"):
             shutil.copy(ROOT / name, self.top)
         for other in crates_below():
@@ -308,6 +315,14 @@ def link_tree(one, other):
     shutil.copytree(one, other, copy_function=link, ignore=shutil.ignore_patterns("*.tmp.*"))
 
 
+def link_whole(one, other):
+    """Copies a folder as link_tree does, and gives it its name once it is whole."""
+    part = other.with_name(f".{other.name}")
+    shutil.rmtree(part, ignore_errors=True)
+    link_tree(one, part)
+    part.rename(other)
+
+
 def work_of(crate, groups, begin):
     """How long the groups of a crate take, in edits: those of which nothing was collected prove first what they call."""
     has_begun = begin and (begin / crate).is_dir()
@@ -351,10 +366,10 @@ class Tried:
         self.checks += 1
 
 
-def try_groups(crate, begin, groups, names):
-    """Tries groups of a crate one after another in one copy."""
+def try_groups(crate, begin, room, groups, names):
+    """Tries groups of a crate one after another in one copy, once there is room for a check."""
     tried = Tried()
-    with tempfile.TemporaryDirectory(prefix="flow-planted-") as folder:
+    with room, tempfile.TemporaryDirectory(prefix="flow-planted-", dir=begin) as folder:
         copy = Copy(crate, folder, begin)
         for edits in groups:
             tried.hear(edits, names, copy.check([*edits, idle(edits)]))
@@ -396,7 +411,7 @@ def begun_with(work, edits):
 
 
 def gather_new(temporary, folder, crate_with, edits, gathered):
-    """Collects what is whole and wasn't yet collected, and which edits have begun since."""
+    """Collects what is whole and wasn't yet collected, with the libraries below, and which edits have begun since."""
     for room in temporary.glob("rt-edit-*"):
         if room.name not in edits and (crate := crate_with.get(frozenset(files_in(room)))):
             edits[room.name] = crate
@@ -407,56 +422,102 @@ def gather_new(temporary, folder, crate_with, edits, gathered):
             continue
         found, crate = begun
         if not (folder / crate).exists():
-            shutil.rmtree(folder / f".{crate}", ignore_errors=True)
-            link_tree(found, folder / f".{crate}")
-            (folder / f".{crate}").rename(folder / crate)
-        gathered.add(work.name)
+            keep_libraries(folder, crate)
+            link_whole(found, folder / crate)
+        gathered[work.name] = crate
+
+
+def has_ended(folder):
+    """Whether the gate is over."""
+    return (folder / "ended").exists()
 
 
 def gather(temporary, folder):
-    """Collects what the gate's edits begin with. Keeps in the file `edits` how many checks of crates have begun in a
-    folder of their own: each edit has one, what a crate's edits begin with too, and its unchanged check after them,
-    since the gate tells of none before the end."""
+    """Collects what the gate's edits begin with until the gate is over, and gives each crate once that is there. Keeps in
+    the file `edits` how many checks of crates have begun in a folder of their own: each edit has one, what a crate's
+    edits begin with too, and its unchanged check after them, since the gate tells of none before the end."""
     crate_with = {frozenset(files_in(ROOT / "crates" / crate)): crate for crate in crates_below()}
-    edits, gathered = {}, set()
-    while True:
+    edits, gathered, given = {}, {}, set()
+    while not has_ended(folder):
         try:
             gather_new(temporary, folder, crate_with, edits, gathered)
         except (OSError, shutil.Error):
             pass  # what goes away meanwhile is looked at again
+        yield from sorted({*gathered.values()} - given)
+        given.update(gathered.values())
         time.sleep(3)
 
 
+def beside_the_gate(jobs):
+    """How many checks may run beside the gate, which has as many as there are jobs: half of them, as far as there are
+    3 GB of memory for each."""
+    available = re.search(r"MemAvailable: *(\d+)", Path("/proc/meminfo").read_text())
+    return max(min(jobs // 2, int(available[1]) // 3_000_000 - jobs), 0)
+
+
+def end_with_children(*_):
+    """Ends this program with the checks that it has begun."""
+    os.killpg(0, signal.SIGKILL)
+
+
+class Trial:
+    """The edits of crates, in groups, and what came of those that were begun. A check waits for room."""
+
+    def __init__(self, crates, begin, jobs, room):
+        self.begin, self.pool, self.room = begin, ThreadPoolExecutor(jobs), threading.Semaphore(room)
+        self.found = {crate: edits_to_try(crate) for crate in crates}
+        self.groups = {crate: groups_of(todo) for crate, (todo, *_) in self.found.items()}
+        self.tried = {}
+
+    def start(self, crate):
+        """Has the groups of a crate tried, side by side over what the gate has left."""
+        groups, names = self.groups[crate], self.found[crate][2]
+        if self.begin and groups:
+            keep_libraries(self.begin, crate)
+        parts = [[group] for group in groups] if self.begin else [groups] if groups else []
+        self.tried[crate] = [self.pool.submit(try_groups, crate, self.begin, self.room, part, names) for part in parts]
+
+    def start_others(self):
+        """Has the groups of all crates tried whose groups weren't begun, first those that take longest."""
+        others = [crate for crate in self.found if crate not in self.tried]
+        for crate in sorted(others, key=lambda it: work_of(it, self.groups[it], self.begin), reverse=True):
+            self.start(crate)
+
+    def hear(self, crate):
+        """Waits for the groups of a crate, says what came of them, and gives how many edits were refused, how many not."""
+        _, misfits, _, known = self.found[crate]
+        came = Tried()
+        came.said = [f"{crate}/{edit.name} doesn't fit its function" for edit in misfits]
+        came.failed = len(misfits)
+        for part in self.tried[crate]:
+            came.add(part.result())
+        print("\n".join([*came.said, ""]), end="")
+        told = [f"{known + came.refused} refused", *([f"{known} of them in earlier runs"] if known else []),
+                *([f"{came.checks} checks"] if came.checks else [])]
+        print(f"{crate}: {', '.join(told)}", flush=True)
+        return known + came.refused, came.failed
+
+
 def main(words):
-    if words[:1] == ["--gather"] and len(words) == 3:
-        gather(Path(words[1]), Path(words[2]))
-    begin = None
-    if words[:1] == ["--begin"] and len(words) > 1:
-        begin, words = Path(words[1]).resolve(), words[2:]
-        keep_libraries(begin)
-    crates = [crate for crate in crates_below() if crate in words or not words]
-    if any(word not in crates for word in words):
+    jobs = int(os.environ.get("RT_JOBS") or 1)
+    if words[:1] == ["--beside"] and len(words) == 3:
+        os.setpgrp()
+        signal.signal(signal.SIGTERM, end_with_children)
+        temporary, begin, crates, room = Path(words[1]), Path(words[2]).resolve(), [], beside_the_gate(jobs)
+    else:
+        temporary, begin, crates, room = None, None, words, jobs
+    if any(crate not in crates_below() for crate in crates):
         sys.exit(__doc__)
-    found = [(crate, *edits_to_try(crate)) for crate in crates]
-    found = [(crate, groups_of(todo), misfits, names, known) for crate, todo, misfits, names, known in found]
-    found.sort(key=lambda it: work_of(it[0], it[1], begin), reverse=True)
+    trial = Trial([crate for crate in crates_below() if crate in crates or not crates], begin, jobs, room)
+    for crate in gather(temporary, begin) if begin else []:
+        trial.start(crate)
+    for _ in range(jobs - room):
+        trial.room.release()
+    trial.start_others()
     passed = lacking = 0
-    with ThreadPoolExecutor(int(os.environ.get("RT_JOBS") or 1)) as pool:
-        tried = {}
-        for crate, groups, _, names, _ in found:
-            parts = [[group] for group in groups] if begin else [groups] if groups else []
-            tried[crate] = [pool.submit(try_groups, crate, begin, part, names) for part in parts]
-        for crate, _, misfits, _, known in found:
-            came = Tried()
-            came.said = [f"{crate}/{edit.name} doesn't fit its function" for edit in misfits]
-            came.failed = len(misfits)
-            for part in tried[crate]:
-                came.add(part.result())
-            print("\n".join([*came.said, ""]), end="")
-            told = [f"{known + came.refused} refused", *([f"{known} of them in earlier runs"] if known else []),
-                    *([f"{came.checks} checks"] if came.checks else [])]
-            print(f"{crate}: {', '.join(told)}", flush=True)
-            passed, lacking = passed + known + came.refused, lacking + came.failed
+    for crate in trial.found:
+        refused, others = trial.hear(crate)
+        passed, lacking = passed + refused, lacking + others
     for name in missing():
         print(f"docs/PLANTED.md names {name}, which isn't kept")
         lacking += 1

@@ -29,9 +29,12 @@ export RT_JOBS
 export MIMALLOC_PURGE_DELAY=-1
 
 folder=$(mktemp -d)
+planted=
 watched=
 end() {
-  [ -z "$watched" ] || kill $watched 2> /dev/null
+  for begun in $planted $watched; do
+    kill "$begun" 2> /dev/null && wait "$begun" 2> /dev/null
+  done
   rm -rf "$folder"
 }
 trap end EXIT
@@ -40,21 +43,21 @@ mkdir "$folder/temporary" "$folder/begun"
 chmod 1777 "$folder/temporary"
 
 # Every proof from nothing, the edits that the gate tries one by one, each test, and each program as two compilers make
-# it. What its edits begin with is collected for the others. Libraries from before, which it would put back, go first:
-# its own work doesn't hold over them.
+# it. Libraries from before, which it would put back, go first: its own work doesn't hold over them. The wrong bodies that
+# share a check begin with what the gate has proved as soon as that is there, and give way to it.
 rm -rf crates/*/out/rlib
-say "the gate, $RT_JOBS checks at a time"
-python3 scripts/planted.py --gather "$folder/temporary" "$folder/begun" &
-watched=$!
+say "the gate, $RT_JOBS checks at a time, and wrong bodies that share a check"
+python3 scripts/planted.py --beside "$folder/temporary" "$folder/begun" > "$folder/planted" 2>&1 &
+planted=$!
 (
   while sleep 60; do
     say "the gate: $(grep -c '^rt: .* proved$' "$folder/gate") proofs, $(cat "$folder/begun/edits") checks of edits"
   done
 ) &
-watched="$watched $!"
+watched=$!
 TMPDIR="$folder/temporary" rt ci 2>&1 | tee "$folder/gate"
 [ "${PIPESTATUS[0]}" -eq 0 ] || exit 1
-kill $watched 2> /dev/null
+kill "$watched" 2> /dev/null
 watched=
 gate=$(grep -E '^[0-9]+ passed, 0 failed$' "$folder/gate" | tail -n 1)
 [ -n "$gate" ] || exit 1
@@ -63,6 +66,7 @@ if [ -x crates/flow/out/flow ]; then
   bash scripts/sum.sh all crates/flow/out/flow > crates/flow/out/flow.proved || exit 1
 fi
 bash scripts/prove.sh gate || exit 1
+touch "$folder/begun/ended"
 
 # count NAME: takes from the output of a part, whose last line has to be 'NAME: N passed, 0 failed', how many passed.
 count() {
@@ -82,11 +86,6 @@ add() {
   [ "${PIPESTATUS[0]}" -eq 0 ] || exit 1
   count "$name"
 }
-
-# The wrong bodies that share a check, beside the parts below.
-say "planted, beside what follows"
-python3 scripts/planted.py --begin "$folder/begun" > "$folder/planted" 2>&1 &
-watched=$!
 
 # What the words of the command line lead to.
 [ -x crates/flow/out/flow ] || (cd crates/flow && rt run -- solve --value < stdin > /dev/null) || exit 1
@@ -132,11 +131,11 @@ add bench python3 bench/smoke.py crates/flow/out/flow
 add examples python3 scripts/examples.py crates/flow/out/flow
 
 say "planted"
-wait "$watched"
-planted=$?
-watched=
+wait "$planted"
+status=$?
+planted=
 cat "$folder/planted"
-[ "$planted" -eq 0 ] || exit 1
+[ "$status" -eq 0 ] || exit 1
 count planted
 
 say "done"

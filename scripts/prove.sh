@@ -21,8 +21,8 @@ kit=$(dirname "$(rt doc)")
 export MIMALLOC_PURGE_DELAY=-1
 
 # One copy of the prover for each processor, as far as there is memory: three gigabytes for the crate that is proved,
-# two for each of two beside it, and half of one for each copy.
-jobs=$(awk -v cores="$(nproc)" '/^MemAvailable:/ { most = int(($2 / 1000000 - 7) / 0.5) }
+# two for one beside it, and half of one for each copy.
+jobs=$(awk -v cores="$(nproc)" '/^MemAvailable:/ { most = int(($2 / 1000000 - 5) / 0.5) }
   END { print most < 1 ? 1 : most < cores ? most : cores }' /proc/meminfo)
 
 # The libraries that a program or the library for C is made of.
@@ -82,11 +82,10 @@ library() { # CRATE
   [ "$(sum_of "$1" texts)" != "$texts" ] || sum_of "$1" > "$whole/sum"
 }
 
-# Proves a library beside others, without copies, which take a fourth more of the processor or twice that. What it says
-# goes into a file of its own.
+# Proves a library beside what follows, without copies, which take a fourth more of the processor or twice that. What it
+# says goes into a file of its own.
 beside() { # CRATE ROOM
-  jobs=1
-  library "$1" > "$2/$1" 2>&1
+  (jobs=1 && library "$1") > "$2/$1" 2>&1
 }
 
 # Waits for a library that is proved beside others, and says why it isn't proved.
@@ -94,24 +93,20 @@ wait_for() { # CRATE PROCESS ROOM
   wait "$2" || { cat "$3/$1" && return 1; }
 }
 
-# Proves the crates that the last one is made of, lowest first, and says which. Readers, solvers and words don't stand on
-# each other, so they are proved side by side; nothing but the program waits for the words, so they give way.
+# Proves the crates that the last one is made of, lowest first, and says which. Readers and solvers don't stand on each
+# other, so they are proved side by side; and the words that only the program needs, beside the tools.
 prove() { # LAST ROOM
-  local begun=() text words
-  if [ "$1" = flow ]; then
-    (renice -n 10 -p "$BASHPID" > "$2/flow_words" && beside flow_words "$2") &
-    words=$!
-  fi
+  local begun=()
   echo "== flow_net"
   library flow_net || return 1
   echo "== flow_text and flow_solve"
   beside flow_text "$2" &
-  text=$!
-  (jobs=$((jobs > 1 ? jobs - 1 : 1)) && library flow_solve) || return 1
-  wait_for flow_text "$text" "$2" || return 1
+  library flow_solve || return 1
+  wait_for flow_text $! "$2" || return 1
   echo "== flow_tools"
+  [ "$1" != flow ] || beside flow_words "$2" &
   library flow_tools || return 1
-  [ "$1" != flow ] || wait_for flow_words "$words" "$2" || return 1
+  wait_for flow_words $! "$2" || return 1
   echo "== $1"
   mkdir -p "crates/$1/out"
   if [ "$1" = flow_c ]; then

@@ -29,12 +29,11 @@ export RT_JOBS
 export MIMALLOC_PURGE_DELAY=-1
 
 folder=$(mktemp -d)
-planted=
-watched=
 end() {
-  for begun in $planted $watched; do
-    kill "$begun" 2> /dev/null && wait "$begun" 2> /dev/null
+  for begun in $(jobs -rp); do
+    kill "$begun" 2> /dev/null
   done
+  wait
   rm -rf "$folder"
 }
 trap end EXIT
@@ -58,7 +57,6 @@ watched=$!
 TMPDIR="$folder/temporary" rt ci 2>&1 | tee "$folder/gate"
 [ "${PIPESTATUS[0]}" -eq 0 ] || exit 1
 kill "$watched" 2> /dev/null
-watched=
 gate=$(grep -E '^[0-9]+ passed, 0 failed$' "$folder/gate" | tail -n 1)
 [ -n "$gate" ] || exit 1
 passed=${gate%% *}
@@ -68,75 +66,75 @@ fi
 bash scripts/prove.sh gate || exit 1
 touch "$folder/begun/ended"
 
-# count NAME: takes from the output of a part, whose last line has to be 'NAME: N passed, 0 failed', how many passed.
-count() {
-  local name=$1 line
-  line=$(tail -n 1 "$folder/$name" | grep -E "^$name: [0-9]+ passed, 0 failed$")
-  [ -n "$line" ] || exit 1
-  line=${line#"$name: "}
-  passed=$((passed + ${line%% *}))
-}
-
-# add NAME COMMAND..: runs a part and adds its count.
-add() {
+# begin NAME COMMAND..: begins a part beside the others, once fewer than RT_JOBS of them are left.
+parts=()
+begin() {
   local name=$1
   shift
+  while [ "$(jobs -rp | wc -l)" -gt "$RT_JOBS" ]; do
+    sleep 0.2
+  done
   say "$name"
-  "$@" | tee "$folder/$name"
-  [ "${PIPESTATUS[0]}" -eq 0 ] || exit 1
-  count "$name"
+  "$@" > "$folder/$name" 2>&1 &
+  parts+=("$name $!")
 }
 
-# What the words of the command line lead to.
-[ -x crates/flow/out/flow ] || (cd crates/flow && rt run -- solve --value < stdin > /dev/null) || exit 1
-add words python3 scripts/words.py crates/flow/out/flow
-
 # The built programs under hostile use.
+[ -x crates/flow/out/flow ] || (cd crates/flow && rt run -- solve --value < stdin > /dev/null) || exit 1
 [ -x crates/growths/out/growths ] || (cd crates/growths && rt run < stdin > /dev/null) || exit 1
-add hostile python3 scripts/hostile.py crates/flow/out/flow crates/growths/out/growths
+begin hostile python3 scripts/hostile.py crates/flow/out/flow crates/growths/out/growths
 
-# What the built program answers, against a second reading of the definitions.
-add independent python3 scripts/independent.py crates/flow/out/flow
+# What the words of the command line lead to.
+begin words python3 scripts/words.py crates/flow/out/flow
 
-# The page of definitions tells what the contracts of `run` and of the streams reach.
-add definitions python3 scripts/definitions.py
-
-# Every text tells the limits as their constants say.
-add limits python3 scripts/limits.py
-
-# The manual page and the completions say what the program's help says.
-add pages python3 scripts/pages.py crates/flow/out/flow
-
-# The library for C, its header against the crate's exports, and the package for Python over it.
-add header python3 scripts/header.py
+# The library for C. What the gate's edits of the crate began with is its whole proof: the library needs no other one.
 say "the library for C"
-# What the gate's edits of the crate began with is its whole proof: the library needs no other one.
 if [ -d "$folder/begun/flow_c" ]; then
   cp -a "$folder/begun/flow_c" crates/flow_c/out/begun
 fi
 bash scripts/library.sh "$folder/made" > /dev/null || exit 1
-add library python3 scripts/try_library.py "$folder/made" crates/flow/out/flow
-add bindings python3 scripts/bindings.py "$folder/made/libprovedflow.so.0"
 
 # The connectivity, against all sets of nodes of small networks and against flows in composed ones.
-add multigraphs python3 scripts/multigraphs.py crates/flow/out/flow "$folder/made/libprovedflow.so.0"
+begin multigraphs python3 scripts/multigraphs.py crates/flow/out/flow "$folder/made/libprovedflow.so.0"
 
-# Each command that the documents show prints what they show.
-add documents python3 scripts/documents.py --library "$folder/made" crates/flow/out/flow
-
-# The generator and the runner of the benchmarks, on tiny problems.
-add bench python3 bench/smoke.py crates/flow/out/flow
+# The library, its header against the crate's exports, and the package for Python over it.
+begin bindings python3 scripts/bindings.py "$folder/made/libprovedflow.so.0"
+begin library python3 scripts/try_library.py "$folder/made" crates/flow/out/flow
+begin header python3 scripts/header.py
 
 # The examples say and draw what is committed, and their numbers are those found in other ways.
-add examples python3 scripts/examples.py crates/flow/out/flow
+begin examples python3 scripts/examples.py crates/flow/out/flow
 
-say "planted"
-wait "$planted"
-status=$?
-planted=
-cat "$folder/planted"
-[ "$status" -eq 0 ] || exit 1
-count planted
+# What the built program answers, against a second reading of the definitions.
+begin independent python3 scripts/independent.py crates/flow/out/flow
+
+# The generator and the runner of the benchmarks, on tiny problems.
+begin bench python3 bench/smoke.py crates/flow/out/flow
+
+# Each command that the documents show prints what they show.
+begin documents python3 scripts/documents.py --library "$folder/made" crates/flow/out/flow
+
+# The page of definitions tells what the contracts of `run` and of the streams reach.
+begin definitions python3 scripts/definitions.py
+
+# Every text tells the limits as their constants say.
+begin limits python3 scripts/limits.py
+
+# The manual page and the completions say what the program's help says.
+begin pages python3 scripts/pages.py crates/flow/out/flow
+
+# Each part has to end well, and its last line to be 'NAME: N passed, 0 failed'.
+for part in "${parts[@]}" "planted $planted"; do
+  name=${part% *}
+  ! kill -0 "${part#* }" 2> /dev/null || say "waiting for $name"
+  wait "${part#* }"
+  status=$?
+  cat "$folder/$name"
+  line=$(tail -n 1 "$folder/$name" | grep -E "^$name: [0-9]+ passed, 0 failed$")
+  [ "$status" -eq 0 ] && [ -n "$line" ] || exit 1
+  line=${line#"$name: "}
+  passed=$((passed + ${line%% *}))
+done
 
 say "done"
 echo "$passed passed, 0 failed"

@@ -69,6 +69,7 @@ sum_of() { # CRATE [TEXTS]
 }
 
 # Proves and builds a library that crates above it read, unless it is there, and it and those below it are unchanged.
+# Its sum is taken beside what follows.
 library() { # CRATE
   local whole=crates/$1/out/whole texts
   if [ -f "$whole/sum" ] && [ "$(sum_of "$1")" = "$(cat "$whole/sum")" ]; then
@@ -79,13 +80,13 @@ library() { # CRATE
   texts=$(sum_of "$1" texts)
   build "$1" lib --statements -o "out/whole/$1.rlib" || return 1
   # (as below: which text was proved isn't known where one has changed meanwhile)
-  [ "$(sum_of "$1" texts)" != "$texts" ] || sum_of "$1" > "$whole/sum"
+  { [ "$(sum_of "$1" texts)" != "$texts" ] || sum_of "$1" > "$whole/sum"; } &
 }
 
 # Proves a library beside what follows, without copies, which take a fourth more of the processor or twice that. What it
 # says goes into a file of its own.
 beside() { # CRATE ROOM
-  (jobs=1 && library "$1") > "$2/$1" 2>&1
+  (jobs=1 && library "$1" && wait) > "$2/$1" 2>&1
 }
 
 # Waits for a library that is proved beside others, and says why it isn't proved.
@@ -96,26 +97,30 @@ wait_for() { # CRATE PROCESS ROOM
 # Proves the crates that the last one is made of, lowest first, and says which. Readers and solvers don't stand on each
 # other, so they are proved side by side; and the words that only the program needs, beside the tools.
 prove() { # LAST ROOM
-  local begun=()
+  local begun=() text words
   echo "== flow_net"
   library flow_net || return 1
   echo "== flow_text and flow_solve"
   beside flow_text "$2" &
+  text=$!
   library flow_solve || return 1
-  wait_for flow_text $! "$2" || return 1
+  wait_for flow_text "$text" "$2" || return 1
   echo "== flow_tools"
   [ "$1" != flow ] || beside flow_words "$2" &
+  words=$!
   library flow_tools || return 1
-  wait_for flow_words $! "$2" || return 1
+  wait_for flow_words "$words" "$2" || return 1
   echo "== $1"
   mkdir -p "crates/$1/out"
   if [ "$1" = flow_c ]; then
     # (the test command leaves what the gate's edits of the crate began with, which is its whole proof)
     [ ! -d crates/flow_c/out/begun ] || begun=(--incremental out/begun)
-    build flow_c lib "${begun[@]}" --crate-type staticlib --toolchain "$kit/toolchain" -o out/libflow_c.a
+    build flow_c lib "${begun[@]}" --crate-type staticlib --toolchain "$kit/toolchain" -o out/libflow_c.a || return 1
+    wait
     return
   fi
   build flow main --toolchain "$kit/toolchain" -o out/flow.o || return 1
+  wait
   cd crates/flow
   "$kit/bin/rattle-link" --target x86_64-unknown-linux-gnu --toolchain "$kit/toolchain" -o out/flow out/flow.o \
     "$kit/c/libos_c.a" "$kit/c/liblibc_c.a" || return 1

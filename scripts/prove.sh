@@ -83,8 +83,8 @@ library() { # CRATE
   { [ "$(sum_of "$1" texts)" != "$texts" ] || sum_of "$1" > "$whole/sum"; } &
 }
 
-# Proves a library beside what follows, without copies, which take a fourth more of the processor or twice that. What it
-# says goes into a file of its own.
+# Proves a library beside what follows, without copies: these take a fourth more of the processor, or half. What it says
+# goes into a file of its own.
 beside() { # CRATE ROOM
   (jobs=1 && library "$1" && wait) > "$2/$1" 2>&1
 }

@@ -1,7 +1,7 @@
 //! `flow`: maximum flows, minimum cuts and edge connectivity of networks in the DIMACS format, from the command line.
 //!
-//! `flow_words` reads the words of the command line, which name a job and its files, the files are opened, and the run of
-//! `flow_tools` does the rest. Its status is the program's: 0 done, 1 `check` says no, 2 command line,
+//! `flow_words` reads the words of the command line, which name a job and its files. The files are opened, and the run
+//! of `flow_tools` does the rest. Its status is the program's: 0 done, 1 `check` says no, 2 command line,
 //! 3 input fault, 4 device or memory.
 #![tactic(auto)]
 

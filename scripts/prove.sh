@@ -146,7 +146,7 @@ if [ -f "$built.proved" ] && [ "$(bash scripts/sum.sh all "$built")" = "$(cat "$
 fi
 
 cat >&2 <<TEXT
-Proving and building $1, since nothing is built that isn't proved. From nothing this takes six to eleven minutes
+Proving and building $1, since nothing is built that isn't proved. From nothing this takes six to twelve minutes
 on four cores, more than half of them for the solvers, and up to four gigabytes of memory; a library that an earlier
 run has proved is taken as it is.
 TEXT

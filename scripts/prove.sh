@@ -94,10 +94,13 @@ wait_for() { # CRATE PROCESS ROOM
   wait "$2" || { cat "$3/$1" && return 1; }
 }
 
-# Proves the crates that the last one is made of, lowest first, and says which. Readers and solvers don't stand on each
-# other, so they are proved side by side; and the words that only the program needs, beside the tools.
+# Proves the crates that the last one is made of, lowest first, and says which. The words that only the program needs
+# stand on none of them, so they are proved beside the first; and readers and solvers, which don't stand on each other,
+# side by side.
 prove() { # LAST ROOM
   local begun=() text words
+  [ "$1" != flow ] || beside flow_words "$2" &
+  words=$!
   echo "== flow_net"
   library flow_net || return 1
   echo "== flow_text and flow_solve"
@@ -106,8 +109,6 @@ prove() { # LAST ROOM
   library flow_solve || return 1
   wait_for flow_text "$text" "$2" || return 1
   echo "== flow_tools"
-  [ "$1" != flow ] || beside flow_words "$2" &
-  words=$!
   library flow_tools || return 1
   wait_for flow_words "$words" "$2" || return 1
   echo "== $1"

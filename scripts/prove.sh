@@ -148,7 +148,7 @@ fi
 
 cat >&2 <<TEXT
 Proving and building $1, since nothing is built that isn't proved. From nothing this takes six to twelve minutes
-on four cores, more than half of them for the solvers, and up to four gigabytes of memory; a library that an earlier
+on four cores, more than half of them for the solvers, and up to five gigabytes of memory; a library that an earlier
 run has proved is taken as it is.
 TEXT
 

@@ -14,8 +14,8 @@ use Rattle.flow_net.specs.NodeSets.{one_of, just}
 use Rattle.flow_net.specs.Flows.{flow_over, out_of, into, Fits, IsFeasible, IsGreatest}
 use Rattle.flow_net.specs.Cuts.{leaves, IsCut, capacity, IsMinimumCut}
 use Rattle.flow_net.specs.LeastCuts.{IsLeastCapacity}
-use Rattle.flow_net.specs.Arrangements.{named, renamed, IsArranged, carried, all_named, AgreeOnFlow, AgreeOnNode}
-use Rattle.flow_net.specs.Arrangements.{AgreeOnAll}
+use Rattle.flow_net.specs.Arrangements.{named, renamed, IsNaming, IsArranged, carried, all_named}
+use Rattle.flow_net.specs.Arrangements.{AgreeOnFlow, AgreeOnNode, AgreeOnAll}
 use Rattle.flow_net.proofs.Zips.{arc_within}
 use Rattle.flow_net.proofs.Arrangements.{flow_over_carried, cap_over_arranged, flow_over_agree, cap_over_agree}
 use Rattle.flow_net.proofs.Arrangements.{name_is_node, unnamed, unnamed_named, node_of, one_name, just_named, node_in}
@@ -29,6 +29,41 @@ pub ends_agree : (p q : Arc → Bool) (net : Net) → IsNet net → ((b : Arc) �
 ends_agree p q net r h =
     recursion_from_All (λ b. p b ≡ q b) net.arcs
     (All-weaker (IsArcWithin net.nodes) (λ b. p b ≡ q b) h net.arcs r.arcs_within)
+
+-- the terminals under their new names are terminals of a network with as many nodes
+pub named_terminals : (net other : Net) (names s t : List ℕ) → other.nodes ≡ net.nodes → IsNaming net names
+    → AreTerminals net s t → AreTerminals other (all_named names s) (all_named names t)
+named_terminals net other names s t same naming ends =
+    let some_source = ends.some_source in
+    let some_sink = ends.some_sink in
+    record {
+      some_source = omega (arith, length-map s (named names));
+      some_sink = omega (arith, length-map t (named names));
+      sources_within = all_nodes s ends.sources_within;
+      sinks_within = all_nodes t ends.sinks_within;
+      distinct = subst AreDistinct (map-append (named names) s t) apart;
+    }
+  where
+    all_nodes : (vs : List ℕ) → All (IsNode net) vs → All (IsNode other) (all_named names vs)
+    all_nodes vs h =
+        All-map (IsNode other) (named names) vs
+        (All-weaker (IsNode net) (λ v. IsNode other (named names v))
+        (λ v k.
+        let at = name_is_node net names naming v k in
+        (at.0, omega (arith, at.1))) vs h)
+
+    both : All (IsNode net) (s ++ t)
+    both = All-append (IsNode net) s t ends.sources_within ends.sinks_within
+
+    apart : AreDistinct (map (named names) (s ++ t))
+    apart i j l k e =
+        let size = length-map (s ++ t) (named names) in
+        let in_j : j < length (s ++ t) = omega arith in
+        let in_i : i < length (s ++ t) = omega arith in
+        let here = get_or-map (named names) (s ++ t) i 0 0 in_i in
+        let there = get_or-map (named names) (s ++ t) j 0 0 in_j in
+        ends.distinct i j l in_j
+        (one_name net names naming _ _ (both i 0 in_i) (both j 0 in_j) (sym here ∙ e ∙ there))
 
 module _ (net other : Net) (names places : List ℕ) (a : IsArranged net other names places) (r : IsNet net) where
   arc_there : (j : ℕ) → j < length places → arc_at other j ≡ renamed names (arc_at net (get_or places j 0))
@@ -199,41 +234,7 @@ module _ (net other : Net) (names places : List ℕ) (a : IsArranged net other n
       );
     }
 
-    -- ---- the terminals and the greatest value
-
-    pub named_terminals : AreTerminals other (all_named names s) (all_named names t)
-    named_terminals =
-        let some_source = ends.some_source in
-        let some_sink = ends.some_sink in
-        record {
-          some_source = omega (arith, length-map s (named names));
-          some_sink = omega (arith, length-map t (named names));
-          sources_within = all_nodes s ends.sources_within;
-          sinks_within = all_nodes t ends.sinks_within;
-          distinct = subst AreDistinct (map-append (named names) s t) apart;
-        }
-      where
-        all_nodes : (vs : List ℕ) → All (IsNode net) vs → All (IsNode other) (all_named names vs)
-        all_nodes vs h =
-            All-map (IsNode other) (named names) vs
-            (All-weaker (IsNode net) (λ v. IsNode other (named names v))
-            (λ v k.
-            let nodes = a.nodes in
-            let at = name_is_node net names a.naming v k in
-            (at.0, omega (arith, at.1))) vs h)
-
-        both : All (IsNode net) (s ++ t)
-        both = All-append (IsNode net) s t ends.sources_within ends.sinks_within
-
-        apart : AreDistinct (map (named names) (s ++ t))
-        apart i j l k e =
-            let size = length-map (s ++ t) (named names) in
-            let in_j : j < length (s ++ t) = omega arith in
-            let in_i : i < length (s ++ t) = omega arith in
-            let here = get_or-map (named names) (s ++ t) i 0 0 in_i in
-            let there = get_or-map (named names) (s ++ t) j 0 0 in_j in
-            ends.distinct i j l in_j
-            (one_name net names a.naming _ _ (both i 0 in_i) (both j 0 in_j) (sym here ∙ e ∙ there))
+    -- ---- the greatest value
 
     least_agrees : (k : ℕ) → IsLeastCapacity net (one_of s) (one_of t) k
         → IsLeastCapacity other (one_of (all_named names s)) (one_of (all_named names t)) k
@@ -264,7 +265,9 @@ module _ (net other : Net) (names places : List ℕ) (a : IsArranged net other n
         ↔ IsGreatest other (one_of (all_named names s)) (one_of (all_named names t)) k
     greatest_agrees k =
         let here = terminals_apart net s t ends in
-        let there = terminals_apart other (all_named names s) (all_named names t) named_terminals in
+        let there =
+        terminals_apart other (all_named names s) (all_named names t)
+        (named_terminals net other names s t a.nodes a.naming ends) in
         let s' = one_of (all_named names s) in
         let t' = one_of (all_named names t) in (
           (λ g.
@@ -381,7 +384,7 @@ pub same_arranged : (net other : Net) (names places s t : List ℕ) → IsNet ne
     → AgreeOnAll net other names places s t (all_named names s) (all_named names t)
 same_arranged net other names places s t r ends a = record {
   is_net = arranged_net net other names places a r;
-  terminals = named_terminals net other names places a r s t ends;
+  terminals = named_terminals net other names s t a.nodes a.naming ends;
   greatest = greatest_agrees net other names places a r s t ends;
   flows = flow_agrees net other names places a r s t ends;
   all_flows = λ ys l. carried_from (length net.arcs) places ys a.once l;

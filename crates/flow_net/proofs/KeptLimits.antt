@@ -60,13 +60,12 @@ IsNet-both_ways net h room =
           }) h.arcs_within);
     }
 
--- other names of the nodes keep it
-pub IsNet-renamed : (net : Net) (names : List ℕ) → IsNet net → length names ≡ net.nodes → All (IsNode net) names
-    → IsNet (record net { arcs = map (renamed names) net.arcs })
-IsNet-renamed net names h count within =
+-- an arc under other names of the nodes keeps them
+pub renamed_within : (net : Net) (names : List ℕ) → length names ≡ net.nodes → All (IsNode net) names → (a : Arc)
+    → IsArcWithin net.nodes a → IsArcWithin net.nodes (renamed names a)
+renamed_within net names count within a w =
     let name : (v : ℕ) → 1 ≤ v → v ≤ net.nodes → IsNode net (named names v) =
     λ v least most. within (v - 1) 0 (omega arith) in
-    IsNet-map net (renamed names) h (λ a w.
     let src = name a.src w.src_least w.src_most in
     let dst = name a.dst w.dst_least w.dst_most in
     record {
@@ -75,4 +74,4 @@ IsNet-renamed net names h count within =
       dst_least = dst.0;
       dst_most = dst.1;
       cap_fits = w.cap_fits;
-    })
+    }

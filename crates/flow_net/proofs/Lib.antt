@@ -17,6 +17,5 @@ pub mod ForestLemmas
 pub mod NodeCounts
 pub mod Arrangements
 pub mod ArrangementLaws
-pub mod ArrangedCounts
-pub mod Exchanges
 pub mod Namings
+pub mod Copies

@@ -6,6 +6,15 @@ use Rattle.flow_net.specs.Nets.{Net, IsNode}
 use Rattle.flow_net.specs.Namings.{AreInverse}
 use Rattle.flow_net.specs.Arrangements.{named, all_named, IsNaming}
 
+-- the other way they undo each other too
+pub turned : (n : ℕ) (names nodes : List ℕ) → AreInverse n names nodes → AreInverse n nodes names
+turned n names nodes inverse = record {
+  names_count = inverse.nodes_count;
+  nodes_count = inverse.names_count;
+  of_node = inverse.of_name;
+  of_name = inverse.of_node;
+}
+
 -- each name is a node, and each node a name once
 pub is_naming : (net : Net) (names nodes : List ℕ) → AreInverse net.nodes names nodes → IsNaming net names
 is_naming net names nodes inverse =

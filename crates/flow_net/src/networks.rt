@@ -1,11 +1,9 @@
 //! Networks: a number of nodes and a list of arcs.
 ghost use Rattle.std.specs.Prelude.{◌≡◌, ◌+◌, ◌*◌, ◌<◌, ◌≤◌, ◌↔◌, [], ◌∷◌, ◌++◌, length, map, slice_get, IsTrue, OnOk};
 ghost use Rattle.std.specs.Prelude.{OnErr};
-ghost use Rattle.std.specs.List.{All, swap};
-ghost use Rattle.flow_net.specs.Nets.{Net, IsNode, arc_at};
+ghost use Rattle.flow_net.specs.Nets.{Net, arc_at};
 ghost use Rattle.flow_net.specs.Limits.{IsNet, IsArcWithin};
 ghost use Rattle.flow_net.specs.DerivedNets.{unit, unit_arc, both_ways, reversed};
-ghost use Rattle.flow_net.specs.Arrangements.{renamed};
 
 use crate::limits::{FEWEST_NODES, MOST_ARCS, MOST_ARCS_BOTH_WAYS, MOST_NODES};
 use std::alloc::Global;
@@ -58,6 +56,14 @@ impl Network {
             nodes,
             arcs: Vec::new(alloc),
         }
+    }
+
+    /// A network of these arcs. It takes no memory.
+    pub(crate) fn of_arcs(nodes: u32, arcs: Vec<Arc>) -> Network
+        requires { IsNet (record { nodes = nodes; arcs = arcs.items }) }
+        ensures { result ≡ record { nodes = nodes; arcs = arcs.items } }
+    {
+        Network { nodes, arcs }
     }
 
     /// The number of nodes, which is also the greatest node.
@@ -113,25 +119,6 @@ impl Network {
         Ok(())
     }
 
-    /// Two arcs change places, or one stays where it is. It takes no memory.
-    #[inline(always)]
-    pub fn exchange(&mut self, i: u32, j: u32)
-        requires first { i < length self.old.arcs }
-        requires second { j < length self.old.arcs }
-        ensures { self.new ≡ record self.old { arcs = swap self.old.arcs i j } }
-    {
-        self.arcs.swap(i as usize, j as usize);
-    }
-
-    /// Each end of each arc gets the new name of its node, by a list with a name for each node. It takes no memory.
-    pub fn rename(&mut self, names: &[u32])
-        requires count { length names.now ≡ self.old.nodes }
-        requires nodes { All (IsNode self.old) names.now }
-        ensures { self.new ≡ record self.old { arcs = map (renamed names.now) self.old.arcs } }
-    {
-        rename_ends(&mut self.arcs, names);
-    }
-
     /// The same network with every capacity set to 1, in which a flow counts arcs. It takes no memory.
     pub fn unit(self) -> Network
         ensures { result ≡ unit self }
@@ -163,17 +150,6 @@ fn set_units(arcs: &mut Vec<Arc>)
 {
     for arc in arcs.iter_mut() {
         arc.cap = 1;
-    }
-}
-
-/// Gives each end of each arc its new name.
-fn rename_ends(arcs: &mut Vec<Arc>, names: &[u32])
-    requires { All (IsArcWithin (length names.now)) arcs.old.items }
-    ensures { arcs.new.items ≡ map (renamed names.now) arcs.old.items }
-{
-    for arc in arcs.iter_mut() {
-        arc.src = names[arc.src as usize - 1];
-        arc.dst = names[arc.dst as usize - 1];
     }
 }
 

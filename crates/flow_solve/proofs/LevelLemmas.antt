@@ -6,12 +6,10 @@ pub mod Distances
 pub mod LeastOnPath
 pub mod NearSends
 pub mod PushesAhead
-pub mod Ranks
 pub mod Walks
 pub mod Levelled
 pub mod WalkPaths
 pub mod Turning
 pub mod Carried
-pub mod Entries
 pub mod Settled
 pub mod Border

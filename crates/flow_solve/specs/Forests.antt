@@ -11,7 +11,7 @@ use Rattle.flow_net.specs.NodeSets.{just}
 use Rattle.flow_net.specs.Flows.{out_of, into, IsFeasible}
 use Rattle.flow_net.specs.Connectivity.{leaving, IsProper}
 use Rattle.flow_net.specs.Cuts.{IsCut}
-use Rattle.flow_net.specs.Forests.{entering, AreEntered, HasSpread, IsEven, IsEitherWay, turned}
+use Rattle.flow_net.specs.Forests.{entering, AreEntered, HasSpread, turned}
 use Rattle.flow_net.specs.Limits.{IsNet, IsArcWithin}
 use Rattle.flow_net.specs.Residual.{Table, residual}
 use Rattle.flow_solve.specs.declared.forests.Ground.{Ground}
@@ -32,11 +32,6 @@ pub record HasFallen (net : Net) (before after : ℕ) : Type 0 where
   pub reached : IsReached net after
   pub fewer : after ≤ before
 
--- each set of nodes has an even number of arcs out of it, and as many into it
-pub record IsEulerian (net : Net) : Type 0 where
-  pub even : (X : ℕ → Bool) → IsEven (leaving net X)
-  pub either_way : IsEitherWay net
-
 -- cell v - 1 counts the arcs that leave node v
 abbrev pub AreLeaving : Net → List ℕ → Type 0
 AreLeaving net counts = (i : ℕ) → i < net.nodes → slice_index counts i ≡ leaving net (just (i + 1))
@@ -45,13 +40,6 @@ AreLeaving net counts = (i : ℕ) → i < net.nodes → slice_index counts i ≡
 pub record AreDegrees (net : Net) (out into : List ℕ) : Type 0 where
   pub leaving : AreLeaving net out
   pub entering : (i : ℕ) → i < net.nodes → slice_index into i ≡ entering net (just (i + 1))
-
--- the second half of the arcs are those of the first turned round, in their order
-pub record AreOpposite (arcs : List Arc) : Type 0 where
-  pub even : IsEven (length arcs)
-  pub back : (i : ℕ) → i < length arcs / 2
-      → ((slice_index_or arcs i no_arc).src ≡ (slice_index_or arcs (length arcs / 2 + i) no_arc).dst)
-      × ((slice_index_or arcs i no_arc).dst ≡ (slice_index_or arcs (length arcs / 2 + i) no_arc).src)
 
 -- Where searches go backwards, forests grow along the arcs, and where they go forwards, along the arcs turned round.
 abbrev pub facing : Direction → Net → Net

@@ -26,7 +26,7 @@
 //! | `n` | marks of the nodes that the forest has come to, and of those that a search has seen, as [`marks`] says |
 //! | `n + 1` | where the row of each node begins |
 //! | `m + 4·n + 1` | hints: what searches look at, as [`rows`] says, and four numbers for each node |
-ghost use Rattle.std.specs.Prelude.{◌≡◌, ℕ, ◌+◌, ◌*◌, ◌≤◌, ◌<◌, ◌-◌, IfSome, IsTrue, true, false, if◌then◌else◌};
+ghost use Rattle.std.specs.Prelude.{◌≡◌, ℕ, ◌+◌, ◌*◌, ◌≤◌, ◌<◌, ◌-◌, IfSome, IsTrue, true, false};
 ghost use Rattle.std.specs.Prelude.{List, length};
 ghost use Rattle.std.specs.List.{All};
 ghost use Rattle.flow_net.specs.Nets.{IsNode};
@@ -34,7 +34,7 @@ ghost use Rattle.flow_net.specs.Flows.{Fits};
 ghost use Rattle.flow_net.specs.LeastCuts.{IsConnectivity};
 ghost use Rattle.flow_net.specs.Limits.{IsNet};
 ghost use Rattle.flow_solve.specs.Bounds.{work_cells};
-ghost use Rattle.flow_solve.specs.Forests.{AreAbove, HasFallen, IsEulerian, IsForest, IsGrove, IsReached, IsStand};
+ghost use Rattle.flow_solve.specs.Forests.{AreAbove, HasFallen, IsForest, IsGrove, IsReached, IsStand};
 ghost use Rattle.flow_solve.specs.Forests.{PaysIfAny, at_stage, marked_in};
 
 pub(crate) mod degrees;
@@ -44,7 +44,7 @@ mod marks;
 mod rows;
 
 use crate::residual::half_arcs::Direction;
-use degrees::{are_balanced, are_even, least_and_paired};
+use degrees::{are_balanced, are_opposite, least_degree};
 use flow_net::{FlowTable, Network};
 use growing::{Front, begin, choice_of, grow, grow_from, is_whole, next_node, set_places_back};
 use joining::{Budgeted, raise};
@@ -69,7 +69,8 @@ pub(crate) struct Ground<'a> {
     pub paired: bool,
     /// Whether rows have the numbers of arcs in place of nodes, as [`rows`] says.
     pub numbered: bool,
-    /// Whether nodes have so many arcs that forests go on in a row one behind the other.
+    /// Whether forests go on in a row one behind the other: nodes have many arcs, or few forests need nearly all of
+    /// the arcs one way.
     pub dense: bool,
     /// Whether each arc is there both ways, and few forests need nearly all.
     pub scarce: bool,
@@ -100,8 +101,6 @@ fn begin_forest(
 
 /// Puts down what searches need, unless it is there already. Answers false where the rows tell of no arcs any more.
 fn make_ready(ground: Ground<'_>, ready: bool, rows: &mut [u32], hints: &mut [u32]) -> bool
-    requires rows { length rows.old ≡ length ground.net.now.arcs }
-    requires hints { length hints.old ≡ length ground.net.now.arcs + 4 * ground.net.now.nodes + 1 }
     ensures { IsTrue result → (k c : ℕ) (done : List ℕ) → IsForest (at_stage ground.entry ready) k c rows.old done
         → IsForest (at_stage ground.entry true) k c rows.new done }
 {
@@ -134,9 +133,6 @@ fn complete(
     requires fits { Fits ground.net.now flow.old.flows }
     requires unit { All (λ a. a.cap ≡ 1) ground.net.now.arcs }
     requires stand { IsStand ground done.old }
-    requires size { ground.net.now.nodes ≤ 32 * length seen.old }
-    requires rows { length rows.old ≡ length ground.net.now.arcs }
-    requires hints { length hints.old ≡ length ground.net.now.arcs + 4 * ground.net.now.nodes + 1 }
     requires done { IsTrue (marked_in done.old ground.root) }
     requires forest { IsForest (at_stage ground ready) known.value count rows.old done.old }
     requires reached { IsReached ground.net.now known.value }
@@ -167,18 +163,6 @@ fn complete(
     Some(least)
 }
 
-/// How many forests show that a number is the least: one less where all sets have even numbers.
-fn forests_for(least: u64, is_even: bool) -> u64
-    ensures few { result ≤ least }
-    ensures all { result ≡ least - (if is_even then 1 else 0) }
-{
-    if is_even {
-        least.saturating_sub(1)
-    } else {
-        least
-    }
-}
-
 /// The cells in parts: marks of nodes, where the row of each node begins, and hints.
 fn parted<'a>(net: &Network, cells: &'a mut [u32]) -> (&'a mut [u32], &'a mut [u32], &'a mut [u32])
     requires { 6 * net.now.nodes + length net.now.arcs + 2 ≤ length cells.old }
@@ -202,16 +186,11 @@ fn grow_forests(
     seen: &mut [u32],
     hints: &mut [u32],
     flow: &mut FlowTable,
-    is_even: bool,
     known: Budgeted,
 ) -> Option<Budgeted>
     requires fits { Fits ground.net.now flow.old.flows }
     requires unit { All (λ a. a.cap ≡ 1) ground.net.now.arcs }
     requires stand { IsStand ground done.old }
-    requires size { ground.net.now.nodes ≤ 32 * length seen.old }
-    requires rows { length rows.old ≡ length ground.net.now.arcs }
-    requires hints { length hints.old ≡ length ground.net.now.arcs + 4 * ground.net.now.nodes + 1 }
-    requires even { IsTrue is_even → IsEulerian ground.net.now }
     requires reached { IsReached ground.net.now known.value }
     requires grove { IsGrove (at_stage ground false) known.value 0 rows.old }
     ensures fits { Fits ground.entry.net.now flow.new.flows }
@@ -223,7 +202,7 @@ fn grow_forests(
     let mut ready = false;
     let mut least = known;
     let mut count = 0;
-    while count < forests_for(least.value, is_even) {
+    while count < least.value {
         let front = begin_forest(ground, ready, rows, done, hints, count, least.value);
         if !is_whole(nodes, done) {
             least = complete(
@@ -244,7 +223,6 @@ fn run_pass(
     rows: &mut [u32],
     cells: &mut [u32],
     flow: &mut FlowTable,
-    is_even: bool,
     known: Budgeted,
 ) -> Option<Budgeted>
     requires fits { Fits ground.net.now flow.old.flows }
@@ -253,7 +231,6 @@ fn run_pass(
     requires root { IsNode ground.net.now ground.root }
     requires cells { 6 * ground.net.now.nodes + length ground.net.now.arcs + 2 ≤ length cells.old }
     requires rows { length rows.old ≡ length ground.net.now.arcs }
-    requires even { IsTrue is_even → IsEulerian ground.net.now }
     requires reached { IsReached ground.net.now known.value }
     ensures fits { Fits ground.entry.net.now flow.new.flows }
     ensures above { IfSome result (λ r. AreAbove ground.entry r.value) }
@@ -268,24 +245,7 @@ fn run_pass(
     let (done, seen) = marks.split_at_mut(half);
     unmark_all(seen);
     let ground = Ground { first, ..ground };
-    grow_forests(ground, rows, done, seen, hints, flow, is_even, known)
-}
-
-/// A node that has the most arcs, by the numbers of those that leave each and of those that enter each.
-fn hub(net: &Network, degrees: &[u32]) -> u32
-    requires size { 2 * net.now.nodes ≤ length degrees.now }
-    ensures { IsNode net.now result }
-{
-    let mut best = 0;
-    let mut most = 0;
-    for node in 0..net.nodes() {
-        let count = degrees[node as usize].wrapping_add(degrees[(net.nodes() + node) as usize]);
-        if count > most {
-            best = node;
-            most = count;
-        }
-    }
-    best + 1
+    grow_forests(ground, rows, done, seen, hints, flow, known)
 }
 
 /// Whether a node has more arcs on an average than a number, by more than a thousandth of an arc.
@@ -297,16 +257,6 @@ fn has_more_arcs(net: &Network, least: u64) -> bool {
 /// So many forests at most go first over arcs whose opposite none has taken: with more, what it saves is less than what
 /// it costs to pass over longer rows.
 const MOST_FRESH: u64 = 8;
-
-/// Whether arcs are scarce, where they can be: few forests need nearly all if each node has so many or more.
-fn are_scarce(net: &Network, least: u64, can_be: bool) -> bool {
-    can_be && least <= MOST_FRESH && !has_more_arcs(net, least)
-}
-
-/// Whether nodes have so many arcs that forests go on in a row one behind the other.
-fn is_dense(net: &Network) -> bool {
-    has_more_arcs(net, u64::from(net.nodes()).isqrt())
-}
 
 /// The edge connectivity of a network in which every capacity is 1. It takes at most `budget` looks and pushes, and
 /// answers nothing where these don't suffice or a test fails.
@@ -331,33 +281,34 @@ pub fn connectivity_by_forests(
 {
     let m = net.len() as usize;
     let (rows, cells) = work.split_at_mut(m);
-    let (least, paired) = least_and_paired(net, cells);
+    let least = least_degree(net, cells);
     if least == 0 {
         return Some(0);
     }
     let is_balanced = are_balanced(net, cells);
-    let is_even = are_even(net, cells, paired, is_balanced);
-    let dense = is_dense(net);
+    let paired = are_opposite(net);
+    let is_tight = !has_more_arcs(net, least);
+    let dense = has_more_arcs(net, u64::from(net.nodes()).isqrt()) | (is_tight & !paired);
     let mut ground = Ground {
         net,
-        root: hub(net, cells),
+        root: 1,
         direction: Direction::Backwards,
         first: &[],
         parts: parts_of(net),
         paired,
         numbered: false,
         dense,
-        scarce: are_scarce(net, least, paired & !dense & !is_even),
+        scarce: is_tight & !dense & (least <= MOST_FRESH),
     };
     let start = Budgeted {
         value: least,
         left: budget,
     };
-    let forth = run_pass(ground, rows, cells, flow, is_even, start)?;
+    let forth = run_pass(ground, rows, cells, flow, start)?;
     if is_balanced {
         return Some(forth.value);
     }
     ground.direction = Direction::Forwards;
-    let back = run_pass(ground, rows, cells, flow, false, forth)?;
+    let back = run_pass(ground, rows, cells, flow, forth)?;
     Some(back.value)
 }

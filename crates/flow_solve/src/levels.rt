@@ -1,12 +1,8 @@
 //! The method by levels (Dinitz 1970), in four stages that work on one flow: near sends, then search trees, then waves
-//! of excess where the trees don't finish, then phases. What each brings is told in times that solving alone takes
-//! without it, for networks of 500,000 arcs; docs/BENCHMARKS.md says how a table of all families, stage by family, is
-//! made. Each constant says why it has its value.
+//! of excess where the trees don't finish, then phases.
 //!
 //! 1. **Near sends** (`near_sends`): what can leave a source goes to sinks over one node or two. No tree is there yet
-//!    that a push could break, so they cost no repair. Assignments get most of their flow so, and so does a network
-//!    with an arc from each node to every later one. Without them a densest subgraph takes 1.9 times as long, such a
-//!    network 1.6, evacuations 1.5, matchings 1.4, transports 1.2, and the others about as long as with them.
+//!    that a push could break, so they cost no repair. Assignments get most of their flow so.
 //! 2. **Two trees** (`trees`, `chains`, `orphans`, `forest`, `border`). Search trees grow from the sources and the
 //!    sinks (Boykov and Kolmogorov 2004), from one *active* node after another. Each node in a tree has a *parent*, the
 //!    half-arc that leads towards its root, a *label*, which tells how far that was when it was last looked at, and a
@@ -15,13 +11,10 @@
 //!    node of its tree whose parents lead to a root, unless that moves it much farther from its own. Or else it comes
 //!    free, with its children as orphans in turn, and the tree may come back to it by a shorter way. So no search
 //!    begins anew. When no node is active any more, one pass over the arcs shows that the flow is greatest: nothing
-//!    remains on a half-arc that leads into the tree of the sinks. Where that tree is small, as in evacuations, the
-//!    last search of the phases shows it in less. The trees end by themselves where they bring little for what they
-//!    take: they may take little at first, and more for each half-arc of a path that flow is pushed along, since
-//!    repairs cost the more the longer paths are. That serves where the first paths are short and most of a tree
-//!    outlives a push: images, assignments, closures. Without them evacuations take 10 times as long, images 2 to 6,
-//!    stereo, clouds and volumes 2.1 to 2.5, matchings, densest subgraphs and open pits 1.6 to 1.7, surfaces 1.4,
-//!    transports and wide layers 1.3. They cost a fifth of what communities take.
+//!    remains on a half-arc that leads into the tree of the sinks. The trees may take two steps for each arc, and 512
+//!    more for each path that they find: they go on as long as a path costs them no more than that. That serves where
+//!    most of a tree outlives a push: images, assignments, closures. In a dense network, where a repair passes many
+//!    half-arcs, there are none.
 //! 3. **Waves that lift** (`waves`, `settling`), where the trees had to end before their active nodes ran out. All
 //!    that can leave the sources does, and each node sends what it has received, its *excess*, on to nodes that a
 //!    search has found a level nearer to the sinks, the farthest level first (after Karzanov 1974). A node that is
@@ -30,14 +23,11 @@
 //!    next search, and searches are made anew from time to time (Cherkassky and Goldberg 1997). In the end what no sink
 //!    takes goes home by waves to the sources, and the table is settled: it stays if a feasible flow stands there, and
 //!    is cleared otherwise. So thousands of paths that share most of their half-arcs cost one search and one sweep.
-//!    That serves where ways are long: roads, frames, layers, netlists, chains. Without them netlists take 5.5 times as
-//!    long, roads of one capacity 7, chains 34, and other roads, layers, meshes and frames so long that they were
-//!    stopped, at 3 to 16 times; most others are finished by the trees. Transports take 0.7 of the time without them.
-//! 4. **Phases** (`phases`, `walking`). A search backwards from the sinks ranks the nodes, walks from the sources along
-//!    falling ranks block all shortest paths, and the distance from the sources to the sinks grows by each phase
-//!    (Dinitz 1970). They go on from whatever feasible flow they find, and their last search, which sees no source,
-//!    shows that the flow is greatest. Behind the waves that is mostly their only one, and takes some hundredths of the
-//!    time, in a dense network a third.
+//!    That serves where ways are long: roads, frames, layers, netlists, chains.
+//! 4. **Phases** (`phases`, `walking`). A search backwards from the sinks tells how far each node is, walks from the
+//!    sources along falling distances block all shortest paths, and the distance from the sources to the sinks grows by
+//!    each phase (Dinitz 1970). They go on from whatever feasible flow they find, and their last search, which sees no
+//!    source, shows that the flow is greatest. Behind the waves that is mostly their only one.
 //!
 //! Nodes with excess are lifted, and yet this is no push-relabel method: to lift is the business of a stage, which
 //! hands on a feasible flow or none, and the phases carry the proof and the bound whatever it does. Nothing is claimed
@@ -45,31 +35,28 @@
 //! source to a sink isn't kept, and it is tested that they are finished. Of waves no more is claimed than what their
 //! end tests. A stage may leave wherever it is.
 //!
-//! In pictures near sends and trees work in rows of *entries* (`rows`, `entries`): one for an arc and its opposite,
-//! where these stand side by side, and none for what leads to a terminal, so that half as much is gone over. Where the
-//! trees finish nothing else is packed; the later stages want each half-arc in its row, and pack anew. Elsewhere all
-//! stages share the packed half-arcs, each of which is an entry by itself.
+//! Near sends and trees work in rows of *entries* (`rows`, `entries`): one for an arc and its opposite, where these
+//! stand side by side. Where the trees finish nothing else is packed; the later stages want each half-arc in its row,
+//! and pack anew. In a dense network the half-arcs serve the near sends too.
 //!
-//! What near sends and trees take is counted off an allowance of 128 steps for each arc, and what the waves take off
-//! the rest of `n²·m`, at most 1024 steps for each arc in each direction; a half-arc that is passed by without a look,
-//! or a node that is walked over, counts as a step too. The phases take at most `3·n²·m` from any feasible flow, so
-//! that all stay within `4·n²·m` for each network.
+//! What near sends and trees take is counted off an allowance of 48 steps for each arc, and what the waves take off the
+//! rest of `n²·m`, at most 1024 steps for each arc in each direction; a half-arc that is passed by without a look, or a
+//! node that is walked over, counts as a step too. The phases take at most `3·n²·m` from any feasible flow, so that all
+//! stay within `4·n²·m` for each network.
 //!
-//! In a dense network the phases follow the near sends. The trees grow no farther than until the nearest source and
-//! sink are found to be far apart, since then much flow goes far, and paths one by one bring little. There the waves
-//! begin. Where much goes through few half-arcs at the sources or at the sinks, as in frames, a shorter way counts as
-//! far.
+//! The trees end at once where the nearest source and sink are found to be far apart, since then much flow goes far,
+//! and paths one by one bring little. There the waves begin.
 ghost use Rattle.std.specs.Prelude.{◌≡◌, ◌+◌, ◌*◌, ◌≤◌, IsFalse, IsTrue, drop, length};
 ghost use Rattle.flow_net.specs.Limits.{AreTerminals};
 ghost use Rattle.flow_net.specs.NodeSets.{one_of};
 ghost use Rattle.flow_net.specs.Flows.{Fits, IsGreatest};
 ghost use Rattle.flow_net.specs.LeastCuts.{IsLeastCapacity};
 ghost use Rattle.flow_solve.specs.Bounds.{levels_bound, openings_bound, phases_bound, work_cells};
-ghost use Rattle.flow_solve.specs.residual.Packs.{ArePackedBehind, IsPacked};
+ghost use Rattle.flow_solve.specs.residual.Packs.{ArePackedBehind};
 ghost use Rattle.flow_solve.specs.Solving.{IsFlow};
 ghost use Rattle.flow_solve.specs.Steps.{PaysSteps, TakesSteps};
 ghost use Rattle.flow_solve.specs.Task.{HasFlow, IsTask};
-ghost use Rattle.flow_solve.specs.levels.Entries.{HasRows, HasRowsBehind, IsOpening};
+ghost use Rattle.flow_solve.specs.levels.Entries.{HasRowsBehind, IsOpening};
 ghost use Rattle.flow_solve.specs.levels.Trees.{HasNoMore};
 
 pub(crate) mod entries;
@@ -82,30 +69,26 @@ mod walking;
 pub(crate) mod waves;
 
 use crate::method::{Method, work_len};
-use crate::residual::packing::{Packed, halves_in, pack, pack_behind};
+use crate::residual::packing::{Packed, halves_in, pack_behind};
 use crate::solving::{Raise, raise_packed};
 use crate::task::{Given, Sent, Task};
 use flow_net::{FlowTable, Network};
 use near_sends::send_near;
 use phases::run_phases;
-use rows::{is_like_a_picture, mark_terminals, pack_rows};
+use rows::{mark_between, pack_rows};
 use trees::grow_trees;
 use waves::send_waves;
 
-/// The most arcs for each node with which stages repair: a repair of a tree, and a lift, pass all half-arcs of a node.
-/// The sparse networks that were measured have at most ten and the dense ones hundreds, so that it could be any number
-/// between.
+/// The most arcs for each node with which trees grow, since a repair of a tree passes all half-arcs of a node.
 const MOST_DEGREE: u32 = 32;
 
-/// Whether a network has too many arcs for each node for stages that repair.
+/// Whether a network has too many arcs for each node for trees.
 fn is_dense(net: &Network) -> bool {
     net.len() / MOST_DEGREE > net.nodes()
 }
 
-/// How many times the number of arcs the first stages may take, in steps and in half-arcs that they pass by. Mostly the
-/// trees are finished or tired long before; the most that was seen is 64 on a large volume, and to end them just before
-/// they are finished would cost the waves as much again.
-const OPENING_SHARE: u64 = 128;
+/// How many times the number of arcs near sends and trees may take, in steps and in half-arcs that they pass by.
+const OPENING_SHARE: u64 = 48;
 
 /// How much the first stages may take.
 pub fn allowance(net: &Network) -> u64
@@ -115,9 +98,8 @@ pub fn allowance(net: &Network) -> u64
     (n * n).min(OPENING_SHARE) * u64::from(net.len())
 }
 
-/// How many times the number of arcs the next stage may take at most: 1024 in each direction, and the looks that settle
-/// its table. Wide frames take the most of all that was measured, some 140, so that it bounds no more than what is lost
-/// where waves bring nothing.
+/// How many times the number of arcs the waves may take: 1024 in each direction, and the looks that settle their table.
+/// It bounds what is lost where they bring nothing.
 const REST_SHARE: u64 = 2 * 1024 + 1;
 
 /// How much the waves may take of what is left of `n²·m`, in 64 bits.
@@ -142,8 +124,7 @@ struct Opened {
     is_finished: bool,
 }
 
-/// Raises a flow of some value by near sends, and where the network isn't dense by trees. Where these have ended no
-/// path is left for the waves, so that they may take nothing.
+/// Raises a flow of some value by near sends, and where the network isn't dense by trees.
 fn begin(task: Task<'_>, flow: &mut FlowTable, cells: &mut [u32], value: u128) -> Opened
     requires task { IsOpening task }
     requires cells { length cells.old ≡ 5 * task.packed.net.now.nodes }
@@ -154,12 +135,13 @@ fn begin(task: Task<'_>, flow: &mut FlowTable, cells: &mut [u32], value: u128) -
 {
     let net = task.packed.net;
     let given = allowance(net);
+    let left = share_of_rest(net, given);
     let sent = send_near(task, flow, cells, Sent { value, left: given });
     if is_dense(net) {
         return Opened {
             sent: Sent {
                 value: sent.value,
-                left: 0,
+                left,
             },
             is_finished: false,
         };
@@ -168,33 +150,14 @@ fn begin(task: Task<'_>, flow: &mut FlowTable, cells: &mut [u32], value: u128) -
     Opened {
         sent: Sent {
             value: grown.value,
-            left: if grown.has_ended {
-                0
-            } else {
-                share_of_rest(net, given)
-            },
+            left,
         },
         is_finished: grown.is_finished,
     }
 }
 
-/// Packs rows of entries for the first stages, where these serve better, or else half-arcs. Answers whether it is rows.
-fn pack_either(net: &Network, marks: &[u32], first: &mut [u32], halves: &mut [u32]) -> bool
-    requires marks { length marks.now ≡ net.now.nodes }
-    requires firsts { length first.old ≡ net.now.nodes + 1 }
-    requires halves { length halves.old ≡ 2 * length net.now.arcs }
-    ensures rows { HasRows net.now first.new halves.new }
-    ensures packed { IsFalse result → IsPacked net.now first.new halves.new }
-{
-    if is_like_a_picture(net, marks) {
-        pack_rows(net, marks, first, halves);
-        return true;
-    }
-    pack(net, first, halves);
-    false
-}
-
-/// Packs the cells of a solver for the first stages. Answers whether it is rows that stand there, or half-arcs.
+/// Packs the cells of a solver for the first stages: rows of entries, or half-arcs in a dense network, where no trees
+/// grow. Answers whether it is rows.
 fn pack_first(given: Given<'_>, work: &mut [u32]) -> bool
     requires terminals { AreTerminals given.net.now given.s.now given.t.now }
     requires cells { work_cells given.net.now ≤ length work.old }
@@ -203,14 +166,19 @@ fn pack_first(given: Given<'_>, work: &mut [u32]) -> bool
     ensures rest { drop (work_cells given.entry.net.now) work.new ≡ drop (work_cells given.entry.net.now) work.old }
 {
     let Given { net, s, t } = given;
+    if is_dense(net) {
+        pack_behind(net, work);
+        return false;
+    }
     let n = net.nodes() as usize;
     let (own, _rest) = work.split_at_mut(work_len(net.nodes(), net.len()));
     let (cells, behind) = own.split_at_mut(5 * n);
     let (first, behind) = behind.split_at_mut(n + 1);
     let (halves, _spare) = behind.split_at_mut(2 * net.len() as usize);
     let (marks, _free) = cells.split_at_mut(n);
-    mark_terminals(net, s, t, marks);
-    pack_either(net, marks, first, halves)
+    mark_between(net, s, t, marks);
+    pack_rows(net, marks, first, halves);
+    true
 }
 
 /// Raises the flow that carries nothing by the first stages, over the rows that stand in the cells.
@@ -234,9 +202,8 @@ fn begin_packed(given: Given<'_>, flow: &mut FlowTable, work: &mut [u32]) -> Ope
     begin(Task { packed, s, t }, flow, cells, 0)
 }
 
-/// Augments along shortest paths, level by level, in phases: a search backwards from the sinks ranks the nodes, the
-/// nearest first, and walks from the sources along falling ranks block all shortest paths. It takes at most `4·n²·m`
-/// steps.
+/// Augments along shortest paths, level by level, in phases: a search backwards from the sinks tells how far each node
+/// is, and walks from the sources along falling distances block all shortest paths. It takes at most `4·n²·m` steps.
 pub struct Levels;
 
 impl Raise for Levels {
@@ -258,7 +225,7 @@ struct Ran {
     is_packed: bool,
 }
 
-/// Runs the stages, the first ones over rows of entries where these serve better.
+/// Runs the stages.
 fn run_stages(given: Given<'_>, flow: &mut FlowTable, work: &mut [u32]) -> Ran
     requires fits { Fits given.net.now flow.old.flows }
     requires terminals { AreTerminals given.net.now given.s.now given.t.now }

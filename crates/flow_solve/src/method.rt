@@ -22,13 +22,25 @@ pub trait Method {
     /// How many steps it takes at most, for each network.
     ghost steps_bound: { Net → ℕ };
 
-    /// How many steps a quicker way may be tried for before this one is called: no more than the bound.
-    fn spare_steps(net: &Network) -> u64
-        ensures { result ≤ steps_bound net.now };
-
     /// Leaves a feasible flow of the greatest value in the table, with nothing on self-loops, and answers that value.
-    /// Whatever flow the table carries is cleared first. `s` has the sources and `t` the sinks. What the cells hold
-    /// afterwards isn't told.
+    /// Whatever flow the table carries is cleared first. `s` has the sources and `t` the sinks. The half-arcs are left
+    /// packed in `work`, for whoever searches on.
+    fn greatest(net: &Network, s: &[u32], t: &[u32], flow: &mut FlowTable, work: &mut [u32]) -> u128
+        requires fits { Fits net.now flow.old.flows }
+        requires terminals { AreTerminals net.now s.now t.now }
+        requires cells { work_cells net.now ≤ length work.old }
+        ensures feasible { IsFeasible net.now (one_of s.now) (one_of t.now) flow.new.flows }
+        ensures value { HasValue net.now (one_of s.now) flow.new.flows result }
+        ensures greatest { IsGreatest net.now (one_of s.now) (one_of t.now) result }
+        ensures least { IsLeastCapacity net.now (one_of s.now) (one_of t.now) result }
+        ensures loops { HasNoLoops net.now flow.new.flows }
+        ensures never_lowered { flow.old.steps ≤ flow.new.steps }
+        ensures steps { flow.new.steps ≤ flow.old.steps + steps_bound net.now }
+        ensures packed { ArePackedBehind net.now work.new }
+        ensures rest { drop (work_cells net.now) work.new ≡ drop (work_cells net.now) work.old };
+
+    /// As [`greatest`](Method::greatest), for whoever wants no more than the flow: what the cells hold afterwards isn't
+    /// told, so that a method may leave the packing undone.
     fn greatest_flow(
         net: &Network,
         s: &[u32],
@@ -46,20 +58,16 @@ pub trait Method {
         ensures loops { HasNoLoops net.now flow.new.flows }
         ensures never_lowered { flow.old.steps ≤ flow.new.steps }
         ensures steps { flow.new.steps ≤ flow.old.steps + steps_bound net.now }
-        ensures rest { drop (work_cells net.now) work.new ≡ drop (work_cells net.now) work.old };
+        ensures rest { drop (work_cells net.now) work.new ≡ drop (work_cells net.now) work.old }
+    {
+        Self::greatest(net, s, t, flow, work)
+    }
 
-    /// As [`greatest_flow`](Method::greatest_flow), and leaves the half-arcs packed in `work`, for whoever searches on.
-    fn greatest(net: &Network, s: &[u32], t: &[u32], flow: &mut FlowTable, work: &mut [u32]) -> u128
-        requires fits { Fits net.now flow.old.flows }
-        requires terminals { AreTerminals net.now s.now t.now }
-        requires cells { work_cells net.now ≤ length work.old }
-        ensures feasible { IsFeasible net.now (one_of s.now) (one_of t.now) flow.new.flows }
-        ensures value { HasValue net.now (one_of s.now) flow.new.flows result }
-        ensures greatest { IsGreatest net.now (one_of s.now) (one_of t.now) result }
-        ensures least { IsLeastCapacity net.now (one_of s.now) (one_of t.now) result }
-        ensures loops { HasNoLoops net.now flow.new.flows }
-        ensures never_lowered { flow.old.steps ≤ flow.new.steps }
-        ensures steps { flow.new.steps ≤ flow.old.steps + steps_bound net.now }
-        ensures packed { ArePackedBehind net.now work.new }
-        ensures rest { drop (work_cells net.now) work.new ≡ drop (work_cells net.now) work.old };
+    /// How many steps a quicker way may be tried for before this one is called: no more than the bound. A method that
+    /// says nothing has none to spare.
+    fn spare_steps(net: &Network) -> u64
+        ensures { result ≤ steps_bound net.now }
+    {
+        0
+    }
 }

@@ -176,16 +176,6 @@ impl Method for Paths {
         u64::from(net.nodes()) * u64::from(net.len())
     }
 
-    fn greatest_flow(
-        net: &Network,
-        s: &[u32],
-        t: &[u32],
-        flow: &mut FlowTable,
-        work: &mut [u32],
-    ) -> u128 {
-        Paths::greatest(net, s, t, flow, work)
-    }
-
     fn greatest(
         net: &Network,
         s: &[u32],

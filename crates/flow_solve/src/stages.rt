@@ -3,7 +3,7 @@
 pub use crate::levels::allowance;
 pub use crate::levels::near_sends::send_near;
 pub use crate::levels::phases::run_phases;
-pub use crate::levels::rows::{is_like_a_picture, mark_terminals, pack_rows};
+pub use crate::levels::rows::{mark_terminals, pack_rows};
 pub use crate::levels::trees::{Reached, grow_trees};
 pub use crate::levels::waves::send_waves;
 pub use crate::residual::packing::{Packed, pack};

@@ -4,7 +4,7 @@ ghost use Rattle.std.specs.Prelude.{take, drop};
 ghost use Rattle.flow_net.specs.NodeSets.{one_of};
 ghost use Rattle.flow_net.specs.Limits.{AreTerminals, AreDistinct};
 ghost use Rattle.std.specs.List.{All};
-ghost use Rattle.flow_solve.specs.Bounds.{work_cells};
+ghost use Rattle.flow_solve.specs.Bounds.{paths_bound, work_cells};
 ghost use Rattle.flow_solve.specs.Solving.{IsFlow};
 ghost use Rattle.flow_solve.specs.Task.{HasFlow, IsTask};
 ghost use Rattle.flow_solve.specs.levels.Entries.{IsOpening};
@@ -106,6 +106,23 @@ fn add(net: &mut Network, src: u32, dst: u32, cap: u64) -> bool {
     }
 }
 
+/// A method with no more than each must say: its bound on steps, and `greatest`.
+struct Plain;
+
+impl Method for Plain {
+    ghost steps_bound = { paths_bound };
+
+    fn greatest(
+        net: &Network,
+        s: &[u32],
+        t: &[u32],
+        flow: &mut FlowTable,
+        work: &mut [u32],
+    ) -> u128 {
+        Paths::greatest(net, s, t, flow, work)
+    }
+}
+
 /// What the solvers say of a network: whether they and their searches agree, whether the empty flow can be raised, the
 /// greatest value, the least source side and the least sink side.
 #[derive(Clone, Copy)]
@@ -156,7 +173,7 @@ fn run_solvers(net: &Network, s: &[u32], t: &[u32], flow: &mut FlowTable) -> Ans
     };
     let before = searches(net, s, t, flow, &mut work, &mut answer);
     answer.rises = before[0];
-    answer.value = Paths::greatest(net, s, t, flow, &mut work);
+    answer.value = Plain::greatest_flow(net, s, t, flow, &mut work);
     let same = Levels::greatest(net, s, t, flow, &mut work);
     let after = searches(net, s, t, flow, &mut work, &mut answer);
     answer.agree = before == [answer.rises; 3]
@@ -209,7 +226,7 @@ fn cuts_agree(
     let mut side = [true; 6];
     let mut back = [true; 6];
     let near_sources = cut_nearest_sources::<Levels>(net, s, t, flow, work, &mut side[..n]);
-    let near_sinks = cut_nearest_sinks::<Paths>(net, s, t, flow, work, &mut back[..n]);
+    let near_sinks = cut_nearest_sinks::<Plain>(net, s, t, flow, work, &mut back[..n]);
     let value = answer.value;
     near_sources == value && near_sinks == value && side == answer.side && back == answer.back
 }

@@ -1,13 +1,11 @@
--- How many arcs leave and enter each node, and what that says of sets of nodes.
-use Rattle.std.proofs.Common.{◌≡◌, ◌≢◌, ℕ, suc, ◌+◌, ◌-◌, ◌/◌, ◌≤◌, ◌<◌, Bool, true, false, cond, not, ◌&&◌, eqb}
-use Rattle.std.proofs.Common.{List, [], ◌∷◌, length, take, drop, set, get_or, refl, ◌∙◌, sym, ap, inl, inr, eq-eqb}
-use Rattle.std.proofs.Common.{get_or-set_same, get_or-set_other, length-take, length-drop, arith}
+-- How many arcs leave and enter each node, and what that says of the set of one node and of all others.
+use Rattle.std.proofs.Common.{◌≡◌, ◌≢◌, ℕ, ◌+◌, ◌-◌, ◌≤◌, ◌<◌, Bool, true, false, not, ◌&&◌, eqb}
+use Rattle.std.proofs.Common.{List, length, take, set, get_or, refl, ◌∙◌, sym, ap, inl, inr, eq-eqb}
+use Rattle.std.proofs.Common.{get_or-set_same, get_or-set_other, arith}
 use Rattle.std.specs.Prelude.{slice_index}
 use Rattle.std.specs.List.{count_by}
 use Rattle.std.proofs.lemmas.Bool.{cases_eq, ne_eqb}
-use Rattle.std.proofs.lemmas.List.{take-append-drop, get_or-drop, get_or-take}
-use Rattle.std.proofs.lemmas.List.Elements.{All-take}
-use Rattle.std.proofs.lemmas.List.Sums.{sum_by-cons, sum_by-append, count_by_more_no}
+use Rattle.std.proofs.lemmas.List.Sums.{count_by_more_no}
 use Rattle.std.proofs.lemmas.List.Sums.{count_by_more_yes}
 use Rattle.flow_net.specs.declared.networks.Arc.{Arc}
 use Rattle.flow_net.specs.Nets.{Net, IsNode}
@@ -15,12 +13,11 @@ use Rattle.flow_net.specs.Arcs.{no_arc, enters}
 use Rattle.flow_net.specs.Limits.{IsNet, IsArcWithin}
 use Rattle.flow_net.specs.NodeSets.{just}
 use Rattle.flow_net.specs.Cuts.{leaves}
-use Rattle.flow_net.specs.Connectivity.{leaving, crossing, IsProper}
-use Rattle.flow_net.specs.Forests.{entering, IsEven, IsEitherWay}
-use Rattle.flow_net.proofs.Complements.{count_by_agree, leaves_others, enters_others, crossing_sum}
+use Rattle.flow_net.specs.Connectivity.{leaving, IsProper}
+use Rattle.flow_net.specs.Forests.{entering}
+use Rattle.flow_net.proofs.Complements.{count_by_agree, leaves_others}
 use Rattle.flow_net.proofs.Connections.{just_self}
-use Rattle.flow_net.proofs.NodeCounts.{even_sets}
-use Rattle.flow_solve.specs.Forests.{AreDegrees, AreOpposite, IsEulerian}
+use Rattle.flow_solve.specs.Forests.{AreDegrees}
 
 -- ---- degrees
 
@@ -140,98 +137,3 @@ degree_into net v out into at d =
     let low = at.0 in
     let high = at.1 in
     d.entering (v - 1) (omega arith) ∙ ap (λ w. entering net (just w)) (omega arith)
-
--- ---- networks both ways
-
--- the arcs of the first half, and those that are opposite to them
-same_counts : (X : ℕ → Bool) (arcs bs : List Arc) → length arcs ≡ length bs
-    → ((i : ℕ) → i < length arcs → ((get_or arcs i no_arc).src ≡ (get_or bs i no_arc).dst)
-    × ((get_or arcs i no_arc).dst ≡ (get_or bs i no_arc).src))
-    → count_by (leaves X) bs ≡ count_by (enters X) arcs
-same_counts X [] [] e h = refl
-same_counts X [] (b ∷ bs) e h = absurd (omega arith)
-same_counts X (a ∷ arcs) [] e h = absurd (omega arith)
-same_counts X (a ∷ arcs) (b ∷ bs) e h =
-    let ends = h 0 (omega arith) in
-    omega (
-      arith,
-      sum_by-cons (λ c. cond (leaves X c) 1 0) b bs,
-      sum_by-cons (λ c. cond (enters X c) 1 0) a arcs,
-      same_counts X arcs bs (omega arith) (λ i l. h (suc i) (omega arith)),
-      one (X a.src) (X a.dst) (X b.src) (X b.dst) (ap X ends.0) (ap X ends.1),
-    )
-  where
-    one : (p q r s : Bool) → p ≡ s → q ≡ r
-        → ◌≡◌ {A = ℕ} (cond (r && not s) 1 0) (cond (q && not p) 1 0)
-    one p q r s e f = grind arith
-
-module _ (net : Net) (o : AreOpposite net.arcs) where
-  abbrev half : ℕ
-  half = length net.arcs / 2
-
-  -- the network of the first half of the arcs
-  abbrev one_way : Net
-  one_way = record { nodes = net.nodes; arcs = take half net.arcs }
-
-  sizes : length (take half net.arcs) ≡ length (drop half net.arcs)
-  sizes = omega (arith, o.even.1, length-take half net.arcs, length-drop half net.arcs)
-
-  back : (i : ℕ) → i < length (take half net.arcs)
-      → ((get_or (take half net.arcs) i no_arc).src ≡ (get_or (drop half net.arcs) i no_arc).dst)
-      × ((get_or (take half net.arcs) i no_arc).dst ≡ (get_or (drop half net.arcs) i no_arc).src)
-  back i l =
-      let below : i < half = omega (arith, length-take half net.arcs) in
-      let there = get_or-take half net.arcs i no_arc below in
-      let here = get_or-drop half net.arcs i no_arc in
-      let b = o.back i below in (
-        ap (λ (a : Arc). a.src) there ∙ b.0 ∙ sym (ap (λ (a : Arc). a.dst) here),
-        ap (λ (a : Arc). a.dst) there ∙ b.1 ∙ sym (ap (λ (a : Arc). a.src) here),
-      )
-
-  -- what leaves a set leaves or enters it in the first half
-  leaves_both : (X : ℕ → Bool) → count_by (leaves X) net.arcs
-      ≡ count_by (leaves X) (take half net.arcs) + count_by (enters X) (take half net.arcs)
-  leaves_both X =
-      omega (
-        arith,
-        ap (count_by (leaves X)) (take-append-drop half net.arcs),
-        sum_by-append (λ a. cond (leaves X a) 1 0) (take half net.arcs) (drop half net.arcs),
-        same_counts X (take half net.arcs) (drop half net.arcs) sizes back,
-      )
-
-  -- and so does what enters it: all but the set
-  enters_both : (X : ℕ → Bool) → count_by (enters X) net.arcs
-      ≡ count_by (leaves X) (take half net.arcs) + count_by (enters X) (take half net.arcs)
-  enters_both X =
-      let rest : ℕ → Bool = λ v. not (X v) in
-      omega (
-        arith,
-        count_by_agree (leaves rest) (enters X) net.arcs (leaves_others X),
-        leaves_both rest,
-        count_by_agree (leaves rest) (enters X) (take half net.arcs) (leaves_others X),
-        count_by_agree (enters rest) (leaves X) (take half net.arcs) (enters_others X),
-      )
-
-  -- so as many enter a set as leave it
-  pub opposite_same : (X : ℕ → Bool) → leaving net X ≡ entering net X
-  opposite_same X = leaves_both X ∙ sym (enters_both X)
-
-  leaving_crossing : (X : ℕ → Bool) → leaving net X ≡ crossing one_way X
-  leaving_crossing X = omega (arith, leaves_both X, crossing_sum X one_way.arcs)
-
-  one_way_limits : IsNet net → IsNet one_way
-  one_way_limits n = record {
-    nodes_least = n.nodes_least;
-    nodes_most = n.nodes_most;
-    arcs_most = omega (arith, n.arcs_most, length-take half net.arcs);
-    arcs_within = All-take (IsArcWithin net.nodes) half net.arcs n.arcs_within;
-  }
-
-  pub eulerian : IsNet net → IsEitherWay net → ((v : ℕ) → IsNode net v → IsEven (leaving net (just v))) → IsEulerian net
-  eulerian n either even = record {
-    even = λ X.
-        (let e = even_sets one_way (one_way_limits n)
-        (λ v at. (let d = even v at in (d.0, sym (leaving_crossing (just v)) ∙ d.1))) X in
-        (e.0, leaving_crossing X ∙ e.1));
-    either_way = either;
-  }

@@ -1,12 +1,12 @@
 -- Marks of nodes, in bits of cells: one is set, and the others stay.
-use Rattle.std.proofs.Common.{◌≡◌, ◌≢◌, ℕ, zero, suc, ◌+◌, ◌-◌, ◌*◌, ◌/◌, ◌%◌, ◌^◌, ◌≤◌, ◌<◌, ◌⊎◌, Bool, true, false}
+use Rattle.std.proofs.Common.{◌≡◌, ◌≢◌, ℕ, zero, suc, ◌-◌, ◌*◌, ◌/◌, ◌%◌, ◌^◌, ◌≤◌, ◌<◌, ◌⊎◌, Bool, true, false}
 use Rattle.std.proofs.Common.{eqb, not, ◌&&◌, List, length, get_or, set, refl, ◌∙◌, sym, ap, subst, inl, inr, arith}
 use Rattle.std.proofs.Common.{get_or-set_same, get_or-set_other, eq-eqb}
 use Rattle.std.specs.Int.{bit_at, w32}
 use Rattle.std.specs.Int.RustNames.{bit_or}
 use mir.Val.{bits}
 use Rattle.std.proofs.lemmas.Bool.{cases_eq}
-use Rattle.std.proofs.lemmas.Nat.Bits.{bit_at_ones, bit_at_set_same, bit_at_set_other}
+use Rattle.std.proofs.lemmas.Nat.Bits.{bit_at_set_same, bit_at_set_other}
 use Rattle.flow_solve.specs.Forests.{marked_in, seen_in, HasMarked}
 
 -- a bit of a cell is set
@@ -50,17 +50,6 @@ marked cells (suc b) l m =
     other : (v : ℕ) → v ≢ suc b → marked_in (with_bit cells b) v ≡ marked_in cells v
     other zero d = refl
     other (suc c) d = bit_other cells b (omega arith) c (λ e. d (omega (arith, e)))
-
--- a cell that has all its bits marks all its nodes
-pub full_marked : (cells : List ℕ) (p v : ℕ) → get_or cells p 0 ≡ 4294967295 → 32 * p < v → v ≤ 32 * p + 32
-    → marked_in cells v ≡ true
-full_marked cells p zero e l m = absurd (omega arith)
-full_marked cells p (suc b) e l m =
-    eq-eqb (bit_at (get_or cells (b / 32) 0) (b % 32)) 1
-    (ap (λ z. bit_at z (b % 32)) (ap (λ q. get_or cells q 0) here ∙ e) ∙ bit_at_ones 32 (b % 32) (omega arith))
-  where
-    here : b / 32 ≡ p
-    here = omega (arith, l, m)
 
 -- a node that is marked, beside those that were before
 pub mark_set : (w : ℕ) (before after : List ℕ) (v : ℕ) → HasMarked w before after → marked_in after v ≡ true

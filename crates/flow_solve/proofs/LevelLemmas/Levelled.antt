@@ -1,4 +1,4 @@
--- The ranks and levels that a search backwards gives.
+-- The levels that a search backwards gives.
 use Rattle.std.proofs.Common.{◌≡◌, ◌≢◌, ℕ, zero, suc, ◌+◌, ◌-◌, ◌*◌, ◌≤◌, ◌<◌, ◌⊎◌, Bool, true, false, IsTrue, IsFalse}
 use Rattle.std.proofs.Common.{cond, eqb, ◌||◌, List, [], ◌∷◌, length, get_or, refl, ◌∙◌, sym, ap, subst, inl, inr}
 use Rattle.std.proofs.Common.{arith}
@@ -10,19 +10,18 @@ use Rattle.flow_net.specs.Limits.{IsNet}
 use Rattle.flow_net.specs.NodeSets.{one_of}
 use Rattle.flow_net.specs.Residual.{tail_of, head_of, residual}
 use Rattle.flow_net.proofs.Zips.{tail_is_node}
-use Rattle.flow_solve.specs.declared.residual.searching.TheConstants.{FAR, WANTED}
+use Rattle.flow_solve.specs.declared.residual.searching.TheConstants.{WANTED}
 use Rattle.flow_solve.specs.declared.residual.half_arcs.Direction.TheVariants.{Backwards}
 use Rattle.flow_solve.specs.residual.Packs.{group_of}
 use Rattle.flow_solve.specs.residual.HalfArcs.{twin_of}
 use Rattle.flow_solve.specs.residual.Searches.{seen, IsMarked, IsDone, IsSearched, IsCount, IsQueue, wanted_at}
 use Rattle.flow_solve.specs.levels.Phases.{cell_of, AreSinks, IsOrdered, IsGentle, IsLevelled, AreLevels}
-use Rattle.flow_solve.proofs.ResidualLemmas.Queues.{total, spread_most, spread_missing, queue_short}
+use Rattle.flow_solve.proofs.ResidualLemmas.Queues.{total, spread_most, spread_missing}
 use Rattle.flow_net.proofs.NodeLists.{place_in}
-use Rattle.flow_solve.proofs.ResidualLemmas.Searched.{seen_marked, marked_seen, unmarked_unseen, some_seen}
+use Rattle.flow_solve.proofs.ResidualLemmas.Searched.{seen_marked, marked_seen, some_seen}
 use Rattle.flow_solve.proofs.ResidualLemmas.Crossings.{twin_twin, crossed_within, tail_group, tail_twin, head_twin}
 use Rattle.flow_solve.proofs.ResidualLemmas.Routes.{sink_at}
 use Rattle.flow_solve.proofs.LevelLemmas.Places.{cell_at}
-use Rattle.flow_solve.proofs.LevelLemmas.Ranks.{IsRank}
 
 -- ---- the sources that were seen are counted
 
@@ -185,21 +184,7 @@ gentle_levels net s t xs dist via top n f b h l r = elim (cases_eq (tail_of net 
   ]
 ]
 
--- ---- the ranks
-
--- what the pass over the queue leaves
-pub record HasRanks (net : Net) (dist queue rank : List ℕ) (tail : ℕ) : Type 0 where
-  pub order : IsQueue dist queue tail
-  pub dist_size : length dist ≡ net.nodes
-  pub ranked : (i : ℕ) → i < tail → slice_index rank (slice_index queue i) < tail
-  pub ranks : (p : ℕ) → p < net.nodes → (slice_index rank p ≡ FAR) ⊎ IsRank queue rank tail p
-
-unmarked_rank : (net : Net) (dist queue rank : List ℕ) (tail p : ℕ) → HasRanks net dist queue rank tail → p < net.nodes
-    → WANTED ≤ slice_index dist p → slice_index rank p ≡ FAR
-unmarked_rank net dist queue rank tail p r l m = elim (r.ranks p l) [
-  | inl none ↦ none
-  | inr k ↦ absurd (omega (arith, r.order.marks (slice_index rank p) k.0, ap (slice_index dist) k.1))
-]
+-- ---- the distances
 
 -- the sinks are at distance 0, and no others
 zero_sink : (net : Net) (t xs dist via : List ℕ) (v : ℕ) → IsSearched net xs Backwards t dist via → All (IsNode net) t
@@ -218,98 +203,60 @@ sinks_at net t xs dist via f nodes v i =
       (λ e. sink_at v f i.0 i.1 (omega arith) (omega arith)),
     )
 
--- a queue whose places have their ranks
-module _ {net : Net} {dist queue rank : List ℕ} {tail : ℕ} (n : IsNet net) (r : HasRanks net dist queue rank tail) where
-  marked_rank : (p : ℕ) → p < net.nodes → IsMarked dist p → IsRank queue rank tail p
-  marked_rank p l m =
-      let w = r.order.waits p (omega (arith, r.dist_size)) m in
-      let low : slice_index rank p < tail = subst (λ q. slice_index rank q < tail) w.2 (r.ranked w.0 w.1) in
-      let short = queue_short dist queue tail r.order in
-      elim (r.ranks p l) [
-        | inl none ↦ absurd (omega (arith, n.nodes_most, r.dist_size))
-        | inr k ↦ k
+-- of two nodes the one at the lower level is nearer
+ordered_levels : (net : Net) (s xs dist : List ℕ) (top : ℕ) → length dist ≡ net.nodes → IsTop net s xs dist top
+    → IsOrdered net (level_of dist top) (cell_of dist)
+ordered_levels net s xs dist top size b v w i j l = elim (cases_Bool (seen dist v)) [
+  | inr out ↦ absurd (omega (arith, level_unseen dist top v out, level_most net s xs dist top w size b))
+  | inl into ↦
+      let m = marked_seen dist v into in
+      let low = level_seen dist top v into in
+      elim (cases_lt (slice_index dist (w - 1)) WANTED) [
+        | inl near ↦
+            omega
+            (arith, low, level_seen dist top w (seen_marked dist w j.0 (omega (arith, j, size)) near))
+        | inr far ↦ omega (arith, m.2, far, cell_at dist v i.0, cell_at dist w j.0)
       ]
+]
 
-  ordered_levels : {s xs : List ℕ} {top : ℕ} → IsTop net s xs dist top
-      → IsOrdered net (level_of dist top) (cell_of rank)
-  ordered_levels {s} {xs} {top} b v w i j l = elim (cases_lt (slice_index dist (v - 1)) WANTED) [
-    | inr out ↦
-        absurd (omega (
-          arith,
-          level_unseen dist top v (unmarked_unseen dist v i.0 out),
-          level_most net s xs dist top w r.dist_size b,
-        ))
-    | inl into ↦
-        let k = marked_rank (v - 1) (omega (arith, i)) into in
-        let low = level_seen dist top v (seen_marked dist v i.0 (omega (arith, i, r.dist_size)) into) in
-        let at = cell_at rank v i.0 in
-        let to = cell_at rank w j.0 in
-        elim (cases_lt (slice_index dist (w - 1)) WANTED) [
-          | inr far ↦
-              let none = unmarked_rank net dist queue rank tail (w - 1) r (omega (arith, j)) far in
-              let short = queue_short dist queue tail r.order in
-              omega (arith, k.0, none, at, to, r.dist_size, n.nodes_most)
-          | inl near ↦
-              let k' = marked_rank (w - 1) (omega (arith, j)) near in
-              let low' = level_seen dist top w (seen_marked dist w j.0 (omega (arith, j, r.dist_size)) near) in
-              elim (cases_lt (slice_index rank (v - 1)) (slice_index rank (w - 1))) [
-                | inl less ↦ omega (arith, less, at, to)
-                | inr more ↦
-                    absurd (omega (
-                      arith,
-                      r.order.rises (slice_index rank (w - 1)) (slice_index rank (v - 1)) more k.0,
-                      ap (slice_index dist) k.1,
-                      ap (slice_index dist) k'.1,
-                      low,
-                      low',
-                      cell_at dist v i.0,
-                      cell_at dist w j.0,
-                    ))
-              ]
-        ]
-  ]
+levelled : {net : Net} {s t xs dist via : List ℕ} {top : ℕ} → IsNet net → IsSearched net xs Backwards t dist via
+    → All (IsNode net) t → IsTop net s xs dist top → IsLevelled net s t xs dist (level_of dist top)
+levelled {net} {s} {t} {xs} {dist} {via} {top} n f nodes b = record {
+  gentle = gentle_levels net s t xs dist via top n f b;
+  ordered = ordered_levels net s xs dist top f.size b;
+  sinks = λ v i. let z = zero_sink net t xs dist via v f nodes i in level_seen dist top v z.1 ∙ z.0;
+  near = λ v i. level_seen dist top v i;
+  far = λ v i o. omega (arith, b.far v i o, level_unseen dist top v o);
+}
 
-  levelled : {s t xs via : List ℕ} {top : ℕ} → IsSearched net xs Backwards t dist via → All (IsNode net) t
-      → IsTop net s xs dist top → IsLevelled net s t xs dist rank (level_of dist top)
-  levelled {s} {t} {xs} {via} {top} f nodes b = record {
-    gentle = gentle_levels net s t xs dist via top n f b;
-    ordered = ordered_levels b;
-    sinks = λ v i. let z = zero_sink net t xs dist via v f nodes i in level_seen dist top v z.1 ∙ z.0;
-    near = λ v i. level_seen dist top v i;
-    far = λ v i o. omega (arith, b.far v i o, level_unseen dist top v o);
-  }
-
-  -- what a search that has seen a source leaves to a phase
-  pub levels_found : {s t xs via : List ℕ} {wanted : ℕ} (enough : ℕ) → IsSearched net xs Backwards t dist via
-      → All (IsNode net) s → All (IsNode net) t → IsCount s dist wanted
-      → (wanted < enough → (p : ℕ) → p < net.nodes → IsMarked dist p → IsDone net xs Backwards dist p)
-      → length s ≤ enough ⊎ net.nodes < enough → wanted ≢ 0 → AreLevels net s t xs dist rank
-  levels_found {s} {t} {xs} {via} {wanted} enough f sources sinks c whole all some =
-      let one = some_seen s dist wanted c (omega (arith, some)) in
-      let up : one.0 + 1 - 1 ≡ one.0 = omega arith in
-      let here = seen_marked dist (one.0 + 1) (omega arith) (omega (arith, one.1))
-      (subst (IsMarked dist) (sym up) one.2) in
-      let first = r.order.waits one.0 one.1 one.2 in
-      record {
-        via = via;
-        searched = f;
-        source = (one.0 + 1, one.3, here);
-        sinks = sinks_at net t xs dist via f sinks;
-        ranked = λ v i. let m = marked_seen dist v i in
-            let k = marked_rank (v - 1) (omega (arith, m.0, m.1, r.dist_size)) m.2 in
-            omega (arith, k.0, queue_short dist queue tail r.order, r.dist_size, cell_at rank v m.0);
-        levels = elim (cases_lt wanted enough) [
-          | inl few ↦ (
-            level_of dist net.nodes,
-            levelled f sinks (top_whole f (whole few)),
-          )
-          | inr enough' ↦ (
-            level_of dist (slice_index dist (slice_index queue (tail - 1))),
-            levelled f sinks (top_early f r.order c (as_many all enough') sources (omega (arith, first.1))),
-          )
-        ];
-      }
-    where
-      as_many : length s ≤ enough ⊎ net.nodes < enough → enough ≤ wanted → length s ≤ wanted
-      as_many (inl l) m = omega arith
-      as_many (inr l) m = absurd (omega (arith, wanted_few s dist wanted c, r.dist_size))
+-- what a search that has seen a source leaves to a phase
+pub levels_found : {net : Net} {s t xs dist via queue : List ℕ} {tail wanted : ℕ} (enough : ℕ) → IsNet net
+    → IsQueue dist queue tail → IsSearched net xs Backwards t dist via → All (IsNode net) s → All (IsNode net) t
+    → IsCount s dist wanted
+    → (wanted < enough → (p : ℕ) → p < net.nodes → IsMarked dist p → IsDone net xs Backwards dist p)
+    → length s ≤ enough ⊎ net.nodes < enough → wanted ≢ 0 → AreLevels net s t xs dist
+levels_found {net} {s} {t} {xs} {dist} {via} {queue} {tail} {wanted} enough n q f sources sinks c whole all some =
+    let one = some_seen s dist wanted c (omega (arith, some)) in
+    let up : one.0 + 1 - 1 ≡ one.0 = omega arith in
+    let here = seen_marked dist (one.0 + 1) (omega arith) (omega (arith, one.1))
+    (subst (IsMarked dist) (sym up) one.2) in
+    let first = q.waits one.0 one.1 one.2 in
+    record {
+      via = via;
+      searched = f;
+      source = (one.0 + 1, one.3, here);
+      sinks = sinks_at net t xs dist via f sinks;
+      near = λ v i. let m = marked_seen dist v i in
+          omega (arith, f.levels (v - 1) (omega (arith, m.0, m.1, f.size)) m.2, cell_at dist v m.0);
+      levels = elim (cases_lt wanted enough) [
+        | inl few ↦ (level_of dist net.nodes, levelled n f sinks (top_whole f (whole few)))
+        | inr enough' ↦ (
+          level_of dist (slice_index dist (slice_index queue (tail - 1))),
+          levelled n f sinks (top_early f q c (as_many all enough') sources (omega (arith, first.1))),
+        )
+      ];
+    }
+  where
+    as_many : length s ≤ enough ⊎ net.nodes < enough → enough ≤ wanted → length s ≤ wanted
+    as_many (inl l) m = omega arith
+    as_many (inr l) m = absurd (omega (arith, wanted_few s dist wanted c, f.size))

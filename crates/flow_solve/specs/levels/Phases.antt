@@ -1,4 +1,5 @@
--- The method by levels (Dinitz 1970): the ranks that a search gives, places that only move on, and what a phase leaves.
+-- The method by levels (Dinitz 1970): numbers of nodes, the *ranks*, that fall along walks, places that only move on,
+-- and what a phase leaves. The ranks of a phase are the distances that its search gives.
 use Rattle.std.specs.Prelude.{◌≡◌, ◌≢◌, ℕ, zero, suc, ◌+◌, ◌-◌, ◌*◌, ◌≤◌, ◌<◌, ◌==◌, ◌⊎◌, ◌&&◌, min, nat_lt, Bool}
 use Rattle.std.specs.Prelude.{true, false, not, IsTrue, IsFalse, List, [], ◌∷◌, length, slice_index, take}
 use Rattle.std.specs.Prelude.{if◌then◌else◌}
@@ -10,7 +11,6 @@ use Rattle.flow_net.specs.Flows.{IsFeasible, HasValue, HasNoLoops}
 use Rattle.flow_net.specs.Residual.{Table, tail_of, head_of, residual}
 use Rattle.flow_solve.specs.declared.residual.half_arcs.Direction.TheVariants.{Backwards}
 use Rattle.flow_solve.specs.declared.residual.searching.Plan.{Plan}
-use Rattle.flow_solve.specs.declared.residual.searching.TheConstants.{FAR}
 use Rattle.flow_solve.specs.declared.levels.walking.Phase.{Phase}
 use Rattle.flow_solve.specs.declared.levels.walking.Walks.{Walks}
 use Rattle.flow_solve.specs.residual.Packs.{IsPacked}
@@ -147,28 +147,27 @@ IsGentle net xs level = (h : ℕ) → h < 2 * length net.arcs → 1 ≤ residual
     → level (tail_of net h) ≤ level (head_of net h) + 1
 
 -- levels after a search: a node that it saw is at its distance, and a source that it didn't see is far above
-pub record IsLevelled (net : Net) (s t xs dist rank : List ℕ) (level : ℕ → ℕ) : Type 0 where
+pub record IsLevelled (net : Net) (s t xs dist : List ℕ) (level : ℕ → ℕ) : Type 0 where
   pub gentle : IsGentle net xs level
-  pub ordered : IsOrdered net level (cell_of rank)
+  pub ordered : IsOrdered net level (cell_of dist)
   pub sinks : (v : ℕ) → IsTrue (one_of t v) → level v ≡ 0
   pub near : (v : ℕ) → IsTrue (seen dist v) → level v ≡ cell_of dist v
   pub far : (v : ℕ) → IsTrue (one_of s v) → IsFalse (seen dist v) → net.nodes ≤ level v
 
 -- what a search backwards that has seen a source leaves to a phase
-pub record AreLevels (net : Net) (s t xs dist rank : List ℕ) : Type 0 where
+pub record AreLevels (net : Net) (s t xs dist : List ℕ) : Type 0 where
   pub via : List ℕ
   pub searched : IsSearched net xs Backwards t dist via
   pub source : (v : ℕ) × IsTrue (one_of s v) × IsTrue (seen dist v)
   pub sinks : AreSinks net t dist
-  pub ranked : (v : ℕ) → IsTrue (seen dist v) → cell_of rank v < net.nodes
-  pub levels : (level : ℕ → ℕ) × IsLevelled net s t xs dist rank level
+  pub near : (v : ℕ) → IsTrue (seen dist v) → cell_of dist v < net.nodes
+  pub levels : (level : ℕ → ℕ) × IsLevelled net s t xs dist level
 
--- what the walks of a phase go by: terminals, packed half-arcs, and a distance and a rank for each node
+-- what the walks of a phase go by: terminals, packed half-arcs, and a distance for each node
 pub record IsPhase (phase : Phase) : Type 0 where
   pub terminals : AreTerminals phase.packed.net.now phase.s.now phase.t.now
   pub packed : IsPacked phase.packed.net.now phase.packed.first.now phase.packed.halves.now
   pub dist_size : length phase.dist.now ≡ phase.packed.net.now.nodes
-  pub rank_size : length phase.rank.now ≡ phase.packed.net.now.nodes
   pub sinks : AreSinks phase.packed.net.now phase.t.now phase.dist.now
 
 -- after j phases: whatever a search backwards finds, it sees a source only at a distance above j
@@ -184,7 +183,7 @@ Descends net rank hs = AllByRecursion (λ h. rank (head_of net h) < rank (tail_o
 abbrev pub IsAt : Phase → List ℕ → List ℕ → ℕ → Type 0
 IsAt phase current xs k =
     IsInPhase phase.packed.net.now phase.s.now phase.t.now phase.packed.first.now phase.packed.halves.now
-    phase.rank.now current xs k
+    phase.dist.now current xs k
 
 -- walks at a phase's places, with cells for a path
 pub record AreWalks (run : Phase) (xs : List ℕ) (walks : Walks) : Type 0 where
@@ -203,7 +202,7 @@ pub record AreSameWalks (before after : Walks) : Type 0 where
   pub path_size : length after.path.now ≡ length before.path.now
 
 abbrev pub owes : Phase → List ℕ → Table → ℕ
-owes phase current table = owed phase.packed.net.now phase.packed.halves.now phase.rank.now current table.flows
+owes phase current table = owed phase.packed.net.now phase.packed.halves.now phase.dist.now current table.flows
 
 abbrev pub IsDeadIn : Phase → List ℕ → ℕ → Type 0
 IsDeadIn phase current v =
@@ -211,47 +210,42 @@ IsDeadIn phase current v =
 
 abbrev pub KeepsGentle : Phase → List ℕ → List ℕ → Type 0
 KeepsGentle phase xs ys =
-    (level : ℕ → ℕ) → IsOrdered phase.packed.net.now level (cell_of phase.rank.now)
+    (level : ℕ → ℕ) → IsOrdered phase.packed.net.now level (cell_of phase.dist.now)
     → IsGentle phase.packed.net.now xs level → IsGentle phase.packed.net.now ys level
 
 abbrev pub HasLevels : Phase → List ℕ → Type 0
-HasLevels phase xs = AreLevels phase.packed.net.now phase.s.now phase.t.now xs phase.dist.now phase.rank.now
+HasLevels phase xs = AreLevels phase.packed.net.now phase.s.now phase.t.now xs phase.dist.now
 
 abbrev pub IsFarIn : Phase → List ℕ → ℕ → Type 0
 IsFarIn phase xs j = IsFar phase.packed.net.now phase.s.now phase.t.now xs j
 
 abbrev pub HasLooked : Phase → List ℕ → List ℕ → List ℕ → ℕ → Type 0
 HasLooked phase now next xs v =
-    IsLooked phase.packed.net.now phase.packed.first.now phase.packed.halves.now phase.rank.now now next xs v
+    IsLooked phase.packed.net.now phase.packed.first.now phase.packed.halves.now phase.dist.now now next xs v
 
 abbrev pub IsNext : Phase → List ℕ → List ℕ → ℕ → ℕ → Type 0
 IsNext phase current xs v h =
-    IsAdmissible phase.packed.net.now (cell_of phase.rank.now) (first_at phase.packed.halves.now) (cell_of current) xs
+    IsAdmissible phase.packed.net.now (cell_of phase.dist.now) (first_at phase.packed.halves.now) (cell_of current) xs
     v h
 
 -- the looks for a node's next half-arc, but some, are paid by the half-arcs that they pass
 abbrev pub Looks : Phase → List ℕ → Table → List ℕ → Table → ℕ → Type 0
 Looks phase now before next after some =
     after.steps
-    + left phase.packed.net.now (cell_of phase.rank.now) (first_at phase.packed.halves.now) (cell_of next) any
+    + left phase.packed.net.now (cell_of phase.dist.now) (first_at phase.packed.halves.now) (cell_of next) any
     ≤ before.steps
-    + left phase.packed.net.now (cell_of phase.rank.now) (first_at phase.packed.halves.now) (cell_of now) any + some
+    + left phase.packed.net.now (cell_of phase.dist.now) (first_at phase.packed.halves.now) (cell_of now) any + some
 
-abbrev pub FindsLevels : Plan → List ℕ → List ℕ → List ℕ → Type 0
-FindsLevels plan xs dist rank = AreLevels plan.packed.net.now plan.until.now plan.starts.now xs dist rank
+abbrev pub FindsLevels : Plan → List ℕ → List ℕ → Type 0
+FindsLevels plan xs dist = AreLevels plan.packed.net.now plan.until.now plan.starts.now xs dist
 
--- each source that was seen is dead; each node that was seen has a rank
+-- each source that was seen is dead; each node that was seen is nearer than there are nodes
 abbrev pub AreDead : Phase → List ℕ → Type 0
 AreDead phase current = (v : ℕ) → IsTrue (one_of phase.s.now v) → IsTrue (seen phase.dist.now v)
     → IsDeadIn phase current v
 
-abbrev pub AreRankedIn : Phase → Type 0
-AreRankedIn phase = (v : ℕ) → IsTrue (seen phase.dist.now v) → cell_of phase.rank.now v < phase.packed.net.now.nodes
-
--- a place has no rank, or its rank is its number in the queue
-abbrev pub HasRank : List ℕ → ℕ → List ℕ → ℕ → Type 0
-HasRank queue all rank p =
-    (slice_index rank p ≡ FAR) ⊎ ((slice_index rank p < all) × (slice_index queue (slice_index rank p) ≡ p))
+abbrev pub AreNearIn : Phase → Type 0
+AreNearIn phase = (v : ℕ) → IsTrue (seen phase.dist.now v) → cell_of phase.dist.now v < phase.packed.net.now.nodes
 
 -- the steps of a walk are paid by what the phase owes less after it
 abbrev pub PaysOwed : Phase → List ℕ → Table → List ℕ → Table → Type 0

@@ -2,7 +2,7 @@
 use Rattle.std.specs.Prelude.{◌≡◌, ℕ, ◌*◌, ◌<◌, ◌≤◌, length, slice_index}
 use Rattle.flow_net.specs.Flows.{Fits}
 use Rattle.flow_net.specs.Nets.{Net}
-use Rattle.flow_net.specs.Residual.{Table, tail_of}
+use Rattle.flow_net.specs.Residual.{Table}
 use Rattle.flow_solve.specs.declared.levels.waves.excess.Wave.{Wave}
 use Rattle.flow_solve.specs.declared.levels.waves.passing.Row.{Row}
 use Rattle.flow_solve.specs.declared.residual.packing.Packed.{Packed}
@@ -16,11 +16,10 @@ pub record IsWaving (packed : Packed) (table : Table) (wave : Wave) : Type 0 whe
   pub nodes : wave.nodes ≡ packed.net.now.nodes
   pub size : length wave.cells.now ≡ 5 * packed.net.now.nodes
 
--- half-arcs of a network, all of which leave the same node
+-- half-arcs of a network
 pub record IsRow (net : Net) (row : Row) : Type 0 where
   pub most : length row.halves.now ≤ 2 * length net.arcs
   pub holds : (p : ℕ) → p < length row.halves.now → slice_index row.halves.now p < 2 * length net.arcs
-  pub leave : (p : ℕ) → p < length row.halves.now → tail_of net (slice_index row.halves.now p) ≡ row.node
 
 -- There are cells for a node.
 pub record HasCells (wave : Wave) (node : ℕ) : Type 0 where

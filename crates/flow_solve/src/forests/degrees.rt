@@ -6,29 +6,12 @@ ghost use Rattle.std.specs.Prelude.{◌≡◌, ℕ, ◌+◌, ◌*◌, ◌≤◌,
 ghost use Rattle.flow_net.specs.Nets.{IsNode};
 ghost use Rattle.flow_net.specs.NodeSets.{just};
 ghost use Rattle.flow_net.specs.Connectivity.{leaving, IsProper};
-ghost use Rattle.flow_net.specs.Forests.{IsEitherWay};
-ghost use Rattle.flow_solve.specs.Forests.{AreDegrees, AreLeaving, AreOpposite, IsEulerian, facing};
+ghost use Rattle.flow_net.specs.Forests.{IsEitherWay, entering};
+ghost use Rattle.flow_solve.specs.Forests.{AreDegrees, AreLeaving, facing};
 
 use crate::forests::rows::ends_of;
 use crate::residual::half_arcs::Direction;
 use flow_net::Network;
-
-/// Whether the second half of the arcs are those of the first turned round, in their order.
-fn are_opposite(net: &Network) -> bool
-    ensures { IsTrue result → AreOpposite net.now.arcs }
-{
-    // Brings the network's limits, `IsNet`, into the proof.
-    let _ = net.nodes();
-    let half = net.len() / 2;
-    for i in 0..half {
-        let there = net.arc(i);
-        let back = net.arc(half + i);
-        if there.src != back.dst || there.dst != back.src {
-            return false;
-        }
-    }
-    net.len() % 2 == 0
-}
 
 /// Counts the arcs that lead on from each node, self-loops left out.
 pub(crate) fn count_arcs(net: &Network, direction: Direction, counts: &mut [u32])
@@ -44,22 +27,14 @@ pub(crate) fn count_arcs(net: &Network, direction: Direction, counts: &mut [u32]
     }
 }
 
-/// Counts the arcs that leave and that enter each node, self-loops left out. Answers whether each arc is there both
-/// ways, its opposite half of the arcs away: then one count is the other.
-fn count_degrees(net: &Network, out: &mut [u32], into: &mut [u32]) -> bool
+/// Counts the arcs that leave and that enter each node, self-loops left out.
+fn count_degrees(net: &Network, out: &mut [u32], into: &mut [u32])
     requires out { length out.old ≡ net.now.nodes }
     requires into { length into.old ≡ net.now.nodes }
-    ensures opposite { IsTrue result → AreOpposite net.now.arcs }
-    ensures degrees { AreDegrees net.now out.new into.new }
+    ensures { AreDegrees net.now out.new into.new }
 {
-    let is_paired = are_opposite(net);
     count_arcs(net, Direction::Backwards, out);
-    if is_paired {
-        into.copy_from_slice(out);
-    } else {
-        count_arcs(net, Direction::Forwards, into);
-    }
-    is_paired
+    count_arcs(net, Direction::Forwards, into);
 }
 
 /// The least of some numbers, of which there is at least one.
@@ -77,33 +52,22 @@ fn least_of(numbers: &[u32]) -> u32
     least
 }
 
-/// The least number of arcs that leave a node, or that enter one, and whether each arc is there both ways, its opposite
-/// half of the arcs away. The cells are as [`least_degree`] leaves them.
-pub(crate) fn least_and_paired(net: &Network, cells: &mut [u32]) -> (u64, bool)
+/// The least number of arcs that leave a node, or that enter one: the connectivity is no greater. The first cells then
+/// have how many leave each node, and those behind them how many enter each; self-loops are left out.
+pub fn least_degree(net: &Network, cells: &mut [u32]) -> u64
     requires cells { 2 * net.now.nodes ≤ length cells.old }
-    ensures reached { (X : ℕ → Bool) × IsProper net.now X × (leaving net.now X ≡ result.0) }
-    ensures least { (v : ℕ) → IsNode net.now v → result.0 ≤ leaving net.now (just v) }
-    ensures opposite { IsTrue result.1 → AreOpposite net.now.arcs }
+    ensures reached { (X : ℕ → Bool) × IsProper net.now X × (leaving net.now X ≡ result) }
+    ensures least { (v : ℕ) → IsNode net.now v → result ≤ leaving net.now (just v) }
+    ensures least_entering { (v : ℕ) → IsNode net.now v → result ≤ entering net.now (just v) }
     ensures degrees { AreDegrees net.now cells.new (drop net.now.nodes cells.new) }
 {
     let n = net.nodes() as usize;
     let (counts, _rest) = cells.split_at_mut(2 * n);
     let (out, into) = counts.split_at_mut(n);
-    let is_paired = count_degrees(net, out, into);
+    count_degrees(net, out, into);
     let leaving = least_of(out);
     let entering = least_of(into);
-    (leaving.min(entering) as u64, is_paired)
-}
-
-/// The least number of arcs that leave a node, or that enter one: the connectivity is no greater. The first cells then
-/// have how many leave each node, and those behind them how many enter each.
-pub fn least_degree(net: &Network, cells: &mut [u32]) -> u64
-    requires cells { 2 * net.now.nodes ≤ length cells.old }
-    ensures reached { (X : ℕ → Bool) × IsProper net.now X × (leaving net.now X ≡ result) }
-    ensures least { (v : ℕ) → IsNode net.now v → result ≤ leaving net.now (just v) }
-    ensures degrees { AreDegrees net.now cells.new (drop net.now.nodes cells.new) }
-{
-    least_and_paired(net, cells).0
+    leaving.min(entering) as u64
 }
 
 /// Whether as many arcs leave each node as enter it: as many then leave each set of nodes as enter it.
@@ -119,22 +83,17 @@ pub fn are_balanced(net: &Network, degrees: &[u32]) -> bool
     leaving == entering
 }
 
-/// Whether an even number of arcs leaves each set of nodes, as the degrees show it in a network that is paired, each
-/// arc with its opposite half of the arcs away, and balanced.
-pub(crate) fn are_even(net: &Network, degrees: &[u32], is_paired: bool, is_balanced: bool) -> bool
-    requires opposite { IsTrue is_paired → AreOpposite net.now.arcs }
-    requires cells { net.now.nodes ≤ length degrees.now }
-    requires degrees { AreDegrees net.now degrees.now (drop net.now.nodes degrees.now) }
-    requires balanced { IsTrue is_balanced → IsEitherWay net.now }
-    ensures { IsTrue result → IsEulerian net.now }
-{
-    if !is_paired || !is_balanced {
-        return false;
-    }
-    for node in 0..net.nodes() {
-        if degrees[node as usize] % 2 == 1 {
+/// Whether the second half of the arcs are those of the first turned round, in their order.
+pub(crate) fn are_opposite(net: &Network) -> bool {
+    // Brings the network's limits, `IsNet`, into the proof.
+    let _ = net.nodes();
+    let half = net.len() / 2;
+    for i in 0..half {
+        let there = net.arc(i);
+        let back = net.arc(half + i);
+        if there.src != back.dst || there.dst != back.src {
             return false;
         }
     }
-    true
+    net.len() % 2 == 0
 }

@@ -2,8 +2,8 @@
 //!
 //! It reads the cells of the rows alone, and an arc is taken where its cell stands. It goes back by the cells of the
 //! arcs over which it came to where it is. In a dense network each forest goes on in a row behind the arc that the one
-//! before has taken there, and the first begins somewhere in it: else forests would pass over the same cells again, and
-//! grow alike.
+//! before has taken there: else forests would pass over the same cells again, and grow alike. So they do where arcs one
+//! way are all needed: where forests grow alike, the last one finds them left in circles.
 //!
 //! Where arcs are scarce, a forest between the first and the last goes first over an arc whose opposite none has taken,
 //! as notes in the hints tell. Else the last forest finds many arcs left in pairs, one against the other, and so comes
@@ -13,7 +13,7 @@ ghost use Rattle.flow_net.specs.Nets.{IsNode};
 ghost use Rattle.flow_solve.specs.Forests.{HasGrown, HasMarked, IsLead, IsStand, marked_in};
 
 use crate::forests::Ground;
-use crate::forests::marks::{is_left, is_marked, mark, marked_from, unmark_all};
+use crate::forests::marks::{is_left, is_marked, mark, unmark_all};
 use crate::forests::rows::{TAKEN, near_at, next_at, node_in, place_at, queue_at};
 use crate::residual::cells::{get, put};
 
@@ -350,8 +350,10 @@ fn neighbour(
     Some(lead.behind)
 }
 
-/// The first node that the forest hasn't come to.
-fn first_left(nodes: u32, done: &[u32]) -> u32 {
+/// The first node that the forest hasn't come to, or 0.
+fn first_left(nodes: u32, done: &[u32]) -> u32
+    ensures { result ≡ 0 → (v : ℕ) → 1 ≤ v → v ≤ nodes → IsTrue (marked_in done.now v) }
+{
     for place in 0..nodes {
         let node = place + 1;
         if !is_marked(done, node) {
@@ -389,13 +391,5 @@ pub(crate) fn next_node(
 pub(crate) fn is_whole(nodes: u32, done: &[u32]) -> bool
     ensures { IsTrue result → (v : ℕ) → 1 ≤ v → v ≤ nodes → IsTrue (marked_in done.now v) }
 {
-    let mut place = 0;
-    'cells: while place < nodes {
-        let more = marked_from(done, place + 1);
-        if more == 0 {
-            return false;
-        }
-        place = place.saturating_add(more);
-    }
-    true
+    first_left(nodes, done) == 0
 }

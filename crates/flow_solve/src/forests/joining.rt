@@ -10,7 +10,7 @@ ghost use Rattle.flow_solve.specs.Forests.{marked_in, seen_in};
 ghost use Rattle.flow_solve.specs.Steps.{OnlyLooks, PaysLooks};
 
 use crate::forests::Ground;
-use crate::forests::marks::{is_left, is_marked, mark, unmark};
+use crate::forests::marks::{is_left, is_marked, note, unmark};
 use crate::forests::rows::{TAKEN, ends_of, next_at, place_at, queue_at};
 use crate::residual::cells::{END, get, put};
 use crate::residual::half_arcs::{far, near};
@@ -36,8 +36,6 @@ struct Search {
     place: u32,
     /// The last half-arc of the path that it has found, or [`END`].
     found: u32,
-    /// Whether half-arcs were used since it saw nodes that led nowhere.
-    is_worn: bool,
     /// How many looks and pushes are left.
     left: u64,
 }
@@ -58,7 +56,7 @@ fn search_over(
 ) -> Search
     requires fits { Fits ground.net.now flow.old.flows }
     requires half { half < 2 * length ground.net.now.arcs }
-    requires node { (1 ≤ behind) × (behind ≤ 32 * length seen.old) }
+    requires node { 1 ≤ behind }
     ensures next { result.at ≡ search.at }
     ensures looks { PaysLooks flow.old search.left flow.new result.left }
 {
@@ -75,7 +73,7 @@ fn search_over(
         next.found = half;
         return next;
     }
-    mark(seen, behind);
+    note(seen, behind);
     put(hints, place_at(ground, behind), half);
     put(hints, queue_at(ground, search.tail), behind);
     next.tail = search.tail.saturating_add(1);
@@ -314,11 +312,9 @@ fn begin_search(
     node: u32,
     left: u64,
 ) -> Search
-    requires size { ground.net.now.nodes ≤ 32 * length seen.old }
-    requires node { IsNode ground.net.now node }
     ensures left { result.left ≡ left }
 {
-    mark(seen, node);
+    note(seen, node);
     put(hints, queue_at(ground, 0), node);
     Search {
         at: 1,
@@ -326,7 +322,6 @@ fn begin_search(
         tail: 1,
         place: 0,
         found: END,
-        is_worn: false,
         left,
     }
 }
@@ -340,8 +335,8 @@ fn forget(ground: Ground<'_>, seen: &mut [u32], hints: &mut [u32], from: u32, ta
     }
 }
 
-/// Goes on with a search from its node until it has found a path. Where it finds none it begins anew if it is worn:
-/// what led nowhere may lead on over half-arcs that were used since.
+/// Goes on with a search from its node until it has found a path. Where it finds none it begins anew: what led nowhere
+/// may lead on over half-arcs that were used since.
 fn search_anew(
     ground: Ground<'_>,
     rows: &[u32],
@@ -353,12 +348,10 @@ fn search_anew(
     search: Search,
 ) -> Search
     requires fits { Fits ground.net.now flow.old.flows }
-    requires size { ground.net.now.nodes ≤ 32 * length seen.old }
-    requires node { IsNode ground.net.now node }
     ensures looks { PaysLooks flow.old search.left flow.new result.left }
 {
     let next = search_out(ground, rows, done, seen, hints, flow, node, search);
-    if next.found != END || !next.is_worn {
+    if next.found != END {
         return next;
     }
     forget(ground, seen, hints, 0, next.tail);
@@ -382,7 +375,6 @@ fn after_unit(
         at: search.from,
         tail: search.from,
         found: END,
-        is_worn: search.is_worn || search.from < search.tail,
         left,
         ..search
     }
@@ -473,28 +465,6 @@ fn is_closed_over(
     Some(left - 1)
 }
 
-/// Tests that nothing remains on the half-arcs that lead out of the nodes that are seen. Answers how many looks are
-/// left, or none if it isn't so.
-fn is_closed(
-    ground: Ground<'_>,
-    done: &[u32],
-    seen: &[u32],
-    flow: &mut FlowTable,
-    left: u64,
-) -> Option<u64>
-    requires limits { IsNet ground.net.now }
-    requires fits { Fits ground.net.now flow.old.flows }
-    ensures closed { IfSome result
-        (λ _. IsClosedFor ground.entry.direction ground.entry.net.now flow.old.flows (seen_in done.now seen.now)) }
-    ensures looks { MatchOption result (OnlyLooks flow.old flow.new left) (λ r. PaysLooks flow.old left flow.new r) }
-{
-    let mut left = left;
-    for half in 0..2 * ground.net.len() {
-        left = is_closed_over(ground, done, seen, flow, half, left)?;
-    }
-    Some(left)
-}
-
 /// Tests that a search has seen its first node, and that nothing remains on the half-arcs that lead out of the nodes
 /// that are seen. Answers how many looks are left, or none if it isn't so.
 fn is_cut_off(
@@ -513,10 +483,14 @@ fn is_cut_off(
         (λ _. IsClosedFor ground.entry.direction ground.entry.net.now flow.old.flows (seen_in done.now seen.now)) }
     ensures looks { MatchOption result (OnlyLooks flow.old flow.new left) (λ r. PaysLooks flow.old left flow.new r) }
 {
+    let mut left = left;
     if !is_seen(done, seen, node) {
         return None;
     }
-    is_closed(ground, done, seen, flow, left)
+    for half in 0..2 * ground.net.len() {
+        left = is_closed_over(ground, done, seen, flow, half, left)?;
+    }
+    Some(left)
 }
 
 /// Whether it is a node that the forest hasn't come to.
@@ -543,7 +517,6 @@ pub(crate) fn raise(
     requires fits { Fits ground.net.now flow.old.flows }
     requires unit { All (λ a. a.cap ≡ 1) ground.net.now.arcs }
     requires limits { IsNet ground.net.now }
-    requires size { ground.net.now.nodes ≤ 32 * length seen.old }
     requires root { IsNode ground.net.now ground.root }
     requires done { IsTrue (marked_in done.now ground.root) }
     requires balanced { IsFeasible ground.net.now (marked_in done.now) (marked_in done.now) flow.old.flows }

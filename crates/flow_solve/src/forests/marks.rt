@@ -1,6 +1,6 @@
 //! Marks of nodes: a bit for each, so that those of a million nodes stay in the cache of a processor. A forest marks
 //! the nodes that it has come to, and a search those that it has seen, each in cells of its own.
-ghost use Rattle.std.specs.Prelude.{◌≡◌, ℕ, ◌+◌, ◌*◌, ◌≤◌, ◌<◌, IsFalse, IsTrue, length};
+ghost use Rattle.std.specs.Prelude.{◌≡◌, ℕ, ◌*◌, ◌≤◌, ◌<◌, IsFalse, IsTrue, length};
 ghost use Rattle.flow_solve.specs.Forests.{HasMarked, marked_in};
 
 use crate::residual::cells::{get, put};
@@ -27,18 +27,6 @@ pub(crate) fn is_left(marks: &[u32], node: u32) -> bool
     bit / BITS < marks.len() && (marks[bit / BITS] >> (bit % BITS)) & 1 == 0
 }
 
-/// How many nodes from one on are marked, as far as one cell tells: all that it has bits for, one or none.
-pub(crate) fn marked_from(marks: &[u32], node: u32) -> u32
-    requires { 1 ≤ node }
-    ensures { (v : ℕ) → node ≤ v → v < node + result → IsTrue (marked_in marks.now v) }
-{
-    let bit = node as usize - 1;
-    if bit % BITS == 0 && get(marks, bit / BITS) == u32::MAX {
-        return u32::BITS;
-    }
-    u32::from(is_marked(marks, node))
-}
-
 /// Marks a node.
 #[inline(always)]
 pub(crate) fn mark(marks: &mut [u32], node: u32)
@@ -47,6 +35,13 @@ pub(crate) fn mark(marks: &mut [u32], node: u32)
 {
     let bit = node as usize - 1;
     marks[bit / BITS] |= 1 << (bit % BITS);
+}
+
+/// Marks a node, if it exists: a mark of which nothing is claimed.
+pub(crate) fn note(marks: &mut [u32], node: u32) {
+    let bit = node.wrapping_sub(1) as usize;
+    let cell = get(marks, bit / BITS);
+    put(marks, bit / BITS, cell | 1 << (bit % BITS));
 }
 
 /// Marks a node no more, if it exists.

@@ -1,10 +1,10 @@
 //! Entries of the rows in which near sends and trees look for what leads on from a node: one for each half-arc, or for
 //! two at once, where an arc's opposite follows it.
 //!
-//! In a picture there is an arc each way between neighbours, and most files tell the two one after the other. The one
-//! neighbour comes to the other over the half-arc along the one arc, or over that against the other. Such two are
-//! *joined*: so a row has half as many entries, and each neighbour is asked once. In the trees a half-arc stands by
-//! itself, that on which something was found to remain.
+//! In a picture or a road map there is an arc each way between neighbours, and most files tell the two one after the
+//! other. The one neighbour comes to the other over the half-arc along the one arc, or over that against the other.
+//! Such two are *joined*: so a row has half as many entries, and each neighbour is asked once. In the trees a half-arc
+//! stands by itself, that on which something was found to remain.
 ghost use Rattle.std.specs.Prelude.{◌≡◌, ◌+◌, ◌*◌, ◌<◌, ◌≤◌, IfNone, IfSome, IsTrue, length};
 ghost use Rattle.flow_net.specs.Nets.{Net};
 ghost use Rattle.flow_net.specs.Flows.{Fits};
@@ -28,7 +28,7 @@ pub(crate) fn half_in(entry: u32) -> u32
 }
 
 /// Whether an entry stands for the half-arc beside that one too.
-pub(crate) fn is_joined(entry: u32) -> bool
+fn is_joined(entry: u32) -> bool
     ensures { result ≡ joins entry }
 {
     entry >= JOINED

@@ -1,17 +1,17 @@
-//! Phases of the method by levels, as in Dinic's algorithm: the ranks that a search backwards gives, a refinement of
-//! the levels of the layered network, and the walks from all sources, which push a blocking flow.
+//! Phases of the method by levels, as in Dinic's algorithm: the distances that a search backwards gives, and the walks
+//! from all sources, which push a blocking flow.
 //!
 //! With `n` nodes the `5·n` cells of a stage are, in this order:
 //!
 //! | Cells | What they hold |
 //! |---|---|
 //! | `n` | each node's distance in the last search |
-//! | `n` | the half-arc over which the search came to it; then its rank |
+//! | `n` | the half-arc over which the search came to it |
 //! | `n` | each node's current place: the half-arc that walks try next |
 //! | `n` | the half-arcs of the walk's path |
 //! | `n` | the search's queue |
 ghost use Rattle.std.specs.Prelude.{◌≡◌, ◌⊎◌, ℕ, List, true, false, ◌+◌, ◌-◌, ◌*◌, ◌<◌, ◌≤◌, min, IsTrue, IsFalse};
-ghost use Rattle.std.specs.Prelude.{length, slice_index};
+ghost use Rattle.std.specs.Prelude.{length};
 ghost use Rattle.std.specs.List.{All};
 ghost use Rattle.flow_net.specs.Nets.{Net, IsNode};
 ghost use Rattle.flow_net.specs.Limits.{AreTerminals};
@@ -24,29 +24,15 @@ ghost use Rattle.flow_solve.specs.Solving.{IsFlow};
 ghost use Rattle.flow_solve.specs.residual.Searches.{AreCells, HasMissed};
 ghost use Rattle.flow_solve.specs.Task.{HasFlow, IsTask};
 ghost use Rattle.flow_solve.specs.Steps.{OnlyLooks, TakesSteps};
-ghost use Rattle.flow_solve.specs.levels.Phases.{AreDead, FindsLevels, HasLevels, AreRankedIn, HasRank, IsFarIn};
+ghost use Rattle.flow_solve.specs.levels.Phases.{AreDead, FindsLevels, HasLevels, AreNearIn, IsFarIn};
 ghost use Rattle.flow_solve.specs.levels.Phases.{AreSameWalks, AreWalks, IsPhase, KeepsGentle, PaysOwed};
 
 use crate::levels::walking::{Phase, Walks, walk};
 use crate::residual::half_arcs::Direction;
 use crate::residual::packing::Packed;
-use crate::residual::searching::{FAR, Plan, WANTED, search};
+use crate::residual::searching::{Plan, WANTED, search};
 use crate::task::Task;
 use flow_net::FlowTable;
-
-/// Gives the node at each place in the queue its number in the queue as its rank, and every other node none.
-fn rank_all(queue: &[u32], all: u32, rank: &mut [u32])
-    requires all { all ≤ length queue.now }
-    requires places { (i : ℕ) → i < all → slice_index queue.now i < length rank.old }
-    ensures size { length rank.new ≡ length rank.old }
-    ensures ranked { (i : ℕ) → i < all → slice_index rank.new (slice_index queue.now i) < all }
-    ensures ranks { (p : ℕ) → p < length rank.old → HasRank queue.now all rank.new p }
-{
-    rank.fill(FAR);
-    for i in 0..all {
-        rank[queue[i as usize] as usize] = i;
-    }
-}
 
 /// How many nodes there are, as far as 32 bits hold it.
 fn count(nodes: &[u32]) -> u32
@@ -55,13 +41,12 @@ fn count(nodes: &[u32]) -> u32
     nodes.len().min(u32::MAX as usize) as u32
 }
 
-/// Searches backwards from the sinks until all sources are seen, and ranks what it has seen, the nearest first. Answers
-/// whether a source was seen.
+/// Searches backwards from the sinks until all sources are seen. Answers whether one was seen.
 fn find_levels(
     plan: Plan<'_>,
     flow: &mut FlowTable,
     dist: &mut [u32],
-    rank: &mut [u32],
+    via: &mut [u32],
     queue: &mut [u32],
 ) -> bool
     requires fits { Fits plan.packed.net.now flow.old.flows }
@@ -69,23 +54,22 @@ fn find_levels(
     requires terminals { AreTerminals plan.packed.net.now plan.until.now plan.starts.now }
     requires backwards { plan.direction ≡ Direction.Backwards }
     requires enough { plan.enough ≡ min (length plan.until.now) u32.MAX }
-    requires cells { AreCells plan.packed.net.now dist.old rank.old queue.old }
-    ensures levels { result ≡ true → FindsLevels plan.entry flow.old.flows dist.new rank.new }
+    requires cells { AreCells plan.packed.net.now dist.old via.old queue.old }
+    ensures levels { result ≡ true → FindsLevels plan.entry flow.old.flows dist.new }
     ensures missed { result ≡ false → HasMissed plan.entry flow.old.flows dist.new }
     ensures looks { OnlyLooks flow.old flow.new (2 * length plan.entry.packed.net.now.arcs) }
 {
-    let progress = search(plan, flow, dist, rank, queue);
+    let progress = search(plan, flow, dist, via, queue);
     if progress.wanted == 0 {
         return false;
     }
-    rank_all(queue, progress.seen, rank);
     true
 }
 
 /// Walks from each source that the search has seen, until all of them are dead.
 fn walk_from_sources(phase: Phase<'_>, flow: &mut FlowTable, walks: &mut Walks<'_>)
     requires run { IsPhase phase }
-    requires ranked { AreRankedIn phase }
+    requires near { AreNearIn phase }
     requires walks { AreWalks phase flow.old.flows walks.old }
     ensures walks { AreWalks phase.entry flow.new.flows walks.new }
     ensures same { AreSameWalks walks.old walks.new }
@@ -120,51 +104,6 @@ fn run_phase(phase: Phase<'_>, flow: &mut FlowTable, walks: &mut Walks<'_>)
     walk_from_sources(phase, flow, walks);
 }
 
-/// Runs phases until a search backwards from the sinks sees no source.
-fn run_until_cut(
-    task: Task<'_>,
-    flow: &mut FlowTable,
-    dist: &mut [u32],
-    rank: &mut [u32],
-    queue: &mut [u32],
-    walks: &mut Walks<'_>,
-)
-    requires task { IsTask task }
-    requires cells { AreCells task.packed.net.now dist.old rank.old queue.old }
-    requires size { length walks.old.current.now ≡ task.packed.net.now.nodes }
-    requires path_size { length walks.old.path.now ≡ task.packed.net.now.nodes }
-    requires flow { HasFlow task flow.old.flows walks.old.value }
-    ensures flow { HasFlow task.entry flow.new.flows walks.new.value }
-    ensures greatest { IsGreatest task.entry.packed.net.now (one_of task.entry.s.now) (one_of task.entry.t.now)
-        walks.new.value }
-    ensures least { IsLeastCapacity task.entry.packed.net.now (one_of task.entry.s.now) (one_of task.entry.t.now)
-        walks.new.value }
-    ensures steps { TakesSteps flow.old flow.new (phases_bound task.entry.packed.net.now) }
-{
-    let Task { packed, s, t } = task;
-    let plan = Plan {
-        packed,
-        direction: Direction::Backwards,
-        starts: t,
-        until: s,
-        enough: count(s),
-    };
-    // Read by the loop's invariant alone, `invariant-phases`: after so many phases the sources are farther than that.
-    let mut phases = 0u32;
-    'phases: while find_levels(plan, flow, dist, rank, queue) {
-        let phase = Phase {
-            packed,
-            s,
-            t,
-            dist,
-            rank,
-        };
-        run_phase(phase, flow, walks);
-        // Each phase brings the sources farther from the sinks, so there are fewer than `n`.
-        phases += 1;
-    }
-}
-
 /// Raises a feasible flow by phases until a search backwards from the sinks sees no source, and answers its value,
 /// which is the greatest. `value` is the flow's value before. It takes at most `3·n²·m` steps, whatever flow it starts
 /// from.
@@ -178,16 +117,31 @@ pub fn run_phases(task: Task<'_>, flow: &mut FlowTable, cells: &mut [u32], value
         result }
     ensures steps { TakesSteps flow.old flow.new (phases_bound task.entry.packed.net.now) }
 {
-    let n = task.packed.net.nodes() as usize;
+    let Task { packed, s, t } = task;
+    let n = packed.net.nodes() as usize;
     let (dist, rest) = cells.split_at_mut(n);
-    let (rank, rest) = rest.split_at_mut(n);
+    let (via, rest) = rest.split_at_mut(n);
     let (current, rest) = rest.split_at_mut(n);
     let (path, queue) = rest.split_at_mut(n);
+    let plan = Plan {
+        packed,
+        direction: Direction::Backwards,
+        starts: t,
+        until: s,
+        enough: count(s),
+    };
     let mut walks = Walks {
         current,
         path,
         value,
     };
-    run_until_cut(task, flow, dist, rank, queue, &mut walks);
+    // Read by the loop's invariant alone, `invariant-phases`: after so many phases the sources are farther than that.
+    let mut phases = 0u32;
+    'phases: while find_levels(plan, flow, dist, via, queue) {
+        let phase = Phase { packed, s, t, dist };
+        run_phase(phase, flow, &mut walks);
+        // Each phase brings the sources farther from the sinks, so there are fewer than `n`.
+        phases += 1;
+    }
     walks.value
 }

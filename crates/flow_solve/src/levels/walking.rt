@@ -1,4 +1,4 @@
-//! Walks from a source to sinks, along half-arcs that lead to lower ranks (Dinitz 1970).
+//! Walks from a source to sinks, along half-arcs that lead nearer to a sink (Dinitz 1970).
 ghost use Rattle.std.specs.Prelude.{◌≡◌, ◌⊎◌, ℕ, Bool, List, ◌+◌, ◌-◌, ◌*◌, ◌<◌, ◌≤◌, IsTrue, IsFalse, IfSome, IfNone};
 ghost use Rattle.std.specs.Prelude.{length, slice_index, slice_set};
 ghost use Rattle.std.specs.List.{All};
@@ -100,29 +100,29 @@ fn augment(net: &Network, flow: &mut FlowTable, walks: &Walks<'_>, len: u32) -> 
     Augmentation { sent, depth, node }
 }
 
-/// Whether a half-arc leads to a lower rank than its node's own, and has a residual capacity. It looks only at one that
-/// leads to a lower rank.
+/// Whether a half-arc leads nearer to a sink than its node is, and has a residual capacity. It looks only at one that
+/// leads nearer.
 #[inline(always)]
-fn is_admissible(net: &Network, flow: &mut FlowTable, rank: &[u32], half: u32, own: u32) -> bool
+fn is_admissible(net: &Network, flow: &mut FlowTable, dist: &[u32], half: u32, own: u32) -> bool
     requires fits { Fits net.now flow.old.flows }
-    requires ranks { length rank.now ≡ net.now.nodes }
+    requires size { length dist.now ≡ net.now.nodes }
     requires half { half < 2 * length net.now.arcs }
-    ensures yes { IsTrue result → (cell_of rank.now (head_of net.now half) < own)
+    ensures yes { IsTrue result → (cell_of dist.now (head_of net.now half) < own)
         × (1 ≤ residual net.now flow.old.flows half) × (flow.new.steps ≡ flow.old.steps + 1) }
     ensures no { IsFalse result
-        → ((own ≤ cell_of rank.now (head_of net.now half)) × (flow.new.steps ≡ flow.old.steps))
-        ⊎ ((cell_of rank.now (head_of net.now half) < own) × (residual net.now flow.old.flows half ≡ 0)
+        → ((own ≤ cell_of dist.now (head_of net.now half)) × (flow.new.steps ≡ flow.old.steps))
+        ⊎ ((cell_of dist.now (head_of net.now half) < own) × (residual net.now flow.old.flows half ≡ 0)
         × (flow.new.steps ≡ flow.old.steps + 1)) }
     ensures flows { flow.new.flows ≡ flow.old.flows }
 {
-    if rank[head(net, half) as usize - 1] >= own {
+    if dist[head(net, half) as usize - 1] >= own {
         return false;
     }
     let (_, room) = flow.look(net, half);
     room > 0
 }
 
-/// Moves a node's place on to its first half-arc that leads to a lower rank and has a residual capacity, or behind all.
+/// Moves a node's place on to its first half-arc that leads nearer and has a residual capacity, or behind all.
 fn admissible(phase: Phase<'_>, flow: &mut FlowTable, current: &mut [u32], node: u32) -> Option<u32>
     requires run { IsPhase phase }
     requires fits { Fits phase.packed.net.now flow.old.flows }
@@ -137,12 +137,12 @@ fn admissible(phase: Phase<'_>, flow: &mut FlowTable, current: &mut [u32], node:
     ensures steps_none { IfNone result (Looks phase.entry current.old flow.old current.new flow.new 0) }
 {
     let end = phase.packed.first[node as usize];
-    let own = phase.rank[node as usize - 1];
+    let own = phase.dist[node as usize - 1];
     let mut place = current[node as usize - 1];
     let mut found = None;
     while place < end {
         let half = phase.packed.halves[place as usize];
-        if is_admissible(phase.packed.net, flow, phase.rank, half, own) {
+        if is_admissible(phase.packed.net, flow, phase.dist, half, own) {
             found = Some(half);
             break;
         }
@@ -163,8 +163,6 @@ pub(crate) struct Phase<'a> {
     pub t: &'a [u32],
     /// The distance of each node to a sink; of an unseen node `FAR`, or `WANTED` where it was looked out for.
     pub dist: &'a [u32],
-    /// The rank of each node, the nearest first, or [`FAR`](crate::residual::searching::FAR) for an unseen node.
-    pub rank: &'a [u32],
 }
 
 /// Goes back over a half-arc: the place of the node that it leaves moves on past it. Answers the node.
@@ -192,7 +190,7 @@ pub(crate) fn walk(phase: Phase<'_>, flow: &mut FlowTable, walks: &mut Walks<'_>
     requires walks { AreWalks phase flow.old.flows walks.old }
     requires source { IsTrue (one_of phase.s.now source) }
     requires node { IsNode phase.packed.net.now source }
-    requires ranked { cell_of phase.rank.now source < phase.packed.net.now.nodes }
+    requires near { cell_of phase.dist.now source < phase.packed.net.now.nodes }
     ensures walks { AreWalks phase.entry flow.new.flows walks.new }
     ensures same { AreSameWalks walks.old walks.new }
     ensures dead { IsDeadIn phase.entry walks.new.current.now source }

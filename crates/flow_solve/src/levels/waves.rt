@@ -99,8 +99,7 @@ fn sweep(packed: Packed<'_>, flow: &mut FlowTable, wave: &mut Wave<'_>)
     }
 }
 
-/// The least reach. With half as many levels there are more searches, to much the same effect; with twice as many,
-/// frames, layers and netlists pass a third more half-arcs, and with 24 in the first wave frames a seventh more.
+/// The least reach. With fewer levels there are more searches, and with more frames and netlists pass more half-arcs.
 const LEAST_REACH: u32 = 16;
 
 /// Waves towards the sinks of a task, until no search finds excess that leads there, or no more may be done. One that
@@ -143,7 +142,6 @@ fn at_rest<'a>(cells: &'a mut [u32], nodes: u32, allowance: u64) -> Wave<'a>
         reach: LEAST_REACH,
         queued: 0,
         wanted: 0,
-        lost: 0,
     }
 }
 

@@ -1,6 +1,6 @@
 //! Half-arcs: their ends, their arcs' other half-arcs, and the directions in which they are gone over. No call here is
 //! a step: each reads the arc alone.
-ghost use Rattle.std.specs.Prelude.{◌≡◌, ◌+◌, ◌*◌, ◌<◌, length};
+ghost use Rattle.std.specs.Prelude.{◌≡◌, ◌*◌, ◌<◌, length};
 ghost use Rattle.flow_net.specs.Nets.{IsNode};
 ghost use Rattle.flow_net.specs.Residual.{tail_of, head_of};
 ghost use Rattle.flow_solve.specs.residual.HalfArcs.{twin_of, near_end, far_end, crossed};
@@ -32,19 +32,6 @@ pub(crate) fn head(net: &Network, half: u32) -> u32
 {
     let arc = net.arc(half / 2);
     if half % 2 == 0 { arc.dst } else { arc.src }
-}
-
-/// The node that a half-arc leads to, told by the one that it leaves: the sum of its arc's ends less that one, which
-/// needs no choice between them. No step: it reads the arc alone.
-#[inline(always)]
-pub(crate) fn other_end(net: &Network, half: u32, near: u32) -> u32
-    requires half { half < 2 * length net.now.arcs }
-    requires near { tail_of net.now half ≡ near }
-    ensures head { result ≡ head_of net.now half }
-    ensures node { IsNode net.now result }
-{
-    let arc = net.arc(half / 2);
-    arc.src + arc.dst - near
 }
 
 /// The node that a half-arc leaves. No step: it reads the arc alone.

@@ -26,7 +26,7 @@ use crate::residual::half_arcs::{Direction, cross, head};
 use crate::residual::packing::Packed;
 use flow_net::{FlowTable, MOST_NODES, Network};
 
-/// Stands for the distance, and for the rank, of a node that wasn't seen.
+/// Stands for the distance of a node that wasn't seen.
 pub(crate) const FAR: u32 = u32::MAX;
 
 /// Stands for the distance of a node that wasn't seen and that the search looks out for.

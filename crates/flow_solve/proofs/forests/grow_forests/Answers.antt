@@ -1,6 +1,6 @@
 -- `grow_forests`: a forest that comes to all nodes by itself is done, and any other is completed.
-use Rattle.std.proofs.Common.{◌∙◌, arith}
-use Rattle.flow_solve.proofs.ForestLemmas.Taken.{above_enough, facing_limits, facing_nodes, grove_more}
+use Rattle.std.proofs.Common.{arith}
+use Rattle.flow_solve.proofs.ForestLemmas.Taken.{facing_limits, facing_nodes, grove_above, grove_more}
 use Rattle.flow_solve.proofs.Payments.{paid_then}
 use Rattle.flow_solve.proofs.forests.grow_forests.Goals.{then-not-is_whole+in_ok-least}
 use Rattle.flow_solve.proofs.forests.grow_forests.Goals.{else-not-is_whole}
@@ -12,8 +12,6 @@ loop-count-init c = record {
   stand = c.requires.stand;
   least = record { reached = c.requires.reached; fewer = omega arith };
   grove = c.requires.grove;
-  rows_size = c.requires.rows;
-  hints_size = c.requires.hints;
   paid = record { never_lowered = omega arith; left = omega arith; steps = omega arith };
 }
 
@@ -29,7 +27,7 @@ loop-count-preserved c =
     elim c.if-not-is_whole.branch [
       | then-not-is_whole+in_ok-least w ↦
           let r = w.in_ok-least.ensures in
-          rw (w.rows-is, w.flow-is, w.hints-is, w.done-is, w.least-is, w.ready-is) (record {
+          rw (w.rows-is, w.flow-is, w.done-is, w.least-is, w.ready-is) (record {
             fits = r.fits;
             stand = record {
               limits = j.stand.limits;
@@ -39,12 +37,10 @@ loop-count-preserved c =
             };
             least = record { reached = r.least.reached; fewer = omega (arith, j.least.fewer, r.least.fewer) };
             grove = r.grove;
-            rows_size = w.complete.auto.rows ∙ one.auto.rows ∙ j.rows_size;
-            hints_size = w.complete.auto.hints ∙ one.auto.hints ∙ j.hints_size;
             paid = paid_then _ _ _ _ _ _ j.paid r.paid;
           })
       | else-not-is_whole w ↦
-          rw (w.rows-is, w.flow-is, w.hints-is, w.done-is, w.least-is, w.ready-is) (record {
+          rw (w.rows-is, w.flow-is, w.done-is, w.least-is, w.ready-is) (record {
             fits = j.fits;
             stand = record {
               limits = j.stand.limits;
@@ -59,8 +55,6 @@ loop-count-preserved c =
                 (λ more v l m. c.is_whole.ensures w.if-not-is_whole.false v l
                 (omega (arith, m, facing_nodes c.args.ground.direction c.args.ground.net.now)))
                 (one.ensures.forest k c.loop-count.count j.grove);
-            rows_size = one.auto.rows ∙ j.rows_size;
-            hints_size = one.auto.hints ∙ j.hints_size;
             paid = j.paid;
           })
     ]
@@ -68,8 +62,9 @@ loop-count-preserved c =
 pub returns-clause-above : goal.returns-clause-above
 returns-clause-above c =
     let j = c.loop-count.invariant in
-    above_enough c.args.ground _ _ c.loop-count.least.value c.loop-count.count c.args.is_even c.loop-count.rows
-    c.requires.even j.least.reached j.grove (omega (arith, c.forests_for.ensures.all))
+    let k = c.loop-count.least.value in
+    grove_above c.args.ground _ _ k c.loop-count.count k c.loop-count.rows j.grove (omega arith)
+    (omega (arith, c.loop-count-test.false))
 
 pub complete-requires-clause-fits : goal.complete-requires-clause-fits
 complete-requires-clause-fits c = c.loop-count.invariant.fits

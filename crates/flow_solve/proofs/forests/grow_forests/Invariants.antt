@@ -1,5 +1,5 @@
 -- `grow_forests`: so many forests are done, and the steps are paid.
-use Rattle.std.proofs.Common.{◌≡◌, ◌+◌, ◌-◌, ◌*◌, length}
+use Rattle.std.proofs.Common.{◌-◌}
 use Rattle.flow_net.specs.Flows.{Fits}
 use Rattle.flow_solve.specs.Forests.{HasFallen, IsGrove, IsStand, at_stage}
 use Rattle.flow_solve.specs.Steps.{PaysSteps}
@@ -11,8 +11,6 @@ invariant-loop-count l = record {
   stand : IsStand l.ground l.done;
   least : HasFallen l.ground.net.now l.fn.known.value l.least.value;
   grove : IsGrove (at_stage l.ground l.ready) l.least.value l.count l.rows;
-  rows_size : length l.rows ≡ length l.ground.net.now.arcs;
-  hints_size : length l.hints ≡ length l.ground.net.now.arcs + 4 * l.ground.net.now.nodes + 1;
   paid : PaysSteps l.fn.flow l.fn.known.left l.flow l.least.left;
 }
 

@@ -27,29 +27,6 @@ fn is_outside(cells: &[u32], node: u32) -> bool
     label_in(cells, node) % 2 == 0
 }
 
-/// How many nodes tell about how large the tree of the sinks is.
-const SAMPLE: u32 = 1024;
-
-/// The tree of the sinks is large where at least one node of so many is in it. In a smaller one the last search of the
-/// phases, which sees its nodes alone, takes less than the pass over the arcs.
-const LARGE_PART: u32 = 8;
-
-/// Whether the tree of the sinks is large, as nodes at equal distances tell.
-pub(crate) fn is_large(cells: &[u32], nodes: u32) -> bool
-    requires { 4 * nodes ≤ length cells.now }
-{
-    let step = nodes / SAMPLE + 1;
-    let mut inside = 0u32;
-    let mut node = nodes;
-    'sample: while node > 0 {
-        if !is_outside(cells, node) {
-            inside = inside.saturating_add(step);
-        }
-        node = node.saturating_sub(step);
-    }
-    inside >= nodes / LARGE_PART
-}
-
 /// Whether each of some nodes is outside the tree of the sinks, or each in it.
 fn are_outside(cells: &[u32], nodes: &[u32], is_so: bool) -> bool
     requires { All (λ v. (1 ≤ v) × (4 * v ≤ length cells.now)) nodes.now }

@@ -131,7 +131,7 @@ fn push_along(
         }
         flow.push(net, over, amount);
         if room == amount {
-            trees.abandon_first(node);
+            trees.abandon(node);
         }
         node = parent;
     }
@@ -203,21 +203,20 @@ fn push_through(task: Task<'_>, flow: &mut FlowTable, trees: &mut Trees<'_>, tou
 }
 
 /// Pushes as much as remains along the path over a half-arc from the tree of the sources to that of the sinks. Answers
-/// how many half-arcs the path has, or 0 where nothing was pushed. Should the path be none after all, the table is
-/// cleared.
+/// whether something was pushed. Should the path be none after all, the table is cleared.
 pub(crate) fn augment_over(
     task: Task<'_>,
     flow: &mut FlowTable,
     trees: &mut Trees<'_>,
     half: u32,
-) -> u64
+) -> bool
     requires growing { AreGrowing task flow.old trees.old }
     requires half { half < 2 * length task.packed.net.now.arcs }
     ensures { HaveGrown task.entry flow.old trees.old flow.new trees.new }
 {
     let packed = task.packed;
     if !spend(&mut trees.left, COST) {
-        return 0;
+        return false;
     }
     let from = tail(packed.net, half);
     let before = measure(packed, Forwards, flow, trees, from);
@@ -226,7 +225,7 @@ pub(crate) fn augment_over(
     let (_, room) = flow.look(packed.net, half);
     let amount = room.min(before.room).min(behind.room);
     if amount == 0 {
-        return 0;
+        return false;
     }
     let touch = Touch {
         half,
@@ -237,8 +236,8 @@ pub(crate) fn augment_over(
     if !push_through(task, flow, trees, touch) {
         flow.clear();
         trees.value = 0;
-        return 0;
+        return false;
     }
     trees.value += u128::from(amount);
-    u64::from(touch.before) + 1 + u64::from(touch.behind)
+    true
 }

@@ -52,8 +52,6 @@ pub(crate) struct Trees<'a> {
     pub left: u64,
     /// The trees are tired where no more than this is left: they have brought too little for what they took.
     pub floor: u64,
-    /// The most half-arcs that the first path may have.
-    pub farthest: u32,
 }
 
 /// Where a node's label stands: twice one more than its distance from the root when that was last looked at, and 1 more
@@ -190,15 +188,6 @@ impl Trees<'_> {
         above_in(self.cells, node)
     }
 
-    /// Whether a node is surer of a root than another.
-    #[inline(always)]
-    pub(crate) fn is_surer(&self, node: u32, other: u32) -> bool
-        requires node { HaveCells self.now node }
-        requires other { HaveCells self.now other }
-    {
-        self.stamp(node) > self.stamp(other)
-    }
-
     /// Sets a node free.
     #[inline(always)]
     pub(crate) fn set_free(&mut self, node: u32)
@@ -286,22 +275,8 @@ impl Trees<'_> {
         node
     }
 
-    /// Makes a node the first of the orphans.
-    pub(crate) fn abandon_first(&mut self, node: u32)
-        requires { 1 ≤ node }
-        ensures { HaveMarked self.old self.new }
-    {
-        let cells = &mut *self.cells;
-        put(cells, parent_cell(node), NO_PARENT);
-        put(cells, stamp_cell(node), self.orphans.first);
-        if self.orphans.last == 0 {
-            self.orphans.last = node;
-        }
-        self.orphans.first = node;
-    }
-
     /// Makes a node the last of the orphans.
-    pub(crate) fn abandon_last(&mut self, node: u32)
+    pub(crate) fn abandon(&mut self, node: u32)
         requires { 1 ≤ node }
         ensures { HaveMarked self.old self.new }
     {

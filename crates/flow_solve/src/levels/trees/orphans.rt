@@ -90,33 +90,22 @@ struct Offer {
     pub distance: u32,
 }
 
-/// A node beside an orphan.
-#[derive(Clone, Copy)]
-struct Neighbour {
-    /// The node.
-    pub node: u32,
-    /// Its label.
-    pub label: u32,
-    /// The entry that leads to it from the orphan.
-    pub entry: u32,
-}
-
-/// What a neighbour in its tree offers an orphan: to be its parent, if it is no child of it, its parents lead to a
-/// root, and something remains between them. One look is paid beforehand.
+/// What a node in the tree of an orphan offers it, by the entry that leads there: to be its parent, if it is no child
+/// of it, its parents lead to a root, and something remains between them. One look is paid beforehand.
 fn ask(
     packed: Packed<'_>,
     flow: &mut FlowTable,
     trees: &mut Trees<'_>,
     orphan: Orphan,
-    neighbour: Neighbour,
+    entry: u32,
 ) -> Option<Offer>
     requires forest { HasTreeCells packed flow.old trees.old }
-    requires node { HaveCells trees.old neighbour.node }
-    requires entry { IsEntry packed.net.now neighbour.entry }
+    requires entry { IsEntry packed.net.now entry }
     ensures spends { HaveSpent trees.old trees.new }
     ensures looks { PaysLooks flow.old (trees.old.left + 1) flow.new trees.new.left }
 {
-    let Neighbour { node, label, entry } = neighbour;
+    let node = head(packed.net, half_in(entry));
+    let label = trees.label(node);
     if trees.parent(node) == NO_PARENT || is_child(trees, node, label, orphan) {
         return None;
     }
@@ -160,8 +149,7 @@ fn find_parent(packed: Packed<'_>, flow: &mut FlowTable, trees: &mut Trees<'_>, 
         if !is_own(own, label) || label / 2 >= nearest {
             continue;
         }
-        let neighbour = Neighbour { node, label, entry };
-        if let Some(Offer { half, distance }) = ask(packed, flow, trees, orphan, neighbour) {
+        if let Some(Offer { half, distance }) = ask(packed, flow, trees, orphan, entry) {
             if distance < nearest {
                 nearest = distance;
                 between = half;
@@ -192,7 +180,7 @@ fn part(packed: Packed<'_>, flow: &mut FlowTable, trees: &mut Trees<'_>, orphan:
         return;
     }
     if is_child(trees, node, label, orphan) {
-        trees.abandon_last(node);
+        trees.abandon(node);
     }
     if trees.is_active(node) {
         return;

@@ -9,7 +9,7 @@ ghost use Rattle.flow_solve.specs.levels.Waves.{HasCells, HasLookedOut, HasSent,
 use super::excess::{PLACES, UNSEEN, Wave};
 use super::passing::{Row, half_at, next_to, row_of};
 use crate::levels::spending::spend;
-use crate::residual::half_arcs::other_end;
+use crate::residual::half_arcs::head;
 use crate::residual::packing::Packed;
 use flow_net::{FlowTable, Network};
 
@@ -26,16 +26,14 @@ struct Sender<'a> {
     amount: u64,
 }
 
-/// Sends as much of an amount over a half-arc as remains there and as the excess of the node there, which is on some
-/// level, has room for; a root, at level 0, takes all, and nothing is booked. A node that had no excess is listed.
-/// Answers how much.
+/// Sends as much of an amount over a half-arc as remains there and as the excess of the node there has room for; a
+/// root, at level 0, takes all, and nothing is booked. A node that had no excess is listed. Answers how much.
 #[inline(always)]
 fn send_over(
     net: &Network,
     flow: &mut FlowTable,
     wave: &mut Wave<'_>,
     half: u32,
-    level: u32,
     amount: u64,
 ) -> u64
     requires fits { Fits net.now flow.old.flows }
@@ -48,6 +46,7 @@ fn send_over(
     ensures steps { TakesSteps flow.old flow.new 2 }
 {
     let (node, room) = flow.look(net, half);
+    let level = wave.level(node);
     let mut sent = amount.min(room);
     if level > 0 && sent > 0 {
         let had_none = wave.excess(node) == 0;
@@ -77,7 +76,7 @@ fn pass(packed: Packed<'_>, flow: &mut FlowTable, wave: &mut Wave<'_>, sender: &
     }
     let mut amount = sender.amount;
     while let Some(half) = next_to(packed.net, wave, row, &mut step, nearer) {
-        amount -= send_over(packed.net, flow, wave, half, nearer, amount);
+        amount -= send_over(packed.net, flow, wave, half, amount);
         step += 1;
         if amount == 0 {
             break;
@@ -108,7 +107,7 @@ fn lift(packed: Packed<'_>, flow: &mut FlowTable, wave: &mut Wave<'_>, sender: &
     if spend(&mut left, row.halves.len() as u64) {
         while step < row.halves.len() && own < least {
             let half = half_at(packed.net, row, step);
-            let level = wave.level(other_end(packed.net, half, row.node));
+            let level = wave.level(head(packed.net, half));
             if own <= level && level < least && flow.look(packed.net, half).1 > 0 {
                 least = level;
                 found = step;

@@ -45,14 +45,12 @@ pub(super) struct Wave<'a> {
     pub farthest: u32,
     /// A node that would be lifted to this level or above takes no part until the next search.
     pub ceiling: u32,
-    /// How many levels the ceiling stands above the farthest excess, where that has a short way to go.
+    /// How many levels the ceiling stands above the farthest excess.
     pub reach: u32,
     /// How many nodes the search has put in its queue.
     pub queued: u32,
     /// How many nodes with excess it still looks out for.
     pub wanted: u32,
-    /// How many nodes have excess that leads to no root.
-    pub lost: u32,
 }
 
 /// Where the next node on a node's list stands.
@@ -75,20 +73,10 @@ fn excess_cell(nodes: u32, node: u32) -> usize
     3 * nodes as usize + 2 * (node as usize - 1)
 }
 
-/// Where the farthest excess has a long way to go, the ceiling stands one level higher for so many levels of that way,
-/// since what waits for the next search has it before it again. With none, long road maps pass a tenth to a quarter
-/// more half-arcs; with one for each 64 levels, wide frames and meshes up to a tenth more.
-const WAY_PER_LEVEL: u32 = 128;
-
-/// By so many levels at most: with no bound, the longest road maps pass three times as many half-arcs.
-const MOST_LEVELS_MORE: u32 = 16;
-
 impl Wave<'_> {
     /// The highest level at which the ceiling may stand.
     pub(super) fn highest(&self) -> u32 {
-        let more = (self.farthest / WAY_PER_LEVEL).min(MOST_LEVELS_MORE);
-        let level = self.farthest.saturating_add(self.reach);
-        level.saturating_add(more)
+        self.farthest.saturating_add(self.reach)
     }
 
     /// A node's level.

@@ -10,14 +10,13 @@ ghost use Rattle.flow_solve.specs.levels.Waves.{HasCells, HasLookedOut, IsWaving
 use super::excess::{BARRED, UNSEEN, Wave};
 use super::passing::{half_at, row_of};
 use crate::levels::spending::spend;
-use crate::residual::half_arcs::{other_end, twin};
+use crate::residual::half_arcs::{head, twin};
 use crate::residual::packing::Packed;
 use crate::task::Task;
 use flow_net::{FlowTable, Network};
 
 /// How many times the number of arcs a wave may take before the next search: some times what a search does, since in a
-/// wave that goes on for long most nodes are lifted where nothing leads on. With half or twice as many, networks with
-/// long ways take from a tenth less to a sixth more, some with the one and some with the other.
+/// wave that goes on for long most nodes are lifted where nothing leads on.
 const FUEL: u64 = 16;
 
 /// How many nodes have excess.
@@ -36,22 +35,15 @@ fn count_excess(wave: &Wave<'_>) -> u32
 /// Sees a node that a half-arc leads to, if it is unseen and something remains on the other half-arc of its arc: gives
 /// it its level, puts it in the queue, and counts it if it has excess. One look is paid beforehand.
 #[inline(always)]
-fn see_over(
-    net: &Network,
-    flow: &mut FlowTable,
-    wave: &mut Wave<'_>,
-    half: u32,
-    node: u32,
-    level: u32,
-)
+fn see_over(net: &Network, flow: &mut FlowTable, wave: &mut Wave<'_>, half: u32, level: u32)
     requires fits { Fits net.now flow.old.flows }
     requires half { half < 2 * length net.now.arcs }
-    requires node { IsNode net.now node }
     requires nodes { wave.old.nodes ≡ net.now.nodes }
     requires size { length wave.old.cells.now ≡ 5 * net.now.nodes }
     ensures stays { StaysIn wave.old wave.new }
     ensures paid { PaysLooks flow.old (wave.old.left + 1) flow.new wave.new.left }
 {
+    let node = head(net, half);
     if wave.level(node) != UNSEEN || flow.look(net, twin(half)).1 == 0 {
         return;
     }
@@ -76,8 +68,7 @@ fn scan(packed: Packed<'_>, flow: &mut FlowTable, wave: &mut Wave<'_>, node: u32
     }
     for step in 0..row.halves.len() {
         let half = half_at(packed.net, row, step);
-        let next = other_end(packed.net, half, row.node);
-        see_over(packed.net, flow, wave, half, next, level);
+        see_over(packed.net, flow, wave, half, level);
     }
 }
 
@@ -89,13 +80,11 @@ fn scan_all(packed: Packed<'_>, flow: &mut FlowTable, wave: &mut Wave<'_>)
 {
     let nodes = packed.net.nodes();
     for place in 0..nodes {
-        if place >= wave.queued {
-            // Nothing else leads to a root any more.
-            wave.lost = wave.lost.saturating_add(wave.wanted);
+        let node = wave.queued_at(place);
+        if place >= wave.queued || node < 1 || nodes < node {
             return;
         }
-        let node = wave.queued_at(place);
-        if node < 1 || nodes < node || (wave.wanted == 0 && wave.level(node) >= wave.highest()) {
+        if wave.wanted == 0 && wave.level(node) >= wave.highest() {
             return;
         }
         scan(packed, flow, wave, node);
@@ -115,14 +104,14 @@ fn list_all(wave: &mut Wave<'_>)
     }
 }
 
-/// Begins to look out for nodes with excess. Answers whether there are any that the searches before didn't find lost.
+/// Begins to look out for nodes with excess. Answers whether there are any.
 fn looks_out(wave: &mut Wave<'_>) -> bool
     requires { length wave.old.cells.now ≡ 5 * wave.old.nodes }
     ensures { OnlyMarks wave.old wave.new }
 {
     wave.queued = 0;
     wave.farthest = 0;
-    wave.wanted = count_excess(wave).saturating_sub(wave.lost);
+    wave.wanted = count_excess(wave);
     wave.wanted > 0
 }
 

@@ -1,20 +1,17 @@
 //! Passing the half-arcs of a node, from the first to the last or from the last to the first.
-ghost use Rattle.std.specs.Prelude.{◌≡◌, ◌+◌, ◌-◌, ◌*◌, ◌<◌, ◌≤◌, IfSome, length};
+ghost use Rattle.std.specs.Prelude.{◌+◌, ◌-◌, ◌*◌, ◌<◌, ◌≤◌, IfSome, length};
 ghost use Rattle.flow_net.specs.Nets.{IsNode};
-ghost use Rattle.flow_net.specs.Residual.{tail_of};
 ghost use Rattle.flow_solve.specs.residual.Packs.{IsPacked};
 ghost use Rattle.flow_solve.specs.levels.Waves.{IsRow};
 
 use super::excess::Wave;
-use crate::residual::half_arcs::other_end;
+use crate::residual::half_arcs::head;
 use crate::residual::packing::Packed;
 use flow_net::Network;
 
 /// A node's half-arcs.
 #[derive(Clone, Copy)]
 pub(super) struct Row<'a> {
-    /// The node.
-    pub node: u32,
     /// They stand side by side.
     pub halves: &'a [u32],
     /// Whether they are passed from the last to the first.
@@ -31,7 +28,6 @@ pub(super) fn row_of<'a>(packed: Packed<'a>, node: u32, backwards: bool) -> Row<
     let begin = packed.first[node as usize - 1] as usize;
     let end = packed.first[node as usize] as usize;
     Row {
-        node,
         halves: &packed.halves[begin..end],
         backwards,
     }
@@ -42,8 +38,7 @@ pub(super) fn row_of<'a>(packed: Packed<'a>, node: u32, backwards: bool) -> Row<
 pub(super) fn half_at(net: &Network, row: Row<'_>, step: usize) -> u32
     requires row { IsRow net.now row }
     requires step { step < length row.halves.now }
-    ensures half { result < 2 * length net.now.arcs }
-    ensures tail { tail_of net.now result ≡ row.entry.node }
+    ensures { result < 2 * length net.now.arcs }
 {
     let place = if row.backwards {
         row.halves.len() - 1 - step
@@ -72,7 +67,7 @@ pub(super) fn next_to(
 {
     while *step < row.halves.len() {
         let half = half_at(net, row, *step);
-        if wave.level(other_end(net, half, row.node)) == level {
+        if wave.level(head(net, half)) == level {
             return Some(half);
         }
         *step += 1;

@@ -3,7 +3,6 @@ use Rattle.std.proofs.Common.{ℕ, ◌<◌, subst, inl, inr, arith}
 use Rattle.std.proofs.lemmas.Bool.{cases_lt}
 use Rattle.flow_solve.specs.declared.residual.half_arcs.Direction.{Direction}
 use Rattle.flow_solve.specs.residual.Searches.{IsMarked, IsDone, IsSearched}
-use Rattle.flow_solve.proofs.ResidualLemmas.Queues.{queue_short}
 use Rattle.flow_solve.proofs.LevelLemmas.Levelled.{levels_found}
 use Rattle.flow_solve.proofs.levels.phases.find_levels.Goals as goal
 
@@ -13,31 +12,15 @@ returns-then-progress-eq0-clause-missed c = λ e.
     c.search-progress.ensures.missed c.if-progress-eq0.true
     (omega (arith, c.requires.enough, c.requires.terminals.some_source))
 
--- the queue holds each seen node once
-pub rank_all-requires-clause-all : goal.rank_all-requires-clause-all
-rank_all-requires-clause-all c =
-    omega (
-      arith,
-      queue_short c.search-progress.new.dist c.search-progress.new.queue c.search-progress.result.seen
-          c.search-progress.ensures.queue,
-      c.search-progress.ensures.searched.size,
-      c.requires.cells.queue_size,
-    )
-
--- a source: distances and ranks are levels
+-- a source: distances are levels
 pub returns-clause-levels : goal.returns-clause-levels
 returns-clause-levels c = λ e.
     let found = c.search-progress.ensures in
-    let ranks = c.rank_all.ensures in
     let plan = c.args.plan in
     let net = plan.packed.net.now in
     let dist = c.search-progress.new.dist in let flows = c.args.flow.now.flows in
-    levels_found c.requires.packed.limits (record {
-      order = found.queue;
-      dist_size = found.searched.size;
-      ranked = ranks.ranked;
-      ranks = λ p l. ranks.ranks p (omega (arith, l, c.requires.cells.via_size));
-    }) plan.enough (subst (λ (dir : Direction). IsSearched net flows dir plan.starts.now dist c.search-progress.new.via)
+    levels_found plan.enough c.requires.packed.limits found.queue
+    (subst (λ (dir : Direction). IsSearched net flows dir plan.starts.now dist c.search-progress.new.via)
     c.requires.backwards found.searched) c.requires.terminals.sources_within c.requires.terminals.sinks_within
     found.count (subst
     (λ (dir : Direction). c.search-progress.result.wanted < plan.enough

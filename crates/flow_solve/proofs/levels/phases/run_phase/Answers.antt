@@ -43,7 +43,7 @@ returns-clause-far c = λ j far.
 pub returns-clause-steps : goal.returns-clause-steps
 returns-clause-steps c =
     let net = c.args.phase.packed.net.now in
-    let rank = c.args.phase.rank.now in
+    let rank = c.args.phase.dist.now in
     let halves = c.args.phase.packed.halves.now in
     let paid = phase_paid (length net.arcs) (3 * (net.nodes - 1)) c.args.flow.now.steps
     c.walk_from_sources.new.flow.steps _ _ _

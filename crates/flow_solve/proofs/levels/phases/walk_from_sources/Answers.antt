@@ -29,11 +29,11 @@ walk-requires-clause-node c =
 pub walk-requires-clause-source : goal.walk-requires-clause-source
 walk-requires-clause-source c = one_of-at c.args.phase.s.now c.loop-source.source-index c.loop-source-test.true
 
-pub walk-requires-clause-ranked : goal.walk-requires-clause-ranked
-walk-requires-clause-ranked c =
+pub walk-requires-clause-near : goal.walk-requires-clause-near
+walk-requires-clause-near c =
     let source = get_or c.args.phase.s.now c.loop-source.source-index 0 in
     let node = c.requires.run.terminals.sources_within c.loop-source.source-index 0 c.loop-source-test.true in
-    c.requires.ranked source
+    c.requires.near source
     (seen_marked c.args.phase.dist.now source node.0 (omega (arith, node.1, c.requires.run.dist_size))
     c.if-phase-source-lt-WANTED.true)
 

@@ -14,11 +14,11 @@ invariant-loop-source l = record {
   dead : (k : ℕ) → k < l.source-index → IsTrue (seen l.phase.dist.now (slice_index l.phase.s.now k))
       → IsDead l.phase.packed.net.now (one_of l.phase.t.now) (first_at l.phase.packed.halves.now)
       (cell_of l.walks.current.now) (slice_index l.phase.s.now k);
-  gentle : (level : ℕ → ℕ) → IsOrdered l.phase.packed.net.now level (cell_of l.phase.rank.now)
+  gentle : (level : ℕ → ℕ) → IsOrdered l.phase.packed.net.now level (cell_of l.phase.dist.now)
       → IsGentle l.phase.packed.net.now l.fn.flow.flows level → IsGentle l.phase.packed.net.now l.flow.flows level;
   never_lowered : l.fn.flow.steps ≤ l.flow.steps;
   steps : l.flow.steps
-      + owed l.phase.packed.net.now l.phase.packed.halves.now l.phase.rank.now l.walks.current.now l.flow.flows
+      + owed l.phase.packed.net.now l.phase.packed.halves.now l.phase.dist.now l.walks.current.now l.flow.flows
       ≤ l.fn.flow.steps
-      + owed l.phase.packed.net.now l.phase.packed.halves.now l.phase.rank.now l.fn.walks.current.now l.fn.flow.flows;
+      + owed l.phase.packed.net.now l.phase.packed.halves.now l.phase.dist.now l.fn.walks.current.now l.fn.flow.flows;
 }

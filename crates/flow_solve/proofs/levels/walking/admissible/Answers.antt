@@ -1,4 +1,4 @@
--- `admissible`: the node's half-arcs from its place on; each that is passed is filled, or leads to no lower rank.
+-- `admissible`: the node's half-arcs from its place on; each that is passed is filled, or leads no nearer.
 use Rattle.std.proofs.Common.{◌≡◌, ℕ, List, ◌+◌, ◌-◌, Option, IfSome, get_or, set, length-set, refl, ◌∙◌, sym, ap}
 use Rattle.std.proofs.Common.{subst, inl, inr, arith}
 use Rattle.flow_net.specs.Flows.{Fits}
@@ -27,7 +27,7 @@ pub loop-place-preserved : goal.loop-place-preserved
 loop-place-preserved c =
     let old = c.loop-place.invariant in let l = old.looking in let now = c.is_admissible.ensures in
     let net = c.args.phase.packed.net.now in
-    let rank = c.args.phase.rank.now in
+    let rank = c.args.phase.dist.now in
     let half = get_or c.args.phase.packed.halves.now c.loop-place.place 0 in
     let g : IsMine net c.args.phase.packed.halves.now c.args.node c.loop-place.place half =
     mine_at c.requires.run.packed.limits c.requires.run.packed c.requires.node c.requires.current l
@@ -84,7 +84,7 @@ pub returns-clause-some : goal.returns-clause-some
 returns-clause-some c =
     let old = c.loop-place.invariant in let l = old.looking in
     let net = c.args.phase.packed.net.now in
-    let rank = c.args.phase.rank.now in
+    let rank = c.args.phase.dist.now in
     let half = get_or c.args.phase.packed.halves.now c.loop-place.place 0 in
     let found : Option ℕ → Type 0 = λ o. IfSome o (λ h. IsAdmissible net (cell_of rank)
     (first_at c.args.phase.packed.halves.now)

@@ -60,7 +60,7 @@ pub turns-smaller-then-phase-node-eq0 : goal.turns-smaller-then-phase-node-eq0
 turns-smaller-then-phase-node-eq0 c =
     let net = c.args.phase.packed.net.now in
     let halves = c.args.phase.packed.halves.now in
-    let rank = c.args.phase.rank.now in
+    let rank = c.args.phase.dist.now in
     let less = to_go_fill c.turns.invariant.turning c.augment-done.result.sent c.augment-done.result.depth
     c.augment-done.ensures.filling in
     subst (λ (ys : List ℕ). to_go net halves rank c.turns.walks.current.now ys c.augment-done.result.depth
@@ -102,7 +102,7 @@ pub turns-smaller-in-Some : goal.turns-smaller-in-Some
 turns-smaller-in-Some c =
     let net = c.args.phase.packed.net.now in
     let halves = c.args.phase.packed.halves.now in
-    let rank = c.args.phase.rank.now in
+    let rank = c.args.phase.dist.now in
     let less = to_go_longer net halves rank c.turns.walks.current.now c.admissible.new.current c.turns.flow.flows
     c.turns.node c.turns.depth c.admissible.ensures.looked.moved c.turns.invariant.turning.short in
     subst (λ (ys : List ℕ). to_go net halves rank c.admissible.new.current ys (c.turns.depth + 1)
@@ -113,7 +113,7 @@ pub turns-preserved-in-Some : goal.turns-preserved-in-Some
 turns-preserved-in-Some c =
     let old = c.turns.invariant in let net = c.args.phase.packed.net.now in let found = c.in-Some.ensures in
     let on = turning_advance old.turning c.admissible.new.flow.steps c.in-Some.half c.requires.run.packed.limits
-    c.requires.ranked c.admissible.ensures.looked found.some found.steps_some in
+    c.requires.near c.admissible.ensures.looked found.some found.steps_some in
     record {
       turning = turning_as on refl found.flows c.head-node.ensures.head refl refl;
       same = record {
@@ -138,7 +138,7 @@ pub returns-then-depth-eq0-clause-walks : goal.returns-then-depth-eq0-clause-wal
 returns-then-depth-eq0-clause-walks c = record {
   phase =
       subst (λ (ys : List ℕ). IsInPhase c.args.phase.packed.net.now c.args.phase.s.now c.args.phase.t.now
-      c.args.phase.packed.first.now c.args.phase.packed.halves.now c.args.phase.rank.now c.admissible.new.current ys
+      c.args.phase.packed.first.now c.args.phase.packed.halves.now c.args.phase.dist.now c.admissible.new.current ys
       c.turns.walks.value) (sym c.admissible.ensures.flows)
       (looked_phase c.admissible.ensures.looked c.turns.invariant.turning.phase);
   path_size = c.turns.invariant.turning.path_size;
@@ -165,7 +165,7 @@ pub returns-then-depth-eq0-clause-steps : goal.returns-then-depth-eq0-clause-ste
 returns-then-depth-eq0-clause-steps c =
     let net = c.args.phase.packed.net.now in
     let halves = c.args.phase.packed.halves.now in
-    let rank = c.args.phase.rank.now in
+    let rank = c.args.phase.dist.now in
     let paid = turning_end c.turns.invariant.turning c.admissible.new.flow.steps c.if-depth-eq0.true
     c.admissible.ensures.looked (omega (arith, c.in_default.ensures.steps_none)) in
     subst (λ (ys : List ℕ). c.admissible.new.flow.steps + owed net halves rank c.admissible.new.current ys
@@ -192,7 +192,7 @@ pub turns-smaller : goal.turns-smaller
 turns-smaller c =
     let net = c.args.phase.packed.net.now in
     let halves = c.args.phase.packed.halves.now in
-    let rank = c.args.phase.rank.now in
+    let rank = c.args.phase.dist.now in
     let less = to_go_pass c.turns.invariant.turning (c.turns.depth - 1) (omega (arith, c.if-depth-eq0.false))
     c.requires.run.packed.limits c.admissible.ensures.looked in
     subst (λ (zs : List ℕ). to_go net halves rank zs c.admissible.new.flow.flows (c.turns.depth - 1)

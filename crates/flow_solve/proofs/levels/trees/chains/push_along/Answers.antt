@@ -40,7 +40,7 @@ chain-preserved c =
       };
       marks = elim c.if-room-amount-2.branch [
         | then-room-amount-2 w ↦
-            let one = w.abandon_first.ensures in
+            let one = w.abandon.ensures in
             rw w.trees-is (record {
               stays = record {
                 size = one.stays.size ∙ old.marks.stays.size;

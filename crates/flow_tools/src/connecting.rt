@@ -12,7 +12,6 @@ ghost use Rattle.flow_net.specs.LeastCuts.{IsConnectivity, IsPairConnectivity};
 ghost use Rattle.flow_solve.specs.Bounds.{work_cells};
 
 pub(crate) mod answers;
-mod order;
 
 use flow_net::{FlowTable, Network};
 use flow_solve::{Method, connectivity_by_forests, least_degree, work_len};

@@ -1,25 +1,18 @@
 -- The connectivity of a problem's network, from that of the network in which a flow counts arcs.
-use Rattle.std.proofs.Common.{◌≡◌, ℕ, Bool, true, false, cond, List, refl, sym, subst, inl, inr}
+use Rattle.std.proofs.Common.{◌≡◌, ℕ, Bool, true, false, cond, List, refl, sym, subst}
 use Rattle.std.proofs.Common.{◌++◌, map, ap, ◌∙◌}
 use Rattle.std.proofs.lemmas.List.{map-append}
 use Rattle.std.proofs.lemmas.Simd.{map-map}
 use Rattle.std.specs.List.{All}
 use Rattle.std.proofs.lemmas.List.Elements.{All-map, All-from_get_or}
-use Rattle.flow_net.specs.Nets.{Net, Instance, IsNode}
-use Rattle.flow_net.specs.Arrangements.{named}
+use Rattle.flow_net.specs.Nets.{Net, Instance}
 use Rattle.flow_net.specs.Arcs.{no_arc}
-use Rattle.flow_net.specs.Limits.{IsNet, IsProblem}
 use Rattle.flow_net.specs.DerivedNets.{unit, unit_arc, reversed, both_ways}
 use Rattle.flow_net.specs.NodeSets.{one_of, IsLeastOver}
 use Rattle.flow_net.specs.LeastCuts.{IsConnectivity, IsPairConnectivity}
 use Rattle.flow_net.proofs.Connections.{undirected, undirected_pair, connectivity_of_unit, pair_of_unit}
-use Rattle.flow_net.proofs.ArrangementLaws.{named_cut, unnamed_cut}
-use Rattle.flow_net.proofs.ArrangedCounts.{leaving_agrees, crossing_agrees, least_restored}
-use Rattle.flow_net.proofs.ArrangedCounts.{named_proper, unnamed_proper}
 use Rattle.flow_tools.specs.connecting.Counts.{counted}
-use Rattle.flow_tools.specs.declared.solving.arranging.Lists.{Lists}
 use Rattle.flow_tools.specs.running.Answers.{IsSeparating}
-use Rattle.flow_tools.specs.solving.ArrangedProblems.{IsArrangedBy, IsSameOrArranged}
 
 -- the connectivity that is asked for: undirected or not, and with the pair or not
 abbrev pub IsConnectivityOf : Instance → Bool → Bool → ℕ → Type 0
@@ -64,42 +57,3 @@ module _ (p : Instance) (made : Net) (s t : List ℕ) (es : s ≡ p.sources) (et
       (subst (λ vs. IsPairConnectivity made (one_of p.sources) (one_of vs) k) et
       (subst (λ vs. IsPairConnectivity made (one_of vs) (one_of t) k) es (by_pair refl))))
   connectivity_of b false k e by_pair whole = whole_connectivity p b k (subst (λ n. IsConnectivity n k) e (whole refl))
-
-module _ (p other : Instance) (lists : Lists) (r : IsNet p.net) (q : IsProblem p) (a : IsArrangedBy p other lists) where
-  -- one set is that of the names of the other
-  abbrev AreSame : (ℕ → Bool) → (ℕ → Bool) → Type 0
-  AreSame X Y = (v : ℕ) → IsNode p.net v → Y (named lists.names.items v) ≡ X v
-
-  -- the sets that count
-  separating_named : (pair : Bool) (X Y : ℕ → Bool) → AreSame X Y → IsSeparating p pair X → IsSeparating other pair Y
-  separating_named false X Y h c =
-      named_proper p.net other.net lists.names.items lists.places.items a.net r X Y h c
-  separating_named true X Y h c =
-      rw (a.sources, a.sinks)
-      (named_cut p.net other.net lists.names.items lists.places.items a.net r p.sources p.sinks q.terminals X Y h c)
-
-  separating_unnamed : (pair : Bool) (X Y : ℕ → Bool) → AreSame X Y → IsSeparating other pair Y → IsSeparating p pair X
-  separating_unnamed false X Y h c =
-      unnamed_proper p.net other.net lists.names.items lists.places.items a.net r X Y h c
-  separating_unnamed true X Y h c =
-      unnamed_cut p.net other.net lists.names.items lists.places.items a.net r p.sources p.sinks q.terminals X Y h
-      (rw (a.sources, a.sinks) at c)
-
-  same_count : (undirected : Bool) (X Y : ℕ → Bool) → AreSame X Y
-      → counted undirected other.net Y ≡ counted undirected p.net X
-  same_count true X Y h = crossing_agrees p.net other.net lists.names.items lists.places.items a.net r X Y h
-  same_count false X Y h = leaving_agrees p.net other.net lists.names.items lists.places.items a.net r X Y h
-
-  connectivity_unnamed : (undirected pair : Bool) (k : ℕ) → IsConnectivityOf other undirected pair k
-      → IsConnectivityOf p undirected pair k
-  connectivity_unnamed undirected pair k l =
-      least_restored p.net other.net lists.names.items lists.places.items a.net r (IsSeparating p pair)
-      (IsSeparating other pair) (counted undirected p.net) (counted undirected other.net) k (separating_named pair)
-      (separating_unnamed pair) (same_count undirected) l
-
--- the connectivity of a problem or of its arrangement is that of the problem
-pub connectivity_restored : (p other : Instance) (undirected pair : Bool) (k : ℕ) → IsSameOrArranged p other
-    → IsConnectivityOf other undirected pair k → IsConnectivityOf p undirected pair k
-connectivity_restored p other undirected pair k (inl e) l = subst (λ o. IsConnectivityOf o undirected pair k) e l
-connectivity_restored p other undirected pair k (inr h) l =
-    connectivity_unnamed p other h.2.0 h.0 h.1 h.2.1 undirected pair k l

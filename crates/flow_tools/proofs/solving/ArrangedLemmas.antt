@@ -1,209 +1,222 @@
--- What holds of an arranged problem holds of the problem, under its own names and in its own order.
-use Rattle.std.proofs.Common.{◌≡◌, ◌↔◌, ℕ, Bool, true, false, not, List, length, replicate}
-use Rattle.std.proofs.Common.{refl, sym, ◌∙◌, ap, subst, arith, Option, None, Some, inl, inr}
-use Rattle.std.specs.List.{range_with_len}
-use Rattle.std.proofs.lemmas.List.{length-map}
-use Rattle.std.proofs.lemmas.List.FromFn.{length-range_with_len}
-use Rattle.std.proofs.lemmas.List.Sorted.{length_permutation}
+-- What holds of the copy in which a problem is arranged holds of the problem, in its own order.
+use Rattle.std.proofs.Common.{◌≡◌, ◌↔◌, ℕ, ◌-◌, ◌<◌, ◌≤◌, Bool, true, false, not, List, length, map, get_or}
+use Rattle.std.proofs.Common.{zero, suc, refl, sym, ◌∙◌, ap, subst, arith, Option, None, Some, IfSome}
+use Rattle.std.specs.List.{All, range_with_len}
+use Rattle.std.proofs.lemmas.List.{length-map, get_or-map}
+use Rattle.std.proofs.lemmas.List.Elements.{All-from_get_or}
+use Rattle.std.proofs.lemmas.List.FromFn.{length-range_with_len, get_or-range_with_len}
+use Rattle.std.proofs.lemmas.List.Sorted.{All-permutation, length_permutation}
 use Rattle.flow_net.specs.Nets.{Net, Instance, IsNode, arc_at}
-use Rattle.flow_net.specs.Limits.{IsNet, IsProblem, AreTerminals}
-use Rattle.flow_net.specs.Arrangements.{IsArranged, AgreeOnAll, AgreeOnFlow, named, renamed, all_named, carried}
+use Rattle.flow_net.specs.Limits.{IsNet, AreTerminals}
+use Rattle.flow_net.specs.Arrangements.{IsArranged, AgreeOnAll, AgreeOnNode, named, renamed, all_named, carried}
+use Rattle.flow_net.specs.Namings.{AreInverse}
 use Rattle.flow_net.specs.NodeSets.{one_of}
-use Rattle.flow_net.specs.Flows.{Fits}
 use Rattle.flow_net.specs.Cuts.{IsMinimumCut}
 use Rattle.flow_net.specs.MarkedNodes.{marked}
 use Rattle.flow_net.proofs.Arrangements.{name_is_node}
+use Rattle.flow_net.proofs.ArrangementLaws.{same_arranged, named_terminals}
 use Rattle.flow_net.proofs.MaxFlows.{greatest_is_least}
+use Rattle.flow_net.proofs.Namings.{is_naming, names_within, all_named_back}
 use Rattle.flow_net.proofs.NodeLists.{terminals_apart}
-use Rattle.flow_net.proofs.ZeroFlows.{zeros_fit}
 use Rattle.flow_solve.specs.Bounds.{work_cells}
-use Rattle.flow_net.specs.Namings.{AreInverse}
-use Rattle.flow_net.proofs.Namings.{all_named_back}
-use Rattle.flow_net.proofs.ArrangementLaws.{same_arranged}
-use Rattle.flow_tools.specs.declared.solving.arranging.Lists.{Lists}
+use Rattle.flow_tools.specs.declared.solving.arranging.Arranged.{Arranged}
 use Rattle.flow_tools.specs.running.Answers.{IsNearest}
 use Rattle.flow_tools.specs.laws.CutTexts.{IsValueOf}
 use Rattle.flow_tools.specs.solving.Solutions.{IsSolution, IsMarkedCut}
-use Rattle.flow_tools.specs.solving.ArrangedProblems.{IsArrangedBy, IsArrangedIf, IsSameOrArranged}
+use Rattle.flow_tools.specs.solving.ArrangedProblems.{IsArrangedIn, solved_of, flows_of, side_of}
 use Rattle.flow_tools.proofs.laws.CutTextLemmas.{marked_cut}
 
-module _ (net other : Net) (names places : List ℕ) (a : IsArranged net other names places) where
-  pub places_all : length places ≡ length net.arcs
-  places_all =
-      length_permutation (range_with_len 0 (length net.arcs)) places a.once ∙ length-range_with_len 0 (length net.arcs)
+-- the terminals under their new names are terminals of the copy
+pub copy_terminals : (p : Instance) (copy : Net) (names nodes spots s t : List ℕ) → AreTerminals p.net p.sources p.sinks
+    → AreInverse p.net.nodes names nodes → IsArranged copy p.net nodes spots → s ≡ all_named names p.sources
+    → t ≡ all_named names p.sinks → AreTerminals copy s t
+copy_terminals p copy names nodes spots s t q inverse a s_is t_is =
+    rw (s_is, t_is)
+    (named_terminals p.net copy names p.sources p.sinks (sym a.nodes) (is_naming p.net names nodes inverse) q)
 
-  pub arcs_all : length other.arcs ≡ length net.arcs
-  arcs_all = ap length a.arcs ∙ length-map places (λ i. renamed names (arc_at net i)) ∙ places_all
+-- a problem that is arranged in a copy, from its parts
+pub arranged_in : (p : Instance) (made : Arranged) (copy : Net) (names nodes spots s t : List ℕ)
+    → AreTerminals p.net p.sources p.sinks → IsNet copy → AreInverse p.net.nodes names nodes
+    → IsArranged copy p.net nodes spots → s ≡ all_named names p.sources → t ≡ all_named names p.sinks
+    → made.network ≡ record { net = copy; sources = s; sinks = t }
+    → made.names.items ≡ names → made.spots.items ≡ spots → IsArrangedIn p made
+arranged_in p made copy names nodes spots s t q limits inverse a s_is t_is network_is names_is spots_is = record {
+  nodes = nodes;
+  inverse = rw names_is inverse;
+  net = rw (network_is, spots_is) a;
+  sources =
+      rw network_is
+      (sym (ap (all_named nodes) s_is ∙ all_named_back p.net names nodes inverse p.sources q.sources_within));
+  sinks =
+      rw network_is (sym (ap (all_named nodes) t_is ∙ all_named_back p.net names nodes inverse p.sinks q.sinks_within));
+  limits = rw network_is limits;
+  terminals = rw network_is (copy_terminals p copy names nodes spots s t q inverse a s_is t_is);
+}
 
-  -- the terminals under their new names are terminals of it
-  pub arranged_terminals : (s t s' t' : List ℕ) → IsNet net → AreTerminals net s t → s' ≡ all_named names s
-      → t' ≡ all_named names t → AreTerminals other s' t'
-  arranged_terminals s t s' t' r p e f =
-      let law = same_arranged net other names places s t r p a in
-      rw (e, f) law.terminals
+-- the law, with the terminals under their old names
+agree_on_all : (net other : Net) (nodes spots s t s' t' : List ℕ) → IsNet net → AreTerminals net s t
+    → IsArranged net other nodes spots → s' ≡ all_named nodes s → t' ≡ all_named nodes t
+    → AgreeOnAll net other nodes spots s t s' t'
+agree_on_all net other nodes spots s t s' t' limits ends a e f =
+    rw (e, f) (same_arranged net other nodes spots s t limits ends a)
 
--- an arranged problem, from its parts
-pub arranged_by : (p other : Instance) (lists : Lists) (net net' : Net) (names nodes places s' t' : List ℕ)
-    → net ≡ p.net → other ≡ record { net = net'; sources = s'; sinks = t' }
-    → lists.names.items ≡ names → lists.nodes.items ≡ nodes → lists.places.items ≡ places
-    → IsArranged net net' names places → AreInverse net.nodes names nodes
-    → s' ≡ all_named names p.sources → t' ≡ all_named names p.sinks → length lists.spots.items ≡ length net'.arcs
-    → IsArrangedBy p other lists
-arranged_by p other lists net net' names nodes places s' t' n o names_is nodes_is places_is a inverse s t spots =
-    record {
-      net = rw (names_is, places_is, o, ← n) a;
-      inverse = rw (names_is, nodes_is, ← n) inverse;
-      sources = rw (names_is, o) s;
-      sinks = rw (names_is, o) t;
-      spots = rw o spots;
-    }
+as_many_cells : (net other : Net) → length net.arcs ≡ length other.arcs → net.nodes ≡ other.nodes
+    → work_cells other ≡ work_cells net
+as_many_cells net other arcs nodes = rw (arcs, nodes) refl
 
--- a problem again, from the parts of an arranged one under their old names
-pub restored : (p other after : Instance) (lists : Lists) (net : Net) (s t : List ℕ)
-    → AreTerminals p.net p.sources p.sinks → IsArrangedBy p other lists → net ≡ p.net
-    → s ≡ all_named lists.nodes.items other.sources
-    → t ≡ all_named lists.nodes.items other.sinks → after ≡ record { net = net; sources = s; sinks = t } → after ≡ p
-restored p other after lists net s t q a net_is s_is t_is after_is =
-    let names = lists.names.items in
-    let nodes = lists.nodes.items in
-    let sources : s ≡ p.sources =
-    s_is
-    ∙ ap (all_named nodes) a.sources
-    ∙ all_named_back p.net names nodes a.inverse p.sources q.sources_within in
-    let sinks : t ≡ p.sinks =
-    t_is
-    ∙ ap (all_named nodes) a.sinks
-    ∙ all_named_back p.net names nodes a.inverse p.sinks q.sinks_within in
-    let made : record { net = net; sources = s; sinks = t } ≡ p = rw (net_is, sources, sinks) refl in
-    after_is ∙ made
-
--- an empty table fits the arranged network too
-pub zeros_fit_arranged : (p other : Instance) (lists : Lists) (xs : List ℕ) → IsArrangedBy p other lists
-    → xs ≡ replicate (length p.net.arcs) 0 → Fits other.net xs
-zeros_fit_arranged p other lists xs a e =
-    let all = arcs_all p.net other.net lists.names.items lists.places.items a.net in
-    let zeros : Fits other.net (replicate (length p.net.arcs) 0) =
-    subst (λ k. Fits other.net (replicate k 0)) all (zeros_fit other.net) in
-    rw e zeros
-
--- a solver works in as many cells
-pub same_cells : (p other : Instance) (lists : Lists) → IsArrangedBy p other lists
-    → work_cells other.net ≡ work_cells p.net
-same_cells p other lists a =
-    let all = arcs_all p.net other.net lists.names.items lists.places.items a.net in
-    let nodes = a.net.nodes in
-    rw (all, nodes) refl
-
-module _ (p other : Instance) (lists : Lists) (r : IsNet p.net) (q : AreTerminals p.net p.sources p.sinks)
-    (a : IsArrangedBy p other lists) where
-  law : AgreeOnAll p.net other.net lists.names.items lists.places.items p.sources p.sinks other.sources other.sinks
+module _ (p : Instance) (copy : Arranged) (a : IsArrangedIn p copy) where
+  law : AgreeOnAll copy.network.net p.net a.nodes copy.spots.items copy.network.sources copy.network.sinks p.sources
+      p.sinks
   law =
-      rw (a.sources, a.sinks)
-      (same_arranged p.net other.net lists.names.items lists.places.items p.sources p.sinks r q a.net)
+      agree_on_all copy.network.net p.net a.nodes copy.spots.items copy.network.sources copy.network.sinks p.sources
+      p.sinks a.limits a.terminals a.net a.sources a.sinks
 
-  -- the value of the arranged problem is that of the problem
-  value_restored : (k : ℕ) → IsValueOf other k → IsValueOf p k
-  value_restored k h =
-      let greatest = (law.greatest k).1 h.greatest in
+  abbrev all_spots : List ℕ
+  all_spots = range_with_len 0 (length copy.network.net.arcs)
+
+  spots_all : length copy.spots.items ≡ length copy.network.net.arcs
+  spots_all =
+      length_permutation all_spots copy.spots.items a.net.once ∙ length-range_with_len 0 (length copy.network.net.arcs)
+
+  -- the copy has as many arcs, so that a solver works in as many cells
+  arcs_all : length p.net.arcs ≡ length copy.network.net.arcs
+  arcs_all =
+      ap length a.net.arcs
+      ∙ length-map copy.spots.items (λ i. renamed a.nodes (arc_at copy.network.net i))
+      ∙ spots_all
+
+  same_cells : work_cells copy.network.net ≡ work_cells p.net
+  same_cells = as_many_cells p.net copy.network.net arcs_all a.net.nodes
+
+  -- each spot is that of an arc of the copy
+  spots_within : All (λ spot. spot < length copy.network.net.arcs) copy.spots.items
+  spots_within =
+      All-permutation (λ spot. spot < length copy.network.net.arcs) all_spots copy.spots.items a.net.once
+      (All-from_get_or (λ spot. spot < length copy.network.net.arcs) all_spots 0
+      (λ i l.
+      let count = length-range_with_len 0 (length copy.network.net.arcs) in
+      let at = get_or-range_with_len 0 (length copy.network.net.arcs) i 0 (omega arith) in
+      omega arith))
+
+  value_read : (k : ℕ) → IsValueOf copy.network k → IsValueOf p k
+  value_read k h =
+      let greatest = (law.greatest k).0 h.greatest in
       record {
         greatest = greatest;
         least =
-            greatest_is_least p.net (one_of p.sources) (one_of p.sinks) k r
-            (terminals_apart p.net p.sources p.sinks q) greatest;
+            greatest_is_least p.net (one_of p.sources) (one_of p.sinks) k law.is_net
+            (terminals_apart p.net p.sources p.sinks law.terminals) greatest;
       }
 
-  -- a solution stands for one of the problem, which carried over is it
-  pub solution_named : (value : ℕ) (ys : List ℕ) → IsSolution other value ys
-      → (xs : List ℕ) × (length xs ≡ length other.net.arcs) × (ys ≡ carried lists.places.items xs)
-      × IsSolution p value xs
-  solution_named value ys h =
-      let all = arcs_all p.net other.net lists.names.items lists.places.items a.net in
-      let from = law.all_flows ys (h.feasible.fits.count ∙ all) in
-      let xs = from.0 in
-      let agree : AgreeOnFlow p.net other.net p.sources p.sinks other.sources other.sinks xs ys =
-      subst (λ (zs : List ℕ). AgreeOnFlow p.net other.net p.sources p.sinks other.sources other.sinks xs zs)
-      (sym from.2) (law.flows xs from.1) in (
-        xs,
-        from.1 ∙ sym all,
-        from.2,
-        record {
-          value_is = value_restored value h.value_is;
-          feasible = agree.feasible.1 h.feasible;
-          valued = (agree.value value).1 h.valued;
-          no_loops = agree.loops.1 h.no_loops;
-        },
-      )
+  copy_solution : (value : ℕ) (ys : List ℕ) → IsSolution copy.network value ys
+      → IsSolution p value (carried copy.spots.items ys)
+  copy_solution value ys h =
+      let agree = law.flows ys h.feasible.fits.count in
+      record {
+        value_is = value_read value h.value_is;
+        feasible = agree.feasible.0 h.feasible;
+        valued = (agree.value value).0 h.valued;
+        no_loops = agree.loops.0 h.no_loops;
+      }
 
-  -- a solution, carried back
-  pub solution_restored : (value : ℕ) (ys zs : List ℕ) → IsSolution other value ys
-      → ((xs : List ℕ) → length xs ≡ length other.net.arcs → ys ≡ carried lists.places.items xs → zs ≡ xs)
-      → IsSolution p value zs
-  solution_restored value ys zs h back =
-      let from = solution_named value ys h in
-      subst (IsSolution p value) (sym (back from.0 from.1 from.2)) from.3
+  -- a node and its name lie on the same sides of minimum cuts
+  name_within : (v : ℕ) → IsNode p.net v → IsNode copy.network.net (named copy.names.items v)
+  name_within v k =
+      let nodes = a.net.nodes in
+      let at = name_is_node p.net copy.names.items (is_naming p.net copy.names.items a.nodes a.inverse) v k in
+      (at.0, omega (arith, at.1))
 
-  -- a node lies on one side of every minimum cut where its name does
+  node_again : (v : ℕ) → IsNode p.net v → named a.nodes (named copy.names.items v) ≡ v
+  node_again v k =
+      let least = k.0 in
+      let most = k.1 in
+      (a.inverse.of_node (v - 1) (omega arith)).2 ∙ omega arith
+
+  name_agrees : (v : ℕ) → IsNode p.net v
+      → AgreeOnNode copy.network.net p.net copy.network.sources copy.network.sinks p.sources p.sinks
+      (named copy.names.items v) v
+  name_agrees v k =
+      subst
+      (AgreeOnNode copy.network.net p.net copy.network.sources copy.network.sinks p.sources p.sinks
+      (named copy.names.items v))
+      (node_again v k) (law.nodes (named copy.names.items v) (name_within v k))
+
   held : (side : Bool) (v : ℕ) → IsNode p.net v
       → ((Y : ℕ → Bool) → IsMinimumCut p.net (one_of p.sources) (one_of p.sinks) Y → Y v ≡ side)
-      ↔ ((Y : ℕ → Bool) → IsMinimumCut other.net (one_of other.sources) (one_of other.sinks) Y
-      → Y (named lists.names.items v) ≡ side)
-  held true v k = (law.nodes v k).source
-  held false v k = (law.nodes v k).sink
+      ↔ ((Y : ℕ → Bool) → IsMinimumCut copy.network.net (one_of copy.network.sources) (one_of copy.network.sinks) Y
+      → Y (named copy.names.items v) ≡ side)
+  held true v k = let agree = (name_agrees v k).source in (agree.1, agree.0)
+  held false v k = let agree = (name_agrees v k).sink in (agree.1, agree.0)
 
-  -- a set of nodes is nearest where that of their names is
-  nearest_restored : (side : Bool) (X Y : ℕ → Bool)
-      → ((v : ℕ) → IsNode p.net v → Y (named lists.names.items v) ≡ X v)
-      → IsNearest other.net (one_of other.sources) (one_of other.sinks) side Y
+  nearest_read : (side : Bool) (X Y : ℕ → Bool)
+      → ((v : ℕ) → IsNode p.net v → Y (named copy.names.items v) ≡ X v)
+      → IsNearest copy.network.net (one_of copy.network.sources) (one_of copy.network.sinks) side Y
       → IsNearest p.net (one_of p.sources) (one_of p.sinks) side X
-  nearest_restored side X Y h n = λ v k.
-      let w = named lists.names.items v in
-      let nodes = a.net.nodes in
-      let at = name_is_node p.net lists.names.items a.net.naming v k in
-      let there = n w (at.0, omega (arith, at.1)) in
+  nearest_read side X Y h n = λ v k.
+      let there = n (named copy.names.items v) (name_within v k) in
       let agree = held side v k in
       ((λ e. agree.1 (there.0 (h v k ∙ e))), (λ e. sym (h v k) ∙ there.1 (agree.0 e)))
 
-  -- the marks of a cut, named back
-  pub cut_restored : (sink : Bool) (value : ℕ) (there here : List Bool) → IsMarkedCut other sink value there
-      → ((v : ℕ) → IsNode p.net v → marked here v ≡ marked there (named lists.names.items v))
-      → IsMarkedCut p sink value here
-  cut_restored sink value there here m same =
-      marked_cut p sink value here r q (value_restored value m.value_is)
-      (nearest_restored (not sink) (marked here) (marked there) (λ v k. sym (same v k)) m.nearest)
+  -- a node is marked as its name is
+  mark_read : (there : List Bool) (v : ℕ) → IsNode p.net v
+      → marked there (named copy.names.items v) ≡ marked (map (marked there) copy.names.items) v
+  mark_read there zero k = absurd (omega (arith, k.0))
+  mark_read there (suc i) k =
+      let count = a.inverse.names_count in
+      let same : suc i - 1 ≡ i = omega arith in
+      ap (λ j. marked there (get_or copy.names.items j 0)) same
+      ∙ sym (get_or-map (marked there) copy.names.items i 0 false (omega (arith, k.1)))
+
+  copy_cut : (sink : Bool) (value : ℕ) (there : List Bool) → IsMarkedCut copy.network sink value there
+      → IsMarkedCut p sink value (map (marked there) copy.names.items)
+  copy_cut sink value there m =
+      marked_cut p sink value (map (marked there) copy.names.items) law.is_net law.terminals
+      (value_read value m.value_is)
+      (nearest_read (not sink) (marked (map (marked there) copy.names.items)) (marked there) (mark_read there)
+      m.nearest)
 
 -- Where the problem may have stayed as it is.
-module _ (p other : Instance) where
-  -- an empty table fits
-  pub zeros_fit_if : (lists : Option Lists) (xs : List ℕ) → IsArrangedIf p other lists
-      → xs ≡ replicate (length p.net.arcs) 0 → Fits other.net xs
-  zeros_fit_if None xs a e =
-      subst (λ (o : Instance). Fits o.net xs) (sym a) (subst (Fits p.net) (sym e) (zeros_fit p.net))
-  zeros_fit_if (Some lists) xs a e = zeros_fit_arranged p other lists xs a e
-
+module _ (p : Instance) where
   -- a solver works in as many cells
-  pub same_cells_if : (lists : Option Lists) → IsArrangedIf p other lists → work_cells other.net ≡ work_cells p.net
-  same_cells_if None a = ap (λ (o : Instance). work_cells o.net) a
-  same_cells_if (Some lists) a = same_cells p other lists a
+  pub cells_of : (arranged : Option Arranged) → IfSome arranged (IsArrangedIn p)
+      → work_cells (solved_of p arranged).net ≡ work_cells p.net
+  cells_of None a = refl
+  cells_of (Some copy) a = same_cells p copy a
 
-  -- it has as many nodes, and as many arcs
-  pub same_nodes_if : (lists : Option Lists) → IsArrangedIf p other lists → other.net.nodes ≡ p.net.nodes
-  same_nodes_if None a = ap (λ (o : Instance). o.net.nodes) a
-  same_nodes_if (Some lists) a = a.net.nodes
+  -- it has as many nodes
+  pub nodes_of : (arranged : Option Arranged) → IfSome arranged (IsArrangedIn p)
+      → (solved_of p arranged).net.nodes ≡ p.net.nodes
+  nodes_of None a = refl
+  nodes_of (Some copy) a = sym a.net.nodes
 
-  pub same_arcs_if : (lists : Option Lists) → IsArrangedIf p other lists → length other.net.arcs ≡ length p.net.arcs
-  same_arcs_if None a = ap (λ (o : Instance). length o.net.arcs) a
-  same_arcs_if (Some lists) a = arcs_all p.net other.net lists.names.items lists.places.items a.net
+  -- the lists by which flows and marks are read stay within these
+  pub spots_of : (arranged : Option Arranged) (n : ℕ) → IfSome arranged (IsArrangedIn p)
+      → n ≡ length (solved_of p arranged).net.arcs
+      → IfSome arranged (λ copy. All (λ spot. spot < n) copy.spots.items)
+  spots_of None n a e = tt
+  spots_of (Some copy) n a e =
+      subst (λ (k : ℕ). All (λ spot. spot < k) copy.spots.items) (sym e) (spots_within p copy a)
 
-  -- a solution stands for one of the problem
-  pub solution_if : (lists : Option Lists) (value : ℕ) (ys : List ℕ) → IsNet p.net
-      → AreTerminals p.net p.sources p.sinks → IsArrangedIf p other lists → IsSolution other value ys
-      → (xs : List ℕ) × IsSolution p value xs
-  solution_if None value ys r q a h = (ys, subst (λ o. IsSolution o value ys) a h)
-  solution_if (Some lists) value ys r q a h = let from = solution_named p other lists r q a value ys h in
-      (from.0, from.3)
+  pub names_of : (arranged : Option Arranged) (n : ℕ) → IfSome arranged (IsArrangedIn p) → n ≡ p.net.nodes
+      → IfSome arranged (λ copy. All (λ w. (1 ≤ w) × (w ≤ n)) copy.names.items)
+  names_of None n a e = tt
+  names_of (Some copy) n a e =
+      subst (λ (k : ℕ). All (λ w. (1 ≤ w) × (w ≤ k)) copy.names.items) (sym e)
+      (names_within p.net copy.names.items a.nodes a.inverse)
 
-  -- the problem itself, or an arrangement of it
-  pub same_or_arranged : (lists : Option Lists) → IsNet p.net → IsProblem p → IsArrangedIf p other lists
-      → IsSameOrArranged p other
-  same_or_arranged None r q a = inl a
-  same_or_arranged (Some lists) r q a = inr (r, q, (lists, a))
+  -- what is found is read as a solution and a cut of the problem
+  pub solution_of : (arranged : Option Arranged) (value : ℕ) (ys : List ℕ) → IfSome arranged (IsArrangedIn p)
+      → IsSolution (solved_of p arranged) value ys → IsSolution p value (flows_of arranged ys)
+  solution_of None value ys a h = h
+  solution_of (Some copy) value ys a h = copy_solution p copy a value ys h
+
+  pub cut_of : (arranged : Option Arranged) (sink : Bool) (value : ℕ) (there : List Bool)
+      → IfSome arranged (IsArrangedIn p) → IsMarkedCut (solved_of p arranged) sink value there
+      → IsMarkedCut p sink value (side_of arranged there)
+  cut_of None sink value there a m = m
+  cut_of (Some copy) sink value there a m = copy_cut p copy a sink value there m
+
+  pub count_of : (arranged : Option Arranged) (there : List Bool) → IfSome arranged (IsArrangedIn p)
+      → length there ≡ p.net.nodes → length (side_of arranged there) ≡ p.net.nodes
+  count_of None there a e = e
+  count_of (Some copy) there a e = length-map copy.names.items (marked there) ∙ a.inverse.names_count

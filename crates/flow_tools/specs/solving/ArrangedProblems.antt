@@ -1,43 +1,52 @@
--- Problems that are arranged: their nodes under new names, their arcs in another order.
-use Rattle.std.specs.Prelude.{◌≡◌, ◌≤◌, ◌⊎◌, length, Option, None, Some}
-use Rattle.flow_net.specs.Nets.{Net, Instance}
-use Rattle.flow_net.specs.Limits.{IsNet, IsProblem, AreTerminals}
+-- Problems that are arranged in a copy: their nodes under new names, their arcs in another order.
+use Rattle.std.specs.Prelude.{◌≡◌, ℕ, ◌≤◌, Bool, List, length, map, Option, None, Some, IfSome}
+use Rattle.flow_net.specs.Nets.{Instance}
+use Rattle.flow_net.specs.Limits.{IsNet, AreTerminals}
 use Rattle.flow_net.specs.Flows.{Fits}
-use Rattle.flow_net.specs.Arrangements.{IsArranged, all_named}
+use Rattle.flow_net.specs.MarkedNodes.{marked}
+use Rattle.flow_net.specs.Arrangements.{IsArranged, all_named, carried}
 use Rattle.flow_net.specs.Namings.{AreInverse}
 use Rattle.flow_solve.specs.Bounds.{work_cells}
-use Rattle.flow_tools.specs.declared.solving.answers.Arranged.{Arranged}
-use Rattle.flow_tools.specs.declared.solving.arranging.Lists.{Lists}
+use Rattle.flow_tools.specs.declared.solving.answers.Ready.{Ready}
+use Rattle.flow_tools.specs.declared.solving.arranging.Arranged.{Arranged}
+use Rattle.flow_tools.specs.declared.solving.arranging.Room.{Room}
 
--- the lists have a cell for each node, or for each arc
-pub record AreListsFor (net : Net) (lists : Lists) : Type 0 where
-  pub names : length lists.names.items ≡ net.nodes
-  pub nodes : length lists.nodes.items ≡ net.nodes
-  pub places : length lists.places.items ≡ length net.arcs
-  pub spots : length lists.spots.items ≡ length net.arcs
+-- the lists have a cell for each arc or each node, and the terminals
+pub record HasRoom (p : Instance) (room : Room) : Type 0 where
+  pub arcs : length room.arcs.items ≡ length p.net.arcs
+  pub spots : length room.spots.items ≡ length p.net.arcs
+  pub names : length room.names.items ≡ p.net.nodes
+  pub sources : room.sources.items ≡ p.sources
+  pub sinks : room.sinks.items ≡ p.sinks
 
--- the other problem has the network arranged and the terminals under their new names, as the lists tell
-pub record IsArrangedBy (p other : Instance) (lists : Lists) : Type 0 where
-  pub net : IsArranged p.net other.net lists.names.items lists.places.items
-  pub inverse : AreInverse p.net.nodes lists.names.items lists.nodes.items
-  pub sources : other.sources ≡ all_named lists.names.items p.sources
-  pub sinks : other.sinks ≡ all_named lists.names.items p.sinks
-  pub spots : length lists.spots.items ≡ length other.net.arcs
+-- the problem is an arrangement of the copy: an arc's place in it is its spot, and by the nodes of the names it has its
+-- nodes and its terminals again
+pub record IsArrangedIn (p : Instance) (copy : Arranged) : Type 0 where
+  pub nodes : List ℕ
+  pub inverse : AreInverse p.net.nodes copy.names.items nodes
+  pub net : IsArranged copy.network.net p.net nodes copy.spots.items
+  pub sources : p.sources ≡ all_named nodes copy.network.sources
+  pub sinks : p.sinks ≡ all_named nodes copy.network.sinks
+  pub limits : IsNet copy.network.net
+  pub terminals : AreTerminals copy.network.net copy.network.sources copy.network.sinks
 
--- the problem itself where there are no lists, and else its arrangement by them
-abbrev pub IsArrangedIf : Instance → Instance → Option Lists → Type 0
-IsArrangedIf p other None = other ≡ p
-IsArrangedIf p other (Some lists) = IsArrangedBy p other lists
+-- the problem that is solved
+abbrev pub solved_of : Instance → Option Arranged → Instance
+solved_of p None = p
+solved_of p (Some copy) = copy.network
 
--- the problem itself, or an arrangement of it by some lists
-abbrev pub IsSameOrArranged : Instance → Instance → Type 0
-IsSameOrArranged p other =
-    (other ≡ p) ⊎ (IsNet p.net × IsProblem p × ((lists : Lists) × IsArrangedBy p other lists))
+-- its flows in the order of the arcs
+abbrev pub flows_of : Option Arranged → List ℕ → List ℕ
+flows_of None there = there
+flows_of (Some copy) there = carried copy.spots.items there
+
+-- its marks in the order of the nodes
+abbrev pub side_of : Option Arranged → List Bool → List Bool
+side_of None there = there
+side_of (Some copy) there = map (marked there) copy.names.items
 
 -- a problem that is ready to be solved: as it is or arranged, with a table that fits it and cells for a solver
-pub record IsReady (p : Instance) (ready : Arranged) : Type 0 where
-  pub limits : IsNet p.net
-  pub terminals : AreTerminals p.net p.sources p.sinks
-  pub same : IsArrangedIf p ready.network ready.lists
-  pub fits : Fits ready.network.net ready.table.flows
-  pub cells : work_cells ready.network.net ≤ length ready.work.items
+pub record IsReady (p : Instance) (ready : Ready) : Type 0 where
+  pub same : IfSome ready.arranged (IsArrangedIn p)
+  pub fits : Fits (solved_of p ready.arranged).net ready.table.flows
+  pub cells : work_cells (solved_of p ready.arranged).net ≤ length ready.work.items

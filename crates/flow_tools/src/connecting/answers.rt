@@ -11,7 +11,6 @@ ghost use Rattle.flow_tools.specs.running.Answers.{IsSeparating};
 
 use crate::cells::work_for;
 use crate::connecting::connectivity;
-use crate::connecting::order::arrange_for;
 use flow_net::{FlowTable, Network, OutOfMemory, Problem};
 use flow_solve::Levels;
 use std::alloc::Global;
@@ -63,7 +62,6 @@ pub fn connect(
 ) -> Result<u64, OutOfMemory>
     ensures { IfOk result (IsLeastOver (IsSeparating problem pair) (counted undirected problem.net)) }
 {
-    let problem = arrange_for(alloc, problem, undirected, pair)?;
     let (net, sources, sinks) = problem.into_parts();
     let net = counting_network(net, undirected)?;
     solve_connectivity(alloc, &net, pair, &sources, &sinks)

@@ -1,4 +1,5 @@
-//! A greatest flow and a minimum cut, as values. All memory is asked for before anything is computed.
+//! A greatest flow and a minimum cut, as values. All memory is asked for before a solver begins, but for what is read
+//! from a copy that is arranged: before that is asked for, the arcs of the copy are free.
 ghost use Rattle.std.specs.Prelude.{◌≡◌, ℕ, not, List, ◌≤◌, length, IfOk};
 ghost use Rattle.flow_net.specs.Nets.{Instance};
 ghost use Rattle.flow_net.specs.Flows.{Fits};
@@ -10,7 +11,7 @@ ghost use Rattle.flow_tools.specs.solving.Solutions.{IsSolution, IsMarkedCut, is
 use crate::cells::{filled, work_for};
 use crate::networks::FlowNetwork;
 use crate::solving::arranging::{
-    Lists, arrange_network, lists_if_scattered, name_side, restore_network,
+    Arranged, arrange_if_scattered, lend_solved, read_flows, read_side,
 };
 use flow_net::{FlowTable, OutOfMemory};
 use flow_solve::{Levels, Method, cut_nearest_sinks, cut_nearest_sources};
@@ -45,30 +46,26 @@ pub enum Side {
     Sink,
 }
 
-/// A network as it is solved, arranged where its arcs come in no order, and the memory for that: a table of flows, the
-/// cells that a solver works in, and the lists by which it is arranged.
+/// What a network is solved with: a table of flows, the cells that a solver works in, and a copy that is arranged, if
+/// its arcs come in no order.
 #[derive(Drop)]
-struct Arranged {
-    network: FlowNetwork,
+struct Ready {
     table: FlowTable,
     work: Vec<u32>,
-    lists: Option<Lists>,
+    arranged: Option<Arranged>,
 }
 
-/// Asks for all the memory that a network needs, and arranges it.
-fn arrange_for(alloc: Global, network: FlowNetwork) -> Result<Arranged, OutOfMemory>
-    ensures { IfOk result (IsReady network) }
+/// Asks for the memory that it takes to solve a network, and arranges it.
+fn make_ready(alloc: Global, network: &FlowNetwork) -> Result<Ready, OutOfMemory>
+    ensures { IfOk result (IsReady network.now) }
 {
-    let net = network.net();
-    let table = FlowTable::new(alloc, net)?;
-    let mut work = work_for(alloc, net)?;
-    let lists = lists_if_scattered(alloc, &network)?;
-    let (network, lists) = arrange_network(network, lists, work.as_mut_slice());
-    Ok(Arranged {
-        network,
+    let mut work = work_for(alloc, network.net())?;
+    let arranged = arrange_if_scattered(alloc, network, work.as_mut_slice())?;
+    let table = FlowTable::new(alloc, lend_solved(network, &arranged).net())?;
+    Ok(Ready {
         table,
         work,
-        lists,
+        arranged,
     })
 }
 
@@ -81,15 +78,14 @@ pub fn solve(alloc: Global, network: FlowNetwork) -> Result<Solved, OutOfMemory>
     ensures network { IfOk result (λ solved. solved.network ≡ network) }
     ensures solution { IfOk result (λ solved. IsSolution network solved.value solved.flows.items) }
 {
-    let Arranged {
-        network: arranged,
+    let Ready {
         mut table,
         mut work,
-        lists,
-    } = arrange_for(alloc, network)?;
-    let value = find_flow(&arranged, &mut table, work.as_mut_slice());
-    let mut flows = table.into_flows();
-    let network = restore_network(arranged, flows.as_mut_slice(), lists);
+        arranged,
+    } = make_ready(alloc, &network)?;
+    let solved = lend_solved(&network, &arranged);
+    let value = find_flow(solved, &mut table, work.as_mut_slice());
+    let flows = read_flows(alloc, table.into_flows(), arranged)?;
     Ok(Solved {
         network,
         value,
@@ -109,12 +105,25 @@ pub fn cut(alloc: Global, network: FlowNetwork, nearest: Side) -> Result<Minimum
     ensures count { IfOk result (λ cut. length cut.side.items ≡ network.net.nodes) }
 {
     let mut side = filled(alloc, false, network.net().nodes() as usize)?;
-    let arranged = arrange_for(alloc, network)?;
-    let solved = cut_in(arranged, nearest, side.as_mut_slice());
+    let Ready {
+        mut table,
+        mut work,
+        arranged,
+    } = make_ready(alloc, &network)?;
+    let solved = lend_solved(&network, &arranged);
+    let marks = side.as_mut_slice();
+    let value = find_cut(solved, &mut table, work.as_mut_slice(), nearest, marks);
+    let side = read_side(alloc, side, &arranged)?;
+    let flows = read_flows(alloc, table.into_flows(), arranged)?;
+    let solved = Solved {
+        network,
+        value,
+        flows,
+    };
     Ok(MinimumCut { solved, side })
 }
 
-/// Finds the greatest value of a flow alone. Where the network is arranged for that, it isn't put back.
+/// Finds the greatest value of a flow alone.
 ///
 /// # Errors
 ///
@@ -122,38 +131,13 @@ pub fn cut(alloc: Global, network: FlowNetwork, nearest: Side) -> Result<Minimum
 pub fn solve_value(alloc: Global, network: FlowNetwork) -> Result<u128, OutOfMemory>
     ensures { IfOk result (λ value. (flows : List ℕ) × IsSolution network value flows) }
 {
-    let Arranged {
-        network,
+    let Ready {
         mut table,
         mut work,
-        lists: _,
-    } = arrange_for(alloc, network)?;
-    Ok(find_flow(&network, &mut table, work.as_mut_slice()))
-}
-
-/// Finds a flow of an arranged network and marks the source side of a minimum cut, both as the network was given.
-fn cut_in(arranged: Arranged, nearest: Side, side: &mut [bool]) -> Solved
-    requires ready { (p : Instance) × IsReady p arranged × (length side.old ≡ p.net.nodes) }
-    ensures network { (p : Instance) → IsReady p arranged → result.network ≡ p }
-    ensures solution { (p : Instance) → IsReady p arranged → IsSolution p result.value result.flows.items }
-    ensures cut { (p : Instance) → IsReady p arranged → IsMarkedCut p (is_sink nearest) result.value side.new }
-{
-    let Arranged {
-        network: arranged,
-        mut table,
-        mut work,
-        lists,
-    } = arranged;
-    let work = work.as_mut_slice();
-    let value = find_cut(&arranged, &mut table, work, nearest, side);
-    name_side(side, &lists, work);
-    let mut flows = table.into_flows();
-    let network = restore_network(arranged, flows.as_mut_slice(), lists);
-    Solved {
-        network,
-        value,
-        flows,
-    }
+        arranged,
+    } = make_ready(alloc, &network)?;
+    let solved = lend_solved(&network, &arranged);
+    Ok(find_flow(solved, &mut table, work.as_mut_slice()))
 }
 
 /// Finds a flow of the greatest value, and answers that value.

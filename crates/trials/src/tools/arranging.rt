@@ -1,7 +1,7 @@
 //! Problems whose lines come in no order, which are arranged before they are solved, against the same problems with
 //! their lines in order, which aren't.
-ghost use Rattle.std.specs.Prelude.{◌≡◌, ◌<◌, ◌≤◌, ◌+◌, ◌*◌, length, IsTrue};
-ghost use Rattle.flow_net.specs.Arrangements.{IsNaming};
+ghost use Rattle.std.specs.Prelude.{◌≡◌, ℕ, ◌<◌, ◌≤◌, ◌+◌, ◌*◌, List, length, IsTrue};
+ghost use Rattle.flow_net.specs.Namings.{AreInverse};
 
 use crate::tools::nets::add_arc;
 use crate::tools::runs::{
@@ -106,46 +106,51 @@ fn is_scattered_in_steps(alloc: Global, seed: u64, step: u32) -> Option<bool>
 fn find_names(net: &Network, names: &mut [u32], cells: &mut [u32]) -> bool
     requires names { length names.old ≡ net.now.nodes }
     requires cells { 2 * net.now.nodes + 2 * length net.now.arcs + 1 ≤ length cells.old }
-    ensures { IsTrue result → IsNaming net.now names.new }
+    ensures { IsTrue result → (nodes : List ℕ) × AreInverse net.now.nodes names.new nodes }
 {
     let (nodes, work) = cells.split_at_mut(net.nodes() as usize);
     name_nodes(net, &[1764, 527], nodes, names, work)
 }
 
-/// Whether the arcs of a network come in no order, from source 1 to sink 1764, once it is arranged in lent cells.
-/// Nothing where no names were found for it.
+/// Whether the arcs of a network come in no order, from source 1 to sink 1764, once it is arranged in a list of arcs
+/// from 0 and in lent cells. Nothing where that isn't found.
 fn is_scattered_once_arranged(
-    net: &mut Network,
+    net: &Network,
+    arcs: Vec<Arc>,
     names: &mut [u32],
     cells: &mut [u32],
 ) -> Option<bool>
-    requires sink { 1764 ≤ net.old.nodes }
-    requires names { length names.old ≡ net.old.nodes }
-    requires cells { 2 * net.old.nodes + 3 * length net.old.arcs + 1 ≤ length cells.old }
+    requires sink { 1764 ≤ net.now.nodes }
+    requires arcs { length arcs.items ≡ length net.now.arcs }
+    requires names { length names.old ≡ net.now.nodes }
+    requires cells { 2 * net.now.nodes + 2 * length net.now.arcs + 1 ≤ length cells.old }
 {
     if !find_names(net, names, cells) {
         return None;
     }
-    let m = net.len() as usize;
-    let (places, rest) = cells.split_at_mut(m);
-    let (spots, rest) = rest.split_at_mut(m);
-    let (stands, rest) = rest.split_at_mut(m);
+    let (spots, rest) = cells.split_at_mut(net.len() as usize);
     let (counts, _) = rest.split_at_mut(net.nodes() as usize);
-    arrange(net, names, places, spots, stands, counts);
-    Some(is_scattered(net, names[0], names[1763]))
+    let copy = arrange(net, names, arcs, spots, counts)?;
+    Some(is_scattered(&copy, names[0], names[1763]))
 }
 
 /// The same of the network that a number determines, its arcs far apart.
 fn is_scattered_arranged(rt: &impl Abort, alloc: Global, seed: u64) -> Option<bool> {
-    let mut net = network(alloc, seed, FAR_STEP).expect(rt, "memory");
+    let net = network(alloc, seed, FAR_STEP).expect(rt, "memory");
     let n = net.nodes() as usize;
-    let len = 3 * n + 3 * net.len() as usize + 1;
-    let mut cells = Vec::from_elem(alloc, 0u32, len).expect(rt, "memory");
+    let m = net.len() as usize;
+    let no_arc = Arc {
+        src: 0,
+        dst: 0,
+        cap: 0,
+    };
+    let arcs = Vec::from_elem(alloc, no_arc, m).expect(rt, "memory");
+    let mut cells = Vec::from_elem(alloc, 0u32, 3 * n + 2 * m + 1).expect(rt, "memory");
     if net.nodes() != NODES {
         return None;
     }
     let (names, rest) = cells.as_mut_slice().split_at_mut(n);
-    is_scattered_once_arranged(&mut net, names, rest)
+    is_scattered_once_arranged(&net, arcs, names, rest)
 }
 
 /// What a job puts, or nothing where it ends with a fault or without memory.

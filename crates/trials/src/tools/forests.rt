@@ -11,25 +11,12 @@ use flow_tools::connectivity;
 use std::alloc::Global;
 use std::process::Abort;
 
-/// The method by levels without a step to spare: the forests end where they begin.
+/// The method by levels with no more than a method has to say, and so no step to spare: the forests end where they
+/// begin.
 struct NoStepToSpare;
 
 impl Method for NoStepToSpare {
     ghost steps_bound = { levels_bound };
-
-    fn spare_steps(_net: &Network) -> u64 {
-        0
-    }
-
-    fn greatest_flow(
-        net: &Network,
-        s: &[u32],
-        t: &[u32],
-        flow: &mut FlowTable,
-        work: &mut [u32],
-    ) -> u128 {
-        Levels::greatest_flow(net, s, t, flow, work)
-    }
 
     fn greatest(
         net: &Network,
@@ -50,16 +37,6 @@ impl Method for FewStepsToSpare {
 
     fn spare_steps(net: &Network) -> u64 {
         Levels::spare_steps(net).min(40)
-    }
-
-    fn greatest_flow(
-        net: &Network,
-        s: &[u32],
-        t: &[u32],
-        flow: &mut FlowTable,
-        work: &mut [u32],
-    ) -> u128 {
-        Levels::greatest_flow(net, s, t, flow, work)
     }
 
     fn greatest(

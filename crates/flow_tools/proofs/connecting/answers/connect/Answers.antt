@@ -5,7 +5,7 @@ use Rattle.flow_net.specs.NodeSets.{one_of, IsLeastOver}
 use Rattle.flow_net.specs.LeastCuts.{IsConnectivity, IsPairConnectivity}
 use Rattle.flow_tools.specs.connecting.Counts.{counted}
 use Rattle.flow_tools.specs.running.Answers.{IsSeparating}
-use Rattle.flow_tools.proofs.connecting.ConnectAnswers.{unit_capacities, connectivity_of, connectivity_restored}
+use Rattle.flow_tools.proofs.connecting.ConnectAnswers.{unit_capacities, connectivity_of}
 use Rattle.flow_tools.proofs.connecting.answers.connect.Goals as goal
 
 pub solve_connectivity-requires-clause-unit : goal.solve_connectivity-requires-clause-unit
@@ -14,17 +14,15 @@ solve_connectivity-requires-clause-unit c = unit_capacities _ c.in_ok-net.net c.
 pub returns : goal.returns
 returns c =
     let p = c.args.problem in
-    let q = c.in_ok-problem.problem in
     let made = c.in_ok-net.net in
     let pair = c.args.pair in
     let parts = c.into_parts-net.ensures in
     let e = c.solve_connectivity.ensures in
     either (IsPairConnectivity made (one_of c.deref.result.now) (one_of c.deref-2.result.now)) (IsConnectivity made)
     (IsLeastOver (IsSeparating p pair) (counted c.args.undirected p.net)) pair
-    (λ k by_pair whole. connectivity_restored p q c.args.undirected pair k c.in_ok-problem.ensures
-    (connectivity_of q made c.deref.result.now c.deref-2.result.now (c.deref.ensures.value ∙ parts.sources)
-    (c.deref-2.ensures.value ∙ parts.sinks) c.args.undirected pair k
-    (rw parts.net at c.in_ok-net.ensures) by_pair whole))
+    (λ k by_pair whole. connectivity_of p made c.deref.result.now c.deref-2.result.now
+    (c.deref.ensures.value ∙ parts.sources) (c.deref-2.ensures.value ∙ parts.sinks) c.args.undirected pair k
+    (rw parts.net at c.in_ok-net.ensures) by_pair whole)
     c.solve_connectivity.result e.pair e.whole
   where
     either : {E : Type 0} (P Q R : ℕ → Type 0) (b : Bool) → ((k : ℕ) → (b ≡ true → P k) → (b ≡ false → Q k) → R k)

@@ -31,6 +31,9 @@
 #include <stdint.h>
 #include <stdlib.h>
 
+/* The version of this header. */
+#define PROVEDFLOW_VERSION "0.1.0"
+
 #ifdef __cplusplus
 extern "C" {
 #endif
@@ -39,7 +42,7 @@ extern "C" {
 enum {
     PROVEDFLOW_OK = 0,        /* the answer was written */
     PROVEDFLOW_NODES = 1,     /* fewer than 2 nodes, or more than 1,000,000 */
-    PROVEDFLOW_LENGTHS = 2,   /* too many arcs, or lists whose lengths don't fit each other */
+    PROVEDFLOW_LENGTHS = 2,   /* too many arcs, lists whose lengths don't fit each other, or no room for the sides */
     PROVEDFLOW_ARC = 3,       /* an end of an arc is no node; provedflow_bad_arc tells which arc */
     PROVEDFLOW_TERMINALS = 4, /* no source or no sink, one that is no node, or a node that stands there twice */
     PROVEDFLOW_MEMORY = 5     /* memory was refused */
@@ -86,10 +89,12 @@ static inline void *provedflow_some(const void *list) {
 
 #define PROVEDFLOW_U32(list) ((const uint32_t *)provedflow_some(list))
 #define PROVEDFLOW_U64(list) ((const uint64_t *)provedflow_some(list))
+#define PROVEDFLOW_MOST_ARCS 8000000
 
-/* Room for the flow of each arc, where the caller wants none of it; NULL where memory is refused. */
+/* Room for the flow of each arc, where the caller wants none of it; NULL for too many arcs, or where memory is
+ * refused. */
 static inline uint64_t *provedflow_room(size_t arcs) {
-    return arcs > SIZE_MAX / sizeof(uint64_t) ? NULL : (uint64_t *)malloc(arcs ? arcs * sizeof(uint64_t) : 1);
+    return arcs > PROVEDFLOW_MOST_ARCS ? NULL : (uint64_t *)malloc(arcs ? arcs * sizeof(uint64_t) : 1);
 }
 
 /* Finds the greatest value of a flow from the sources to the sinks, and such a flow.
@@ -103,7 +108,7 @@ static inline uint32_t provedflow_flow(uint32_t nodes, size_t arcs, const uint32
     uint64_t *room = flow || !arcs ? NULL : provedflow_room(arcs);
     uint32_t status;
     if (!flow && arcs && !room) {
-        return PROVEDFLOW_MEMORY;
+        return arcs > PROVEDFLOW_MOST_ARCS ? PROVEDFLOW_LENGTHS : PROVEDFLOW_MEMORY;
     }
     status = provedflow_flow_lists(nodes, PROVEDFLOW_U32(src), arcs, PROVEDFLOW_U32(dst), arcs, PROVEDFLOW_U64(cap),
                                    arcs, PROVEDFLOW_U32(sources), n_sources, PROVEDFLOW_U32(sinks), n_sinks,
@@ -115,10 +120,11 @@ static inline uint32_t provedflow_flow(uint32_t nodes, size_t arcs, const uint32
 
 /* Finds a minimum cut: the same as provedflow_flow, and for each node on which side of the cut it lies.
  *
- * side has room for one byte for each node, and gets 1 for a node on the source side, and 0 for one on the other.
- * Where there are several minimum cuts, it is the one nearest the sources, whose source side lies within that of each
- * other; where nearest_sinks isn't 0, it is the one nearest the sinks. The value is the capacity of the arcs that lead
- * from the source side to the other. flow, high and low may be NULL. */
+ * side has room for one byte for each node, and gets 1 for a node on the source side, and 0 for one on the other. It
+ * may not be NULL: then the status is PROVEDFLOW_LENGTHS. Where there are several minimum cuts, it is the one nearest
+ * the sources, whose source side lies within that of each other; where nearest_sinks isn't 0, it is the one nearest the
+ * sinks. The value is the capacity of the arcs that lead from the source side to the other. flow, high and low may be
+ * NULL. */
 static inline uint32_t provedflow_cut(uint32_t nodes, size_t arcs, const uint32_t *src, const uint32_t *dst,
                                       const uint64_t *cap, size_t n_sources, const uint32_t *sources, size_t n_sinks,
                                       const uint32_t *sinks, uint32_t nearest_sinks, uint64_t *flow, uint8_t *side,
@@ -127,7 +133,7 @@ static inline uint32_t provedflow_cut(uint32_t nodes, size_t arcs, const uint32_
     uint64_t *room = flow || !arcs ? NULL : provedflow_room(arcs);
     uint32_t status;
     if (!flow && arcs && !room) {
-        return PROVEDFLOW_MEMORY;
+        return arcs > PROVEDFLOW_MOST_ARCS ? PROVEDFLOW_LENGTHS : PROVEDFLOW_MEMORY;
     }
     status = provedflow_cut_lists(nodes, PROVEDFLOW_U32(src), arcs, PROVEDFLOW_U32(dst), arcs, PROVEDFLOW_U64(cap),
                                   arcs, PROVEDFLOW_U32(sources), n_sources, PROVEDFLOW_U32(sinks), n_sinks,
@@ -190,5 +196,6 @@ static inline const char *provedflow_strerror(uint32_t status) {
 
 #undef PROVEDFLOW_U32
 #undef PROVEDFLOW_U64
+#undef PROVEDFLOW_MOST_ARCS
 
 #endif

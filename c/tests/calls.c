@@ -185,6 +185,7 @@ static void refusals(void) {
     static const uint32_t out[] = {0, 4, 1, 1, 2}, wide[] = {1, 2, 2, UINT32_MAX, 3}, twice[] = {3, 3}, none[] = {4};
     static const uint32_t both[] = {1, 3}, again[] = {0, 0};
     uint64_t high, low, flow[ARCS] = {7, 7, 7, 7, 7};
+    uint8_t side[NODES];
     refused("one node", PROVEDFLOW_NODES, 1, ARCS, SRC, DST, 1, SOURCE, 1, SINK);
     refused("no node", PROVEDFLOW_NODES, 0, ARCS, SRC, DST, 1, SOURCE, 1, SINK);
     refused("too many nodes", PROVEDFLOW_NODES, 1000001, ARCS, SRC, DST, 1, SOURCE, 1, SINK);
@@ -212,6 +213,12 @@ static void refusals(void) {
         PROVEDFLOW_LENGTHS);
     equal("no room for the sides",
           provedflow_cut(NODES, ARCS, SRC, DST, CAP, 1, SOURCE, 1, SINK, 0, flow, NULL, &high, &low),
+          PROVEDFLOW_LENGTHS);
+    /* More arcs than any memory holds: the number is refused, and no room is asked for. */
+    equal("too many arcs, no flow wanted",
+          provedflow_flow(NODES, SIZE_MAX, SRC, DST, CAP, 1, SOURCE, 1, SINK, NULL, &high, &low), PROVEDFLOW_LENGTHS);
+    equal("too many arcs, no flow wanted",
+          provedflow_cut(NODES, SIZE_MAX / 8, SRC, DST, CAP, 1, SOURCE, 1, SINK, 0, NULL, side, &high, &low),
           PROVEDFLOW_LENGTHS);
     equal("nothing written", flow[0] + flow[1] + flow[2] + flow[3] + flow[4], 35);
     equal("the bad arc", provedflow_bad_arc(NODES, ARCS, out, DST), 1);

@@ -1,17 +1,17 @@
--- What a refusal and a status tell, and that good lists have no fault.
+-- What a refusal and a status tell, that good lists have no fault, and that terminals which are taken are good.
 use Rattle.std.proofs.Common.{◌≡◌, ◌<◌, ℕ, zero, suc, ◌⊎◌, List, [], ◌++◌, length, inl, inr, arith}
-use Rattle.std.proofs.Common.{refl, sym, subst, rules}
+use Rattle.std.proofs.Common.{refl, sym, subst, rules, ap, ◌∙◌, get_or}
 use Rattle.std.proofs.Common.{◌≤◌, ◌∷◌}
 use Rattle.std.proofs.lemmas.Grind.{common_steps}
-use Rattle.std.specs.List.{All}
+use Rattle.std.proofs.lemmas.List.{get_or-map, length-map}
 use Rattle.flow_net.specs.declared.limits.TheConstants.{FEWEST_NODES}
 use Rattle.flow_net.specs.Limits.{AreDistinct}
 use Rattle.flow_tools.proofs.NodeSumLemmas.{distinct_front}
-use Rattle.flow_c.specs.Lists.{from_one}
+use Rattle.flow_c.specs.Lists.{from_one, AreTaken}
 use Rattle.flow_c.specs.declared.refusals.Refusal.{Refusal}
 use Rattle.flow_c.specs.declared.refusals.Refusal.TheVariants.{Nodes, Lengths, BadEnd, Terminal, Memory}
 use Rattle.flow_c.specs.Refusals.{HasBadEnd, HasBadTerminal, HasBadTerminals, IsReason, status_number}
-use Rattle.flow_c.specs.Refusals.{IsTold, AreArcs, AreEnds}
+use Rattle.flow_c.specs.Refusals.{IsTold, AreWithin, AreArcs, AreEnds}
 
 module _ (L : Type 0) (n : ℕ) (src dst sources sinks : List ℕ) (r : Refusal) where
   -- why arcs are refused
@@ -56,14 +56,14 @@ never_none BadEnd e = omega (arith, e)
 never_none Terminal e = omega (arith, e)
 never_none Memory e = omega (arith, e)
 
-no_bad_end : (n : ℕ) (src dst : List ℕ) → length dst ≡ length src → All (λ v. v < n) src → All (λ v. v < n) dst
+no_bad_end : (n : ℕ) (src dst : List ℕ) → length dst ≡ length src → AreWithin n src → AreWithin n dst
     → HasBadEnd n src dst → ⊥
 no_bad_end n src dst same a b bad = elim bad.2 [
   | inl high ↦ let low = a bad.0 0 bad.1 in omega (arith, high, low)
   | inr high ↦ let at = bad.1 in let low = b bad.0 0 (omega (arith, same, at)) in omega (arith, high, low)
 ]
 
-no_bad_terminal : (n : ℕ) (before given : List ℕ) → All (λ v. v < n) given → AreDistinct (before ++ from_one given)
+no_bad_terminal : (n : ℕ) (before given : List ℕ) → AreWithin n given → AreDistinct (before ++ from_one given)
     → HasBadTerminal n before given → ⊥
 no_bad_terminal n before given a distinct bad = elim bad [
   | inl out ↦ let low = a out.0 0 out.1 in let high = out.2 in omega (arith, high, low)
@@ -111,3 +111,21 @@ good_refused L n src dst sources sinks r same h =
 -- the first two nodes are terminals of whatever network
 pub first_two : (n : ℕ) → FEWEST_NODES ≤ n → AreEnds n (0 ∷ []) (1 ∷ [])
 first_two n least = grind (arith, common_steps)
+
+-- the nodes of a list that are taken are nodes
+taken_within : (n : ℕ) (before given taken : List ℕ) → AreTaken n before given taken → AreWithin n given
+taken_within n before given taken h = λ i d l.
+    let count = ap length h.all ∙ length-map given (λ v. suc v) in
+    let at = ap (λ vs. get_or vs i (suc d)) h.all ∙ get_or-map (λ v. suc v) given i d (suc d) l in
+    let most = (h.within i (suc d) (omega (arith, count, l))).1 in omega (arith, at, most)
+
+-- sources and sinks that are taken are terminals
+pub taken_ends : (n : ℕ) (sources sinks s t : List ℕ) → 0 < length sources → 0 < length sinks
+    → AreTaken n [] sources s → AreTaken n s sinks t → AreEnds n sources sinks
+taken_ends n sources sinks s t some_source some_sink a b = record {
+  some_source = some_source;
+  some_sink = some_sink;
+  sources_within = taken_within n [] sources s a;
+  sinks_within = taken_within n s sinks t b;
+  distinct = rw (a.all, b.all) at b.distinct;
+}

@@ -1,7 +1,9 @@
 -- Networks that stand in lists which a caller lends. The lists count nodes from 0, networks count them from 1.
 use Rattle.std.specs.Prelude.{◌≡◌, ◌==◌, ℕ, suc, ◌+◌, ◌≤◌, ◌++◌, Bool, not, List, length, map, replicate, slice_index}
-use Rattle.std.specs.Prelude.{if◌then◌else◌}
+use Rattle.std.specs.Prelude.{Option, unwrap_or, if◌then◌else◌}
+use Rattle.std.specs.Borrow.{Bor}
 use Rattle.std.specs.List.{All, range_with_len}
+use Rattle.std.specs.Option.{option_copied}
 use Rattle.flow_net.specs.declared.networks.Arc.{Arc}
 use Rattle.flow_net.specs.Limits.{AreDistinct}
 use Rattle.flow_net.specs.Nets.{Net, Instance}
@@ -39,6 +41,10 @@ network_of lent cap =
 -- a capacity of 1 for each place
 abbrev pub ones : List ℕ → List ℕ
 ones src = replicate (length src) 1
+
+-- the capacities that are lent, and a 1 for each place where none are
+abbrev pub capacities : Lent → Option (Bor (List ℕ)) → List ℕ
+capacities lent cap = unwrap_or (option_copied cap) (ones lent.src.now)
 
 -- 1 for what is marked, and 0 for the rest
 abbrev pub bit : Bool → ℕ

@@ -67,18 +67,30 @@ pub record IsTold (Lens : Type 0) (n : ℕ) (src dst sources sinks : List ℕ) (
   pub terminals : status ≡ 4 → HasBadTerminals n sources sinks
   pub most : status ≤ 5
 
+-- the numbers of a list are nodes
+abbrev pub AreWithin : ℕ → List ℕ → Type 0
+AreWithin n vs = All (λ v. v < n) vs
+
 -- the lists are a network of nodes 0 to n - 1, and have such lengths
 pub record AreArcs (Lens : Type 0) (n : ℕ) (src dst : List ℕ) : Type 0 where
   pub nodes_least : FEWEST_NODES ≤ n
   pub nodes_most : n ≤ MOST_NODES
   pub lengths : Lens
-  pub src_within : All (λ v. v < n) src
-  pub dst_within : All (λ v. v < n) dst
+  pub src_within : AreWithin n src
+  pub dst_within : AreWithin n dst
 
 -- the lists are terminals of such a network: a source and a sink or more, all of them nodes, and none twice
 pub record AreEnds (n : ℕ) (sources sinks : List ℕ) : Type 0 where
   pub some_source : 0 < length sources
   pub some_sink : 0 < length sinks
-  pub sources_within : All (λ v. v < n) sources
-  pub sinks_within : All (λ v. v < n) sinks
+  pub sources_within : AreWithin n sources
+  pub sinks_within : AreWithin n sinks
   pub distinct : AreDistinct (from_one sources ++ from_one sinks)
+
+-- the lists are a network with its terminals, and have such lengths
+abbrev pub AreGood : Type 0 → ℕ → List ℕ → List ℕ → List ℕ → List ℕ → Type 0
+AreGood Lens n src dst sources sinks = AreArcs Lens n src dst × AreEnds n sources sinks
+
+-- the same of the lists that are lent
+abbrev pub AreGoodFor : Type 0 → Lent → Type 0
+AreGoodFor Lens lent = AreGood Lens lent.nodes lent.src.now lent.dst.now lent.sources.now lent.sinks.now

@@ -5,7 +5,7 @@ ghost use Rattle.flow_net.specs.NodeSets.{one_of};
 ghost use Rattle.flow_net.specs.Flows.{Fits};
 ghost use Rattle.flow_tools.specs.checking.NodeSums.{AreNodeFlows};
 ghost use Rattle.flow_c.specs.Lists.{network_of};
-ghost use Rattle.flow_c.specs.Refusals.{IsReasonFor, AreLengthsOf};
+ghost use Rattle.flow_c.specs.Refusals.{IsReasonFor, AreLengthsOf, AreGoodFor};
 ghost use Rattle.flow_c.specs.Checks.{IsFirstOver, AreSumsOf, HasWord, IsChecked};
 ghost use Rattle.flow_c.specs.declared.refusals.Refusal.TheVariants.{Memory};
 
@@ -127,12 +127,14 @@ pub(crate) fn check_lists(
 ) -> Result<Checked, Refusal>
     ensures ok { IfOk result (λ checked.
         IsChecked (network_of lent.entry cap.now) flow.now checked.verdict checked.told) }
+    ensures taken { IfOk result (λ _. AreGoodFor
+        (AreLengthsOf lent.entry cap.now × (length flow.now ≡ length lent.entry.src.now)) lent.entry) }
     ensures refused { IfErr result (IsReasonFor
         (AreLengthsOf lent.entry cap.now × (length flow.now ≡ length lent.entry.src.now)) lent.entry) }
 {
     if flow.len() != lent.src.len() {
         return Err(Refusal::Lengths);
     }
-    let network = read_network(alloc, lent, cap)?;
+    let network = read_network(alloc, lent, Some(cap))?;
     check_flow(alloc, &network, flow)
 }

@@ -19,7 +19,7 @@ ghost use Rattle.flow_tools.specs.connecting.Counts.{counted};
 ghost use Rattle.flow_tools.specs.solving.Solutions.{IsSolution};
 ghost use Rattle.flow_c.specs.Lists.{listed, listed_net, from_one, ones, is_yes, IsCutInto};
 ghost use Rattle.flow_c.specs.Checks.{IsChecked};
-ghost use Rattle.flow_c.specs.Refusals.{AreLengths, AreArcs, AreEnds, IsTold, status_number};
+ghost use Rattle.flow_c.specs.Refusals.{AreLengths, AreArcs, AreEnds, AreGood, IsTold, status_number};
 
 mod checking;
 mod lists;
@@ -64,6 +64,8 @@ pub extern "C" fn provedflow_flow_lists(
     ensures flow { result ≢ 0 → flow.new ≡ flow.old }
     ensures high { result ≢ 0 → high.new ≡ high.old }
     ensures low { result ≢ 0 → low.new ≡ low.old }
+    ensures taken { result ≡ 0 → AreGood (AreLengths src.now dst.now cap.now × (length flow.old ≡ length src.now))
+        nodes src.now dst.now sources.now sinks.now }
     ensures told { IsTold (AreLengths src.now dst.now cap.now × (length flow.old ≡ length src.now))
         nodes src.now dst.now sources.now sinks.now result }
     ensures refused { AreArcs (AreLengths src.now dst.now cap.now × (length flow.old ≡ length src.now))
@@ -108,6 +110,8 @@ pub extern "C" fn provedflow_cut_lists(
     ensures side { result ≢ 0 → side.new ≡ side.old }
     ensures high { result ≢ 0 → high.new ≡ high.old }
     ensures low { result ≢ 0 → low.new ≡ low.old }
+    ensures taken { result ≡ 0 → AreGood (AreLengths src.now dst.now cap.now × (length flow.old ≡ length src.now)
+        × (length side.old ≡ nodes)) nodes src.now dst.now sources.now sinks.now }
     ensures told { IsTold (AreLengths src.now dst.now cap.now × (length flow.old ≡ length src.now)
         × (length side.old ≡ nodes)) nodes src.now dst.now sources.now sinks.now result }
     ensures refused { AreArcs (AreLengths src.now dst.now cap.now × (length flow.old ≡ length src.now)
@@ -157,6 +161,8 @@ pub extern "C" fn provedflow_links_lists(
         → IsLeastOver (IsProper (listed_net nodes src.now dst.now (ones src.now)))
         (counted (is_yes undirected) (listed_net nodes src.now dst.now (ones src.now))) links.new }
     ensures links { result ≢ 0 → links.new ≡ links.old }
+    ensures taken { result ≡ 0 → AreArcs ((length src.now ≤ MOST_ARCS) × (length dst.now ≡ length src.now))
+        nodes src.now dst.now × (pair ≢ 0 → AreEnds nodes sources.now sinks.now) }
     ensures told_pair { pair ≢ 0 → IsTold ((length src.now ≤ MOST_ARCS) × (length dst.now ≡ length src.now))
         nodes src.now dst.now sources.now sinks.now result }
     ensures told_whole { pair ≡ 0 → IsTold ((length src.now ≤ MOST_ARCS) × (length dst.now ≡ length src.now))
@@ -216,6 +222,8 @@ pub extern "C" fn provedflow_check_lists(
     ensures verdict { result ≢ 0 → verdict.new ≡ verdict.old }
     ensures high { result ≢ 0 → high.new ≡ high.old }
     ensures low { result ≢ 0 → low.new ≡ low.old }
+    ensures taken { result ≡ 0 → AreGood (AreLengths src.now dst.now cap.now × (length flow.now ≡ length src.now))
+        nodes src.now dst.now sources.now sinks.now }
     ensures told { IsTold (AreLengths src.now dst.now cap.now × (length flow.now ≡ length src.now))
         nodes src.now dst.now sources.now sinks.now result }
     ensures refused { AreArcs (AreLengths src.now dst.now cap.now × (length flow.now ≡ length src.now))

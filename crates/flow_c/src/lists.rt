@@ -1,11 +1,12 @@
 //! Networks from lists that a caller lends.
-ghost use Rattle.std.specs.Prelude.{◌≡◌, ◌⊎◌, ℕ, ◌≤◌, ◌++◌, [], length, IfOk, IfErr, MatchResult};
+ghost use Rattle.std.specs.Prelude.{◌≡◌, ◌⊎◌, ℕ, ◌<◌, ◌≤◌, ◌++◌, ◌↔◌, [], length, slice_index, IsTrue, IfOk, IfErr};
+ghost use Rattle.std.specs.Prelude.{MatchResult};
 ghost use Rattle.flow_net.specs.NodeSets.{one_of};
 ghost use Rattle.flow_net.specs.Limits.{AreDistinct};
 ghost use Rattle.flow_net.specs.MarkedNodes.{marked};
 ghost use Rattle.flow_net.specs.declared.limits.TheConstants.{FEWEST_NODES, MOST_NODES};
-ghost use Rattle.flow_c.specs.Lists.{listed_net, network_of, from_one, AreTaken};
-ghost use Rattle.flow_c.specs.Refusals.{IsReasonFor, HasBadEnd, HasBadTerminal, AreLengthsOf};
+ghost use Rattle.flow_c.specs.Lists.{capacities, listed_net, network_of, from_one, AreTaken};
+ghost use Rattle.flow_c.specs.Refusals.{IsReasonFor, HasBadEnd, HasBadTerminal, AreLengthsOf, AreGoodFor, AreWithin};
 ghost use Rattle.flow_c.specs.declared.refusals.Refusal.TheVariants.{BadEnd, Terminal, Memory};
 
 use crate::refusals::Refusal;
@@ -28,12 +29,36 @@ pub(crate) struct Lent<'a> {
     pub sinks: &'a [u32],
 }
 
+/// What the arc at a place may carry.
+fn cap_at(lent: Lent<'_>, cap: Option<&[u64]>, i: usize) -> u64
+    requires { i < length (capacities lent cap) }
+    ensures { result ≡ slice_index (capacities lent.entry cap.entry) i }
+{
+    match cap {
+        Some(cap) => cap[i],
+        None => 1,
+    }
+}
+
+/// Whether there is a capacity for each arc.
+fn has_caps(lent: Lent<'_>, cap: Option<&[u64]>) -> bool
+    ensures { IsTrue result ↔ (length (capacities lent.entry cap.entry) ≡ length lent.entry.src.now) }
+{
+    match cap {
+        Some(cap) => cap.len() == lent.src.len(),
+        None => true,
+    }
+}
+
 /// The network of the lists of arcs.
-fn read_arcs(alloc: Global, lent: Lent<'_>, cap: &[u64]) -> Result<Network, Refusal>
+fn read_arcs(alloc: Global, lent: Lent<'_>, cap: Option<&[u64]>) -> Result<Network, Refusal>
     requires least { FEWEST_NODES ≤ lent.nodes }
     requires most { lent.nodes ≤ MOST_NODES }
-    requires lengths { AreLengthsOf lent cap.now }
-    ensures net { IfOk result (λ net. net ≡ listed_net lent.entry.nodes lent.entry.src.now lent.entry.dst.now cap.now) }
+    requires lengths { AreLengthsOf lent (capacities lent cap) }
+    ensures net { IfOk result (λ net. net ≡ listed_net lent.entry.nodes lent.entry.src.now lent.entry.dst.now
+        (capacities lent.entry cap.entry)) }
+    ensures ends { IfOk result (λ _. AreWithin lent.entry.nodes lent.entry.src.now
+        × AreWithin lent.entry.nodes lent.entry.dst.now) }
     ensures refused { IfErr result (λ r. (r ≡ Memory)
         ⊎ ((r ≡ BadEnd) × HasBadEnd lent.entry.nodes lent.entry.src.now lent.entry.dst.now)) }
 {
@@ -46,7 +71,7 @@ fn read_arcs(alloc: Global, lent: Lent<'_>, cap: &[u64]) -> Result<Network, Refu
         let arc = Arc {
             src: src + 1,
             dst: dst + 1,
-            cap: cap[i],
+            cap: cap_at(lent, cap, i),
         };
         if net.push(arc).is_err() {
             return Err(Refusal::Memory);
@@ -101,20 +126,24 @@ fn read_both(alloc: Global, lent: Lent<'_>) -> Result<(Vec<u32>, Vec<u32>), Refu
     Ok((s, t))
 }
 
-/// The network of the lists, with its terminals. All that the lists say is tested.
+/// The network of the lists, with its terminals; where no capacities are lent each is 1. All that the lists say is
+/// tested.
 pub(crate) fn read_network(
     alloc: Global,
     lent: Lent<'_>,
-    cap: &[u64],
+    cap: Option<&[u64]>,
 ) -> Result<FlowNetwork, Refusal>
-    ensures network { IfOk result (λ network. network ≡ network_of lent.entry cap.now) }
-    ensures refused { IfErr result (IsReasonFor (AreLengthsOf lent.entry cap.now) lent.entry) }
+    ensures network { IfOk result (λ network. network ≡ network_of lent.entry (capacities lent.entry cap.entry)) }
+    ensures taken { IfOk result (λ _. AreGoodFor
+        (AreLengthsOf lent.entry (capacities lent.entry cap.entry)) lent.entry) }
+    ensures refused { IfErr result (IsReasonFor
+        (AreLengthsOf lent.entry (capacities lent.entry cap.entry)) lent.entry) }
 {
     if lent.nodes < FEWEST_NODES || lent.nodes > MOST_NODES {
         return Err(Refusal::Nodes);
     }
     let arcs = lent.src.len();
-    if arcs > MOST_ARCS_BOTH_WAYS as usize || lent.dst.len() != arcs || cap.len() != arcs {
+    if arcs > MOST_ARCS_BOTH_WAYS as usize || lent.dst.len() != arcs || !has_caps(lent, cap) {
         return Err(Refusal::Lengths);
     }
     if lent.sources.is_empty() || lent.sinks.is_empty() {

@@ -6,12 +6,12 @@ ghost use Rattle.flow_tools.specs.running.Answers.{IsSeparating};
 ghost use Rattle.flow_tools.specs.connecting.Counts.{counted};
 ghost use Rattle.flow_tools.specs.solving.Solutions.{IsSolution, is_sink};
 ghost use Rattle.flow_c.specs.Lists.{network_of, ones, bit, IsCutInto};
-ghost use Rattle.flow_c.specs.Refusals.{IsReasonFor, AreLengthsOf};
+ghost use Rattle.flow_c.specs.Refusals.{IsReasonFor, AreLengthsOf, AreGoodFor};
 
 use crate::lists::{Lent, read_network};
 use crate::refusals::Refusal;
 use flow_net::MOST_ARCS;
-use flow_tools::{Side, connect, cut, filled, solve};
+use flow_tools::{Side, connect, cut, solve};
 use std::alloc::Global;
 
 /// Writes a 1 for each node that is marked, and a 0 for the others.
@@ -33,13 +33,15 @@ pub(crate) fn solve_lists(
 ) -> Result<u128, Refusal>
     ensures ok { IfOk result (λ value. IsSolution (network_of lent.entry cap.now) value flow.new) }
     ensures flow { OnErr result (flow.new ≡ flow.old) }
+    ensures taken { IfOk result (λ _. AreGoodFor
+        (AreLengthsOf lent.entry cap.now × (length flow.old ≡ length lent.entry.src.now)) lent.entry) }
     ensures refused { IfErr result (IsReasonFor
         (AreLengthsOf lent.entry cap.now × (length flow.old ≡ length lent.entry.src.now)) lent.entry) }
 {
     if flow.len() != lent.src.len() {
         return Err(Refusal::Lengths);
     }
-    let network = read_network(alloc, lent, cap)?;
+    let network = read_network(alloc, lent, Some(cap))?;
     let solved = solve(alloc, network)?;
     flow.copy_from_slice(solved.flows.as_slice());
     Ok(solved.value)
@@ -58,13 +60,15 @@ pub(crate) fn cut_lists(
         IsCutInto (network_of lent.entry cap.now) (is_sink nearest) value flow.new side.new) }
     ensures flow { OnErr result (flow.new ≡ flow.old) }
     ensures side { OnErr result (side.new ≡ side.old) }
+    ensures taken { IfOk result (λ _. AreGoodFor (AreLengthsOf lent.entry cap.now
+        × (length flow.old ≡ length lent.entry.src.now) × (length side.old ≡ lent.entry.nodes)) lent.entry) }
     ensures refused { IfErr result (IsReasonFor (AreLengthsOf lent.entry cap.now
         × (length flow.old ≡ length lent.entry.src.now) × (length side.old ≡ lent.entry.nodes)) lent.entry) }
 {
     if flow.len() != lent.src.len() || side.len() != lent.nodes as usize {
         return Err(Refusal::Lengths);
     }
-    let network = read_network(alloc, lent, cap)?;
+    let network = read_network(alloc, lent, Some(cap))?;
     let found = cut(alloc, network, nearest)?;
     flow.copy_from_slice(found.solved.flows.as_slice());
     write_marks(found.side.as_slice(), side);
@@ -80,16 +84,15 @@ pub(crate) fn count_links(
 ) -> Result<u64, Refusal>
     ensures ok { IfOk result (IsLeastOver (IsSeparating (network_of lent.entry (ones lent.entry.src.now)) pair)
         (counted undirected (network_of lent.entry (ones lent.entry.src.now)).net)) }
+    ensures taken { IfOk result (λ _. AreGoodFor ((length lent.entry.src.now ≤ MOST_ARCS)
+        × (length lent.entry.dst.now ≡ length lent.entry.src.now)) lent.entry) }
     ensures refused { IfErr result (IsReasonFor ((length lent.entry.src.now ≤ MOST_ARCS)
         × (length lent.entry.dst.now ≡ length lent.entry.src.now)) lent.entry) }
 {
     if lent.src.len() > MOST_ARCS as usize || lent.dst.len() != lent.src.len() {
         return Err(Refusal::Lengths);
     }
-    let network = {
-        let cap = filled(alloc, 1u64, lent.src.len())?;
-        read_network(alloc, lent, cap.as_slice())?
-    };
+    let network = read_network(alloc, lent, None)?;
     let links = connect(alloc, network.into_problem(), undirected, pair)?;
     Ok(links)
 }

@@ -12,6 +12,7 @@ returns-in-Err c =
       side = λ _. h.side;
       high = λ _. refl;
       low = λ _. refl;
+      taken = λ e. absurd (never_none r e);
       told = told_by _ _ _ _ _ _ r h.refused;
       refused = good_refused _ _ _ _ _ _ r (λ l. l.0.1) h.refused;
     })

@@ -11,6 +11,7 @@ returns-in-Err c =
       flow = λ _. h.flow;
       high = λ _. refl;
       low = λ _. refl;
+      taken = λ e. absurd (never_none r e);
       told = told_by _ _ _ _ _ _ r h.refused;
       refused = good_refused _ _ _ _ _ _ r (λ l. l.0.1) h.refused;
     })

@@ -11,6 +11,7 @@ returns-in-Err c =
       pair = λ e _. absurd (never_none r e);
       whole = λ e _. absurd (never_none r e);
       links = λ _. refl;
+      taken = λ e. absurd (never_none r e);
       told_pair = λ other. elim c.if-pair.branch [
         | then-pair w ↦
             told_by _ _ _ _ _ _ r (rw (sym w.found-is ∙ c.in-Err.is) at w.count_links-found.ensures.refused)

@@ -1,15 +1,29 @@
 -- `read_network`: the terminals are some nodes, all different.
-use Rattle.std.proofs.Common.{◌≡◌, ◌<◌, ◌∙◌, ap, ℕ, List, length, suc, false, arith}
+use Rattle.std.proofs.Common.{◌≡◌, ◌<◌, ◌∙◌, ap, ℕ, List, length, suc, false, refl, rules, arith}
 use Rattle.std.proofs.lemmas.Grind.{common_steps}
 use Rattle.std.specs.Prelude.{◌==◌}
 use Rattle.std.proofs.lemmas.List.{length-map}
 use Rattle.flow_c.proofs.ListLemmas.{passed_on}
-use Rattle.flow_c.proofs.FaultLemmas.{arcs_reason, terminals_reason}
+use Rattle.flow_c.proofs.FaultLemmas.{arcs_reason, terminals_reason, taken_ends}
 use Rattle.flow_c.proofs.lists.read_network.Goals as goal
 
 -- a list as long as one that isn't empty
 some_at : (xs ys : List ℕ) → length ys ≡ length xs → false ≡ length xs == 0 → 0 < length ys
 some_at xs ys same some = grind (arith, common_steps)
+
+pub returns-clause-taken : goal.returns-clause-taken
+returns-clause-taken c =
+    let some_source = some_at c.args.lent.sources.now c.args.lent.sources.now refl c.if-is_empty.ensures in
+    let some_sink = some_at c.args.lent.sinks.now c.args.lent.sinks.now refl c.if-is_empty-2.ensures in (
+      record {
+        nodes_least = omega arith;
+        nodes_most = omega arith;
+        lengths = search rules;
+        src_within = c.in_ok-net.ensures.ends.0;
+        dst_within = c.in_ok-net.ensures.ends.1;
+      },
+      taken_ends _ _ _ _ _ some_source some_sink c.in_ok-s.ensures.0 c.in_ok-s.ensures.1,
+    )
 
 pub new-requires : goal.new-requires
 new-requires c =

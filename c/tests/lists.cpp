@@ -1,0 +1,157 @@
+/* Tries provedflow.hpp: small networks against all sets of nodes, grids against all ways to part them, and what is
+ * thrown. The last line is 'lists: N passed, M failed'. */
+#include <array>
+#include <cstdio>
+#include <random>
+#include <vector>
+
+#include <provedflow.hpp>
+
+namespace {
+
+using std::uint32_t;
+using std::uint64_t;
+
+int passed = 0, failed = 0;
+
+void check(bool good, const char *what) {
+    good ? passed++ : failed++;
+    if (!good) {
+        std::printf("not as it should be: %s\n", what);
+    }
+}
+
+template <class Kind, class Call> bool throws(Call call) {
+    try {
+        call();
+    } catch (const Kind &) {
+        return true;
+    }
+    return false;
+}
+
+struct Network {
+    uint32_t nodes;
+    std::vector<uint32_t> src, dst;
+    std::vector<uint64_t> cap;
+};
+
+/* What the arcs that leave a set carry at most; bit v of the set is node v. */
+uint64_t leaving(const Network &net, uint64_t set) {
+    uint64_t sum = 0;
+    for (std::size_t i = 0; i < net.src.size(); i++) {
+        sum += (set >> net.src[i] & 1) && !(set >> net.dst[i] & 1) ? net.cap[i] : 0;
+    }
+    return sum;
+}
+
+uint64_t bits_of(const std::vector<std::uint8_t> &side) {
+    uint64_t set = 0;
+    for (std::size_t v = 0; v < side.size(); v++) {
+        set |= uint64_t{side[v]} << v;
+    }
+    return set;
+}
+
+void try_network(std::mt19937 &chance) {
+    const auto below = [&chance](uint32_t most) { return std::uniform_int_distribution<uint32_t>(0, most - 1)(chance); };
+    Network net{2 + below(5), {}, {}, {}};
+    for (uint32_t arcs = below(14); arcs > 0; arcs--) {
+        net.src.push_back(below(net.nodes)), net.dst.push_back(below(net.nodes)), net.cap.push_back(below(6));
+    }
+    const std::array<uint32_t, 1> source{0}, sink{1};
+    uint64_t least = UINT64_MAX, near = 0, far = ~uint64_t{0}, links = UINT64_MAX, pair = UINT64_MAX;
+    Network unit = net;
+    unit.cap.assign(net.cap.size(), 1);
+    for (uint64_t set = 1; set + 1 < uint64_t{1} << net.nodes; set++) {
+        links = std::min(links, leaving(unit, set));
+        if ((set & 3) == 1) {
+            const uint64_t sum = leaving(net, set);
+            pair = std::min(pair, leaving(unit, set));
+            near = sum < least ? set : sum == least ? near & set : near;
+            far = sum < least ? set : sum == least ? far | set : far;
+            least = std::min(least, sum);
+        }
+    }
+    const auto flow = provedflow::maximum_flow(net.nodes, net.src, net.dst, net.cap, source, sink);
+    const auto cut = provedflow::minimum_cut(net.nodes, net.src, net.dst, net.cap, source, sink);
+    const auto back = provedflow::minimum_cut(net.nodes, net.src, net.dst, net.cap, source, sink,
+                                              provedflow::Nearest::sinks);
+    const auto said = provedflow::check(net.nodes, net.src, net.dst, net.cap, source, sink, flow.arcs);
+    check(flow.value.number() == least && cut.value.number() == least, "the greatest value is the least capacity");
+    check(bits_of(cut.side) == near && bits_of(back.side) == far, "the nearest sides");
+    check(said.verdict == PROVEDFLOW_GREATEST && said.told == flow.value, "the verdict");
+    check(provedflow::edge_connectivity(net.nodes, net.src, net.dst, false) == links, "the edge connectivity");
+    check(provedflow::edge_connectivity(net.nodes, net.src, net.dst, false, source, sink) == pair, "that of the pair");
+}
+
+void try_grid(std::mt19937 &chance, uint32_t width, uint32_t height, uint32_t depth) {
+    const auto weight = [&chance] { return std::uniform_int_distribution<uint64_t>(0, 9)(chance); };
+    provedflow::Grid grid(width, height, depth);
+    Network net{grid.pixels() + 2, {}, {}, {}};
+    const auto add = [&net](uint32_t src, uint32_t dst, uint64_t cap) {
+        net.src.push_back(src), net.dst.push_back(dst), net.cap.push_back(cap);
+    };
+    for (uint32_t pixel = 0; pixel < grid.pixels(); pixel++) {
+        const uint64_t source = weight(), sink = weight();
+        grid.add_terminals(pixel, source, sink);
+        add(grid.pixels(), pixel, source), add(pixel, grid.pixels() + 1, sink);
+        if (pixel + 1 < grid.pixels()) {
+            const uint64_t there = weight(), back = weight();
+            grid.join(pixel, pixel + 1, there, back);
+            add(pixel, pixel + 1, there), add(pixel + 1, pixel, back);
+        }
+    }
+    const uint64_t source = uint64_t{1} << grid.pixels();
+    uint64_t least = UINT64_MAX;
+    for (uint64_t set = 0; set < source; set++) {
+        least = std::min(least, leaving(net, set | source));
+    }
+    const auto cut = grid.cut();
+    check(cut.value.number() == least && leaving(net, bits_of(cut.side) | source) == least, "the cut of a grid");
+    check(cut.side.size() == grid.pixels() && grid.at(width - 1, height - 1, depth - 1) + 1 == grid.pixels(), "pixels");
+}
+
+void try_refusals() {
+    const std::vector<uint32_t> src{0, 1}, dst{1, 7}, one{0}, other{1}, none;
+    const std::vector<uint64_t> cap{1, 2}, large(2, UINT64_MAX);
+    const auto refused = [&](uint32_t status, uint32_t nodes, const std::vector<uint32_t> &ends,
+                             const std::vector<uint32_t> &sinks) {
+        try {
+            provedflow::minimum_cut(nodes, src, ends, cap, one, sinks);
+        } catch (const provedflow::Refused &why) {
+            return why.status() == status;
+        }
+        return false;
+    };
+    check(refused(PROVEDFLOW_NODES, 1, src, other) && refused(PROVEDFLOW_NODES, UINT32_MAX, src, other), "nodes");
+    check(refused(PROVEDFLOW_LENGTHS, 2, one, other), "lengths");
+    check(refused(PROVEDFLOW_ARC, 2, dst, other), "an end");
+    check(refused(PROVEDFLOW_TERMINALS, 2, src, none), "terminals");
+    const std::vector<uint32_t> zero(2, 0), last(2, 1);
+    const auto value = provedflow::maximum_flow(2, zero, last, large, one, other).value;
+    check(value.high == 1 && value.low == UINT64_MAX - 1, "a value of more than 64 bits");
+    check(throws<std::overflow_error>([&] { static_cast<void>(value.number()); }), "such a value as a number");
+    provedflow::Grid grid(2, 2);
+    grid.add_terminals(3, UINT64_MAX, 0);
+    check(throws<std::overflow_error>([&] { grid.add_terminals(3, 1, 0); }), "weights past 64 bits");
+    check(throws<std::out_of_range>([&] { grid.join(0, 4, 1, 1); }), "a pixel outside");
+    check(throws<std::out_of_range>([&] { static_cast<void>(grid.at(2, 0)); }), "a place outside");
+    check(throws<provedflow::Refused>([] { provedflow::Grid empty(0, 3); }), "a grid without pixels");
+}
+
+} // namespace
+
+int main() {
+    std::mt19937 chance(1970);
+    for (int round = 0; round < 400; round++) {
+        try_network(chance);
+    }
+    for (int round = 0; round < 40; round++) {
+        try_grid(chance, 4, 3, 1);
+        try_grid(chance, 2, 2, 3);
+    }
+    try_refusals();
+    std::printf("lists: %d passed, %d failed\n", passed, failed);
+    return failed != 0;
+}

@@ -8,6 +8,8 @@ use std::alloc::{AllocError, Global};
 /// What the help of `flow` ends with.
 const ALL_STATUSES: &str =
     "flow COMMAND --help says what a command reads and prints, with an example.
+A message doesn't name the file. In a loop over files, print the name as well:
+  for f in *.max; do echo \"$f\"; flow solve --value \"$f\"; done
 Guide, a page for each task: docs/GUIDE.md. What a message means: docs/MESSAGES.md.
 
 Exit status:
@@ -20,6 +22,8 @@ Exit status:
 /// What the help of a command with one input ends with.
 const STATUSES: &str =
     "Where no file is named, standard input is read; - names a file like any other.
+A message doesn't name the file. In a loop over files, print the name as well:
+  for f in *.max; do echo \"$f\"; flow solve --value \"$f\"; done
 Guide, a page for each task: docs/GUIDE.md. What a message means: docs/MESSAGES.md.
 
 Exit status:
@@ -31,6 +35,8 @@ Exit status:
 /// What the help of `check` ends with.
 const CHECK_STATUSES: &str =
     "Where no solution is named, standard input is read; - names a file like any other.
+A message doesn't name the file. In a loop over files, print the name as well:
+  for f in *.max; do echo \"$f\"; flow solve --value \"$f\"; done
 Guide, a page for each task: docs/GUIDE.md. What a message means: docs/MESSAGES.md.
 
 Exit status:

@@ -9,78 +9,87 @@ a line that begins with SKIPPED. The last line is 'bindings: N passed, M failed'
 """
 
 import importlib
-import importlib.util
 import os
 import pathlib
 import re
-import subprocess
 import sys
+import tempfile
 
-ROOT = pathlib.Path(__file__).resolve().parent.parent
-PACKAGE = ROOT / "python"
 sys.dont_write_bytecode = True
-sys.path[:0] = [str(PACKAGE)]
 
-import binding_arrays
-from binding_checks import Checks
+from binding_checks import PACKAGE, ROOT, Checks, python
+
+sys.path[:0] = [str(PACKAGE)]
 
 PAGES = {"README.md": 0, "docs/PYTHON.md": 5, "examples/python/README.md": 3}
 """The pages, each with how many blocks of Python it has at least."""
-NEEDS = {"provedflow": None, "provedflow.calls": None, "provedflow.scipy": "scipy", "provedflow.networkx": "networkx",
-         "provedflow.pixels": "numpy"}
+NEEDS = {"provedflow": "array", "provedflow.calls": "array", "provedflow.scipy": "scipy",
+         "provedflow.networkx": "networkx", "provedflow.pixels": "numpy"}
 """The modules with examples, and what each needs."""
-
-
-def is_there(module):
-    """Whether a library of Python is installed."""
-    return importlib.util.find_spec(module) is not None
 
 
 def docstrings(checks):
     """Runs the examples of the docstrings, each module in a process of its own."""
+    script = ("import doctest, importlib, sys; found = doctest.testmod(importlib.import_module(sys.argv[1]));"
+              "sys.exit(found.failed > 0 or not found.attempted)")
     for name, needed in NEEDS.items():
-        if needed and not is_there(needed):
-            checks.skip(f"the examples of {name}, since {needed} isn't installed")
-            continue
-        script = ("import doctest, importlib, sys; found = doctest.testmod(importlib.import_module(sys.argv[1]));"
-                  "print(found.attempted); sys.exit(found.failed > 0)")
-        status, printed, errors = python("-c", script, name)
-        count = (printed.splitlines() or ["0"])[-1]
-        checks.true(f"examples of {name}", status == 0 and count.isdigit() and int(count) > 0, printed + errors)
+        if checks.has(needed, f"the examples of {name}"):
+            checks.equal(f"examples of {name}", python("-c", script, name), (0, "", ""))
+
+
+def blocks(page):
+    """The blocks of Python of a page, each with what it is shown to print."""
+    text = (ROOT / page).read_text(encoding="utf-8")
+    return re.findall(r"```python\n(.*?)```(?:(?:(?!```).)*?```text\n(.*?)```)?", text, re.DOTALL)
 
 
 def pages(checks):
     """Runs the blocks of Python of the pages, and compares what they print."""
     for page, least in PAGES.items():
-        text = (ROOT / page).read_text(encoding="utf-8")
-        blocks = re.findall(r"```python\n(.*?)```(?:(?:(?!```).)*?```text\n(.*?)```)?", text, re.DOTALL)
-        checks.true(f"{page} has examples", len(blocks) >= least, f"only {len(blocks)} blocks of Python")
-        for number, (code, shown) in enumerate(blocks, 1):
-            missing = [name for name in ("numpy", "scipy", "networkx")
-                       if re.search(rf"^(?:import|from) (?:provedflow\.)?{name}\b", code, re.M) and not is_there(name)]
-            if missing:
-                checks.skip(f"block {number} of {page}, since {missing[0]} isn't installed")
-                continue
-            status, printed, errors = python("-c", code)
-            checks.true(f"block {number} of {page}", (status, printed, errors) == (0, shown, ""),
-                        f"it prints\n{printed}{errors}in the place of\n{shown}")
+        checks.true(f"{page} has examples", len(blocks(page)) >= least, f"only {len(blocks(page))} blocks of Python")
+        for number, (code, shown) in enumerate(blocks(page), 1):
+            needed = re.findall(r"^(?:import|from) (?:provedflow\.)?(numpy|scipy|networkx)\b", code, re.M)
+            if all(checks.has(name, f"block {number} of {page}") for name in needed):
+                checks.equal(f"block {number} of {page}", python("-c", code), (0, shown, ""))
 
 
-def python(*words, **environment):
-    """Runs Python with the package on its path: its status, what it printed, and its errors."""
-    path = os.pathsep.join(filter(None, [str(PACKAGE), os.environ.get("PYTHONPATH")]))
-    done = subprocess.run([sys.executable, "-B", *words], capture_output=True, text=True, check=False, cwd=ROOT,
-                          env={**os.environ, "PYTHONPATH": path, **environment})
-    return done.returncode, done.stdout, done.stderr
+def types(checks):
+    """The blocks of the pages have no errors of types, where all of them are looked for."""
+    if not checks.has("mypy", "the types of the pages"):
+        return
+    with tempfile.TemporaryDirectory() as folder:
+        for page in PAGES:
+            for number, (code, _) in enumerate(blocks(page), 1):
+                (pathlib.Path(folder) / f"{page[:-3].replace('/', '_')}_{number}.py").write_text(code)
+        found = python("-m", "mypy", "--strict", "--ignore-missing-imports", "--follow-imports=silent",
+                       "--no-incremental", folder, MYPYPATH=str(PACKAGE))
+    checks.true("types of the pages", found[0] == 0, found[1])
+
+
+def breaking_off(checks):
+    """Ctrl-C is heard while a foreign call runs, and a long call of the library is made in that way."""
+    code = """if True:
+        import ctypes, os, signal, threading, time
+        import provedflow
+        from provedflow import calls
+        signal.signal(signal.SIGINT, signal.default_int_handler)  # a shell's background command ignores it
+        threading.Timer(0.2, os.kill, (os.getpid(), signal.SIGINT)).start()
+        start = time.monotonic()
+        try:
+            calls.interruptible(ctypes.CDLL(None).sleep, [60], ())
+        except KeyboardInterrupt:
+            print("heard" if time.monotonic() - start < 30 else "late")
+        made = []
+        calls.interruptible = lambda export, words, kept: made.append(words) or export(*words)
+        arcs = calls.LONG
+        print(provedflow.maximum_flow([0] * arcs, [1] * arcs, [1] * arcs, [0], [1], 2).value == arcs, len(made))"""
+    checks.equal("Ctrl-C", python("-c", code), (0, "heard\nTrue 1\n", ""))
 
 
 def missing_library(checks):
     """Where the library isn't, the package can be imported, and a call says what is missing."""
-    code = ("import provedflow\ntry:\n    provedflow.edge_connectivity([0], [1])\n"
-            "except provedflow.LibraryNotFound as failure:\n    print(failure)")
-    status, printed, errors = python("-c", code, PROVEDFLOW_LIBRARY="/no/such/library.so")
-    good = status == 0 and not errors and "PROVEDFLOW_LIBRARY" in printed and "/no/such/library.so" in printed
-    checks.true("a missing library", good, printed + errors)
+    errors = python("-c", "import provedflow; provedflow.edge_connectivity([0], [1])", PROVEDFLOW_LIBRARY="/no/such")[2]
+    checks.true("a missing library", re.search("LibraryNotFound: .*/no/such.* PROVEDFLOW_LIBRARY", errors), errors)
 
 
 def main():
@@ -88,15 +97,12 @@ def main():
         sys.exit(__doc__)
     os.environ["PROVEDFLOW_LIBRARY"] = str(pathlib.Path(sys.argv[1]).resolve())
     checks = Checks()
-    binding_arrays.check_all(checks)
-    for name, needed in (("binding_grids", "numpy"), ("binding_scipy", "scipy"), ("binding_networkx", "networkx")):
-        if is_there(needed):
+    for name, needed in (("binding_arrays", "array"), ("binding_grids", "numpy"), ("binding_scipy", "scipy"),
+                         ("binding_networkx", "networkx")):
+        if checks.has(needed, f"{name}.py"):
             importlib.import_module(name).check_all(checks)
-        else:
-            checks.skip(f"{name}.py, since {needed} isn't installed")
-    docstrings(checks)
-    pages(checks)
-    missing_library(checks)
+    for part in (docstrings, pages, types, breaking_off, missing_library):
+        part(checks)
     print(f"bindings: {checks.passed} passed, {checks.failed} failed")
     return 1 if checks.failed else 0
 

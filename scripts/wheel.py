@@ -3,7 +3,8 @@
 
 LIBRARY is the shared library that scripts/library.sh makes. The wheel is for 64-bit Linux with a C library as new as
 the symbols that the library asks for, and for Python 3.9 and newer. The same files give the same bytes. The path of the
-wheel is the one line of standard output.
+wheel is the one line of standard output. Without LIBRARY, DIR gets only what an installed package says of itself, as
+importlib.metadata and NetworkX read it, and the line is the path of that folder.
 """
 
 import base64
@@ -20,15 +21,26 @@ from package_pages import MARKED
 
 ROOT = pathlib.Path(__file__).resolve().parent.parent
 PACKAGE = ROOT / "python" / "provedflow"
-OLDEST = (2, 17)
-"""The oldest C library that a wheel can be for."""
-FIRST_DATE = 315532800
-"""The first second that an archive can tell, that of the year 1980."""
+VERSION = re.search(r'^__version__ = "(.*)"$', (PACKAGE / "__init__.py").read_text(), re.M)[1]
+OLDEST = (2, 17)  # the oldest C library that a wheel can be for
+FIRST_DATE = 315532800  # the first second that an archive can tell, that of the year 1980
+# What the package says of itself, and to NetworkX where its backend is.
+METADATA = f"""Metadata-Version: 2.1
+Name: provedflow
+Version: {VERSION}
+Summary: Proved maximum flows, minimum cuts and edge connectivity
+License: MIT
+Classifier: License :: OSI Approved :: MIT License
+Classifier: Operating System :: POSIX :: Linux
+Classifier: Programming Language :: Python :: 3
+Classifier: Topic :: Scientific/Engineering :: Image Processing
+Classifier: Topic :: Scientific/Engineering :: Mathematics
+Classifier: Typing :: Typed
+Requires-Python: >=3.9
+Description-Content-Type: text/markdown
 
-
-def version():
-    """The version that the package tells."""
-    return re.search(r'^__version__ = "(.*)"$', (PACKAGE / "__init__.py").read_text(), re.M)[1]
+"""
+ENTRIES = "[networkx.backends]\nprovedflow = provedflow.networkx:backend\n"
 
 
 def platform(library):
@@ -38,53 +50,45 @@ def platform(library):
     return "manylinux_{}_{}_x86_64".format(*max([OLDEST, *asked]))
 
 
-def licence():
-    """The licence and its holders."""
-    return (ROOT / "LICENSE").read_text()
-
-
-def metadata(number):
-    """What the wheel says of itself."""
-    return f"""Metadata-Version: 2.1
-Name: provedflow
-Version: {number}
-Summary: Proved maximum flows, minimum cuts and edge connectivity
-License: MIT
-Requires-Python: >=3.9
-Description-Content-Type: text/markdown
-
-{MARKED.sub("", (ROOT / "docs" / "PYTHON.md").read_text())}"""
-
-
 def record(files, name):
     """The list of the files with their sums."""
-    lines = []
-    for path, content in files:
-        digest = base64.urlsafe_b64encode(hashlib.sha256(content).digest()).rstrip(b"=").decode()
-        lines.append(f"{path},sha256={digest},{len(content)}\n")
-    return "".join(lines) + f"{name},,\n"
+    sums = {path: base64.urlsafe_b64encode(hashlib.sha256(content).digest()).rstrip(b"=").decode()
+            for path, content in files.items()}
+    return "".join(f"{path},sha256={sums[path]},{len(files[path])}\n" for path in files) + f"{name},,\n"
 
 
-def main():
-    if len(sys.argv) != 3:
-        sys.exit(__doc__)
-    folder, library = pathlib.Path(sys.argv[1]), pathlib.Path(sys.argv[2])
-    number, tag = version(), f"py3-none-{platform(library)}"
-    about = f"provedflow-{number}.dist-info"
-    files = [(f"provedflow/{file.name}", file.read_bytes()) for file in sorted(PACKAGE.glob("*.py"))]
-    files += [("provedflow/libprovedflow.so.0", library.read_bytes()), (f"{about}/METADATA", metadata(number).encode()),
-              (f"{about}/WHEEL", f"Wheel-Version: 1.0\nGenerator: flow\nRoot-Is-Purelib: false\nTag: {tag}\n".encode()),
-              (f"{about}/LICENSE", licence().encode())]
-    files.append((f"{about}/RECORD", record(files, f"{about}/RECORD").encode()))
-    folder.mkdir(parents=True, exist_ok=True)
-    wheel = folder / f"provedflow-{number}-{tag}.whl"
+def write_wheel(wheel, files):
+    """Writes the archive, each file with the date that the environment says."""
     date = time.gmtime(max(FIRST_DATE, int(os.environ.get("SOURCE_DATE_EPOCH", FIRST_DATE))))[:6]
     with zipfile.ZipFile(wheel, "w", zipfile.ZIP_DEFLATED) as archive:
-        for path, content in files:
+        for path, content in files.items():
             entry = zipfile.ZipInfo(path, date)
             entry.external_attr = 0o644 << 16
             entry.compress_type = zipfile.ZIP_DEFLATED
             archive.writestr(entry, content)
+
+
+def main():
+    if len(sys.argv) not in (2, 3):
+        sys.exit(__doc__)
+    folder, place = pathlib.Path(sys.argv[1]), f"provedflow-{VERSION}.dist-info"
+    page = MARKED.sub("", (ROOT / "docs" / "PYTHON.md").read_text())
+    about = {f"{place}/METADATA": (METADATA + page).encode(), f"{place}/entry_points.txt": ENTRIES.encode()}
+    if len(sys.argv) == 2:
+        (folder / place).mkdir(parents=True, exist_ok=True)
+        for path, content in about.items():
+            (folder / path).write_bytes(content)
+        print(folder / place)
+        return
+    library, tag = pathlib.Path(sys.argv[2]), f"py3-none-{platform(sys.argv[2])}"
+    sources = sorted([*PACKAGE.glob("*.py"), PACKAGE / "py.typed"])
+    files = {**{f"provedflow/{file.name}": file.read_bytes() for file in sources}, **about,
+             "provedflow/libprovedflow.so.0": library.read_bytes(), f"{place}/LICENSE": (ROOT / "LICENSE").read_bytes(),
+             f"{place}/WHEEL": f"Wheel-Version: 1.0\nGenerator: flow\nRoot-Is-Purelib: false\nTag: {tag}\n".encode()}
+    files[f"{place}/RECORD"] = record(files, f"{place}/RECORD").encode()
+    folder.mkdir(parents=True, exist_ok=True)
+    wheel = folder / f"provedflow-{VERSION}-{tag}.whl"
+    write_wheel(wheel, files)
     print(wheel)
 
 

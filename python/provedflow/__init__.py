@@ -13,7 +13,8 @@ An array is a NumPy array of integers, another object with a buffer of machine i
 sequence of ints. Answers are NumPy arrays where one of the arrays is, and else lists. A contiguous array of 32 bits for
 ends and of 64 bits for capacities and flows is read where it lies, with no copy; other kinds of integers are converted,
 and nothing is ever rounded or wrapped around. While a call runs, no other thread may write its arrays; calls on
-different arrays may run at once, and other Python threads go on meanwhile.
+different arrays may run at once, and other Python threads go on meanwhile. Ctrl-C raises KeyboardInterrupt at once; a
+call of 20,000 arcs or more then goes on to its end in a thread of its own, and you leave its arrays alone meanwhile.
 
 `provedflow.scipy`, `provedflow.networkx` and `provedflow.pixels` take sparse matrices, graphs and pictures. The work is
 done by the C library libprovedflow.so.0, which is looked for where the environment variable PROVEDFLOW_LIBRARY says,

@@ -22,15 +22,23 @@ def numpy_of(things):
     return numpy if numpy and any(isinstance(thing, numpy.ndarray) for thing in things) else None
 
 
-class Lent:
-    """A list that the library reads or writes: its address, its length, and what keeps the memory in being."""
+def plain(number):
+    """A number of NumPy as one of Python, and anything else as it is."""
+    numpy = sys.modules.get("numpy")
+    return number.item() if numpy and isinstance(number, numpy.generic) else number
 
-    __slots__ = ("address", "length", "keeper")
+
+class Lent:
+    """A list that the library reads or writes: its address, its length, and what keeps the memory in being. A view
+    keeps it where it is: an array of Python that is lent can't grow."""
+
+    __slots__ = ("address", "length", "keeper", "view")
 
     def __init__(self, keeper):
         self.keeper = keeper
         if isinstance(keeper, array.array):
             self.address, self.length = keeper.buffer_info()
+            self.view = memoryview(keeper)
         else:
             self.address, self.length = keeper.ctypes.data, keeper.size
         # An empty list has no memory, and the library wants an address that is aligned and not 0.
@@ -46,12 +54,12 @@ def read(thing, kind, name):
     numpy = sys.modules.get("numpy")
     if numpy and isinstance(thing, numpy.ndarray):
         return Lent(read_numpy(numpy, thing, kind, name))
-    if isinstance(thing, (str, bytes)):
-        raise TypeError(f"{name} has to be an array or a sequence of whole numbers, and is a text")
+    if isinstance(thing, (str, bytes, bytearray)):
+        raise TypeError(f"{name} has to be an array or a sequence of whole numbers, and is {type(thing).__name__}")
     if isinstance(thing, array.array) and thing.typecode == kind:
         return Lent(thing)
     if isinstance(thing, (memoryview, array.array)):
-        thing = list(thing)
+        thing = thing.tolist()
     try:
         return Lent(array.array(kind, thing))
     except (TypeError, OverflowError, ValueError):
@@ -82,6 +90,7 @@ def out_of_range(place, number, kind):
 
 def read_numpy(numpy, thing, kind, name):
     """The same of a NumPy array: itself where its elements lie as the library reads them, else a converted copy."""
+    refuse_masked(numpy, thing, name)
     if thing.ndim != 1:
         raise FlowError(f"{name} has to have one axis, and has the shape {thing.shape}")
     if thing.dtype.kind == "O":
@@ -98,6 +107,12 @@ def read_numpy(numpy, thing, kind, name):
     if fits and thing.flags.c_contiguous and thing.flags.aligned:
         return thing
     return numpy.ascontiguousarray(thing, TYPES[kind])
+
+
+def refuse_masked(numpy, thing, name):
+    """Sees that no element of an array is masked: what lies below a mask is no number of the caller's."""
+    if type(thing) is not numpy.ndarray and numpy.ma.is_masked(thing):
+        raise TypeError(f"{name} has masked elements, which are no numbers")
 
 
 def room(numpy, kind, length):

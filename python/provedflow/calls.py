@@ -1,36 +1,64 @@
 """The four calls, over arrays."""
 
+from __future__ import annotations
+
 import ctypes
 import operator
-from collections import namedtuple
+import threading
+from typing import TYPE_CHECKING, Any, NamedTuple, Optional, Union
 
 from provedflow.arrays import AMOUNT, NODE, Lent, answer, numpy_of, read, room, terminals
 from provedflow.library import (
     ARC, MEMORY, MOST_ARCS, MOST_LINKS, MOST_NODES, OK, TERMINALS, FlowError, library)
 
-Flow = namedtuple("Flow", "value flows")
-Flow.__doc__ = """A flow of the greatest value."""
-Flow.value.__doc__ = """The value, an int."""
-Flow.flows.__doc__ = """What each arc carries, in the order of the arcs: 64 bits each, or a list of ints."""
+if TYPE_CHECKING:
+    from array import array
+    from collections.abc import Sequence
 
-Cut = namedtuple("Cut", "value side flows")
-Cut.__doc__ = """A minimum cut, with a flow of the same value."""
-Cut.value.__doc__ = """The capacity of the arcs that lead from the source side to the other, an int."""
-Cut.side.__doc__ = """For each node whether it lies on the source side: an array of bool, or a list of bools."""
-Cut.flows.__doc__ = """What each arc carries in a flow of the greatest value."""
+    import numpy
 
-Verdict = namedtuple("Verdict", "word value place")
-Verdict.__doc__ = """What is to be said of a flow."""
-Verdict.word.__doc__ = """'greatest', 'feasible', 'over' or 'unbalanced'."""
-Verdict.value.__doc__ = """The value of a feasible flow, an int, negative where more comes into the sources than leaves
-them; else None."""
-Verdict.place.__doc__ = """The first arc that carries too much, or the first node that is unbalanced; else None."""
+    Numbers = Union[Sequence[int], array[int], memoryview, numpy.ndarray[Any, Any]]
+    Nodes = Union[int, Numbers]
+
+
+class Flow(NamedTuple):
+    """A flow of the greatest value: the value, and what each arc carries, in the order of the arcs: an array of 64 bits
+    each, or a list of ints."""
+
+    value: int
+    flows: Any
+
+
+class Cut(NamedTuple):
+    """A minimum cut, with a flow of the same value: the capacity of the arcs that lead from the source side to the
+    other; for each node whether it lies on the source side, an array of bool or a list of bools; what each arc carries.
+    """
+
+    value: int
+    side: Any
+    flows: Any
+
+
+class Verdict(NamedTuple):
+    """What is to be said of a flow: 'greatest', 'feasible', 'over' or 'unbalanced'; the value of a feasible flow,
+    negative where more comes into the sources than leaves them; the first arc that carries too much, or the first node
+    that is unbalanced."""
+
+    word: str
+    value: Optional[int]
+    place: Optional[int]
+
 
 WORDS = ("greatest", "feasible", "over", "unbalanced")
 """The verdicts by their numbers."""
+NEAREST = {"source": 0, "sources": 0, "sink": 1, "sinks": 1}
+"""The terminals that a cut may be nearest, each with the library's flag for it."""
+LONG = 20_000
+"""How many arcs a call has at least that is made in a thread of its own, which takes a tenth of a millisecond."""
 
 
-def maximum_flow(src, dst, capacities, sources, sinks, nodes=None):
+def maximum_flow(src: Numbers, dst: Numbers, capacities: Numbers, sources: Nodes, sinks: Nodes,
+                 nodes: Optional[int] = None) -> Flow:
     """Finds the greatest value of a flow from the sources to the sinks, and such a flow.
 
     - src, dst: the two ends of each arc, nodes from 0; arrays of one length, the number of arcs.
@@ -52,11 +80,12 @@ def maximum_flow(src, dst, capacities, sources, sinks, nodes=None):
     return Flow(words.value(), answer(flows))
 
 
-def minimum_cut(src, dst, capacities, sources, sinks, nodes=None, *, nearest="sources"):
+def minimum_cut(src: Numbers, dst: Numbers, capacities: Numbers, sources: Nodes, sinks: Nodes,
+                nodes: Optional[int] = None, *, nearest: str = "sources") -> Cut:
     """Finds a minimum cut between the sources and the sinks: the parameters are those of `maximum_flow`.
 
     Where there are several, it is the one nearest the sources, whose source side lies within that of each other; with
-    nearest="sinks" the one nearest the sinks.
+    nearest="sinks" the one nearest the sinks ("source" and "sink" say the same).
 
     Answers Cut(value, side, flows). Raises what `maximum_flow` raises.
 
@@ -65,17 +94,18 @@ def minimum_cut(src, dst, capacities, sources, sinks, nodes=None, *, nearest="so
     >>> minimum_cut([0, 1, 2], [1, 2, 3], [4, 1, 1], 0, 3, nearest="sinks").side
     [True, True, True, False]
     """
-    if nearest not in ("sources", "sinks"):
+    if nearest not in NEAREST:
         raise ValueError(f"nearest has to be 'sources' or 'sinks', and is {nearest!r}")
     given = Network(src, dst, sources, sinks, nodes, capacities)
     flows, words = room(given.numpy, AMOUNT, given.arcs), Words()
     side = room(given.numpy, "B", given.nodes)
-    given.ask("provedflow_cut_lists", *given.lists(), int(nearest == "sinks"), flows, side, *words.addresses())
+    given.ask("provedflow_cut_lists", *given.lists(), NEAREST[nearest], flows, side, *words.addresses())
     marks = answer(side)
     return Cut(words.value(), marks.view("bool") if given.numpy else list(map(bool, marks)), answer(flows))
 
 
-def edge_connectivity(src, dst, nodes=None, *, sources=None, sinks=None, directed=True):
+def edge_connectivity(src: Numbers, dst: Numbers, nodes: Optional[int] = None, *, sources: Optional[Nodes] = None,
+                      sinks: Optional[Nodes] = None, directed: bool = True) -> int:
     """Finds how many arcs have to go before some node is cut off from another.
 
     It is the least number of arcs that leave a set of nodes that is neither empty nor all. With sources and sinks it is
@@ -100,11 +130,12 @@ def edge_connectivity(src, dst, nodes=None, *, sources=None, sinks=None, directe
         raise ValueError("sources and sinks have to be named both, or neither")
     given = Network(src, dst, sources if pair else (), sinks if pair else (), nodes)
     links = ctypes.c_uint64()
-    given.ask("provedflow_links_lists", *given.lists(), int(not directed), int(pair), ctypes.addressof(links))
+    given.ask("provedflow_links_lists", *given.lists(), int(not directed), int(pair), ctypes.byref(links))
     return links.value
 
 
-def check(src, dst, capacities, sources, sinks, flows, nodes=None):
+def check(src: Numbers, dst: Numbers, capacities: Numbers, sources: Nodes, sinks: Nodes, flows: Numbers,
+          nodes: Optional[int] = None) -> Verdict:
     """Says of a flow, wherever it comes from, whether it is one of the greatest value.
 
     - flows: what each arc carries, whole numbers from 0 to 2^64 - 1; an array as long as src.
@@ -122,7 +153,7 @@ def check(src, dst, capacities, sources, sinks, flows, nodes=None):
     """
     given = Network(src, dst, sources, sinks, nodes, capacities, read(flows, AMOUNT, "flows"))
     verdict, words = ctypes.c_uint32(), Words()
-    given.ask("provedflow_check_lists", *given.lists(), ctypes.addressof(verdict), *words.addresses())
+    given.ask("provedflow_check_lists", *given.lists(), ctypes.byref(verdict), *words.addresses())
     word = WORDS[verdict.value]
     if word in ("greatest", "feasible"):
         return Verdict(word, words.signed_value(), None)
@@ -137,8 +168,7 @@ class Words:
 
     def addresses(self):
         """Where the upper and the lower word lie."""
-        first = ctypes.addressof(self.words)
-        return first, first + 8
+        return ctypes.byref(self.words), ctypes.byref(self.words, 8)
 
     def value(self):
         """The value, an int."""
@@ -193,7 +223,8 @@ class Network:
         flat = []
         for word in words:
             flat += [word.address, word.length] if isinstance(word, Lent) else [word]
-        status = getattr(library(), name)(*flat)
+        export = getattr(library(), name)
+        status = interruptible(export, flat, (self, words)) if self.arcs >= LONG else export(*flat)
         if status == MEMORY:
             raise MemoryError("there isn't enough memory for this network")
         if status == ARC:
@@ -224,6 +255,21 @@ class Network:
                     return f"{name}[{place}] is {node}, and so is {seen[node]}; no node may stand there twice"
                 seen[node] = f"{name}[{place}]"
         return "a source or a sink can't be taken"
+
+
+def interruptible(export, words, kept):
+    """Makes a call of the library so that Ctrl-C is heard while it runs: in another thread, which then goes on to the
+    end of the call. That thread keeps the lists in being. Only the main thread hears Ctrl-C, so others just call."""
+    if threading.current_thread() is not threading.main_thread():
+        return export(*words)
+    status = []
+    thread = threading.Thread(target=lambda _: status.append(export(*words)), args=(kept,), daemon=True)
+    try:
+        thread.start()
+    except RuntimeError:  # no more threads, or none that end with the interpreter
+        return export(*words)
+    thread.join()
+    return status[0]
 
 
 def max_of(lent):

@@ -18,25 +18,39 @@ neighbours: of 8,000,000 arcs and 1,000,000 nodes there is room for 1,000 x 999 
 8, 99 x 99 x 99 voxels with 6, and 67 x 67 x 67 with 26.
 """
 
+from __future__ import annotations
+
 import operator
-from collections import namedtuple
 from itertools import product
 from math import prod
+from typing import TYPE_CHECKING, Any, Callable, NamedTuple, Optional, Union
 
 import numpy as np
 
+from provedflow.arrays import refuse_masked
 from provedflow.calls import minimum_cut
 from provedflow.library import GREATEST_CAPACITY, MOST_ARCS, MOST_NODES
 
-Cut = namedtuple("Cut", "value mask")
-Cut.value.__doc__ = """What the cut costs, an int."""
-Cut.mask.__doc__ = """An array of bool in the grid's shape: true for a pixel on the sink's side."""
+if TYPE_CHECKING:
+    from collections.abc import Sequence
+
+    from numpy.typing import ArrayLike, NDArray
+
+    Way = Union[ArrayLike, Callable[[Any, Any, Any], ArrayLike]]
+
+
+class Cut(NamedTuple):
+    """What a cut costs, and a mask in the grid's shape: true for a pixel on the sink's side."""
+
+    value: int
+    mask: NDArray[np.bool_]
+
 
 NEIGHBOURS = {(1, 2): 1, (2, 4): 1, (2, 8): 2, (3, 6): 1, (3, 18): 2, (3, 26): 3}
 """How many axes a step to a neighbour may go along, by the number of axes and the number of neighbours."""
 
 
-def steps(axes, neighbours):
+def steps(axes: int, neighbours: int) -> list[tuple[int, ...]]:
     """One step for each pair of neighbours, as a tuple of -1, 0 and 1 for the axes, in the order of the axes.
 
     - axes: how many axes a grid has.
@@ -49,18 +63,18 @@ def steps(axes, neighbours):
         known = ", ".join(str(number) for count, number in NEIGHBOURS if count == axes) or "none"
         raise ValueError(f"a grid of {axes} axes with {neighbours} neighbours isn't known here ({known})")
     all_steps = [step for step in product((-1, 0, 1), repeat=axes) if step > (0,) * axes]
-    return [step for step in all_steps if sum(map(abs, step)) <= NEIGHBOURS[axes, neighbours]]
+    return [step for step in all_steps if sum(abs(part) for part in step) <= NEIGHBOURS[axes, neighbours]]
 
 
-def pairs(pixels, step):
+def pairs(pixels: NDArray[Any], step: tuple[int, ...]) -> tuple[NDArray[Any], NDArray[Any]]:
     """Two views of an array: the pixels that have a neighbour at a step, and these neighbours, in the same order.
 
     >>> here, there = pairs(np.arange(6).reshape(2, 3), (0, 1))
     >>> here.tolist(), there.tolist()
     ([[0, 1], [3, 4]], [[1, 2], [4, 5]])
     """
-    here = tuple(slice(max(0, -part), min(size, size - part)) for size, part in zip(pixels.shape, step))
-    there = tuple(slice(max(0, part), min(size, size + part)) for size, part in zip(pixels.shape, step))
+    here, there = (tuple(slice(max(0, -way * part), max(0, size - max(0, way * part)))
+                         for size, part in zip(pixels.shape, step)) for way in (1, -1))
     return pixels[here], pixels[there]
 
 
@@ -82,63 +96,84 @@ class Grid:
     (2, [False, False, True, True])
     """
 
-    def __init__(self, shape, neighbours=None):
+    def __init__(self, shape: Sequence[int], neighbours: Optional[int] = None) -> None:
         self.shape = tuple(map(operator.index, shape))
         self.steps = [] if neighbours is None else steps(len(self.shape), neighbours)
         check_room(self.shape, self.steps, neighbours)
         self.neighbours = neighbours
-        self.joined = []
+        self.joined: list[tuple[tuple[int, ...], Any, Any]] = []
         self.terminals = [np.zeros(self.shape, np.uint64), np.zeros(self.shape, np.uint64)]
 
-    def join(self, weights, of=None):
+    def __repr__(self) -> str:
+        return f"Grid({self.shape}, neighbours={self.neighbours})"
+
+    def join(self, weights: Union[Way, tuple[Way, Way]], of: Optional[ArrayLike] = None) -> None:
         """Joins each pixel with its neighbours.
 
         - weights: one number for all edges; or a function that is called with the arrays `here` and `there` and a step,
           and answers the weights of these edges, an array of the same shape or a number; or a pair of numbers or such
           functions, for the ways there and back.
-        - of: the picture that `here` and `there` are parts of, an array whose first axes are those of the grid.
+        - of: the picture that `here` and `there` are parts of, an array whose first axes are those of the grid. Whole
+          numbers are handed on in 64 bits (int64), so that no difference of those of a photograph wraps.
         """
+        if not self.steps:
+            raise ValueError("this grid was made without a number of neighbours: name it, or join step by step")
+        picture = as_picture(of)
         there_and_back = weights if isinstance(weights, tuple) else (weights,)
         for step in self.steps:
-            ways = [way(*pairs(np.asarray(of), step), step) if callable(way) else way for way in there_and_back]
+            ways = [way(*pairs(picture, step), step) if callable(way) else way for way in there_and_back]
             self.join_step(step, *ways)
 
-    def join_step(self, step, weights, back=None):
+    def join_step(self, step: Union[int, tuple[int, ...]], weights: ArrayLike,
+                  back: Optional[ArrayLike] = None) -> None:
         """Joins each pixel with the one at a step, by edges of a weight there, and back of another or else the same.
 
         - step: how far along each axis, as (0, 1) for the next pixel of a row; or the number of an axis, for the next
-          pixel along it. Steps of any length are taken.
+          pixel along it. Steps of any length are taken; one that leads out of the grid from everywhere joins nothing.
         - weights, back: a number, or an array in the shape of `pairs(pixels, step)`, of whole numbers from 0.
         """
-        if not isinstance(step, tuple):
-            step = tuple(int(axis == operator.index(step) % len(self.shape)) for axis in range(len(self.shape)))
-        shape = tuple(size - abs(part) for size, part in zip(self.shape, step))
-        check_room(self.shape, [done for done, _, _ in self.joined] + [step], None)
+        parts = self.step_of(step)
+        shape = tuple(max(0, size - abs(part)) for size, part in zip(self.shape, parts))
+        check_room(self.shape, [done for done, _, _ in self.joined] + [parts], None)
         there = as_weights(weights, shape, f"the weights of the step {step}")
         back = there if back is None else as_weights(back, shape, f"the weights of the step {step} back")
-        self.joined.append((step, there, back))
+        self.joined.append((parts, there, back))
 
-    def add_terminals(self, sources, sinks):
-        """Joins each pixel with the source and with the sink; weights that were there before are replaced.
+    def step_of(self, step):
+        """A step as a number for each axis."""
+        axes = len(self.shape)
+        if isinstance(step, tuple):
+            parts = tuple(map(operator.index, step))
+            if len(parts) == axes and any(parts):
+                return parts
+        elif -axes <= operator.index(step) < axes:
+            return tuple(int(axis == step % axes) for axis in range(axes))
+        raise ValueError(f"a step leads from a pixel to another of a grid of {axes} axes, and this step is {step!r}")
+
+    def add_terminals(self, sources: ArrayLike, sinks: ArrayLike) -> None:
+        """Joins each pixel with the source and with the sink; weights that were there before are added.
 
         - sources, sinks: a number, or an array in the grid's shape, of whole numbers from 0. The source's is what it
           costs to be on the sink's side, and the other way round.
         """
-        self.terminals = [as_weights(sources, self.shape, "sources"), as_weights(sinks, self.shape, "sinks")]
+        more = as_weights(sources, self.shape, "sources"), as_weights(sinks, self.shape, "sinks")
+        sums = [before + weights for before, weights in zip(self.terminals, more)]
+        if any((both < weights).any() for both, weights in zip(sums, more)):
+            raise ValueError(f"a pixel's weights to a terminal come to more than {GREATEST_CAPACITY}")
+        self.terminals = sums
 
-    def cut(self, nearest="source"):
+    def cut(self, nearest: str = "source") -> Cut:
         """Finds a minimum cut.
 
         - nearest: where several cuts cost the least, "source" tells the one with the fewest pixels on the source's
-          side, and "sink" the one with the fewest on the sink's.
+          side, and "sink" the one with the fewest on the sink's; "sources" and "sinks" say the same.
 
         Answers Cut(value, mask). Raises MemoryError, and provedflow.LibraryNotFound where the C library isn't there.
         """
-        if nearest not in ("source", "sink"):
-            raise ValueError(f"nearest has to be 'source' or 'sink', and is {nearest!r}")
         pixels = prod(self.shape)
         lesser = np.minimum(*self.terminals)
-        found = minimum_cut(*self.arcs(lesser), pixels, pixels + 1, pixels + 2, nearest=f"{nearest}s")
+        srcs, dsts, weights = self.arcs(lesser)
+        found = minimum_cut(srcs, dsts, weights, pixels, pixels + 1, pixels + 2, nearest=nearest)
         return Cut(found.value + exact_sum(lesser), ~found.side[:pixels].reshape(self.shape))
 
     def arcs(self, lesser):
@@ -156,6 +191,17 @@ class Grid:
         return [np.concatenate(lists) for lists in zip(*parts)]
 
 
+def as_picture(picture):
+    """A picture as an array, whole numbers of it in 64 bits."""
+    refuse_masked(np, picture, "the picture")
+    picture = np.asarray(picture)
+    if picture.dtype.kind not in "iu":
+        return picture
+    if picture.size and int(picture.max()) >= 2 ** 63:
+        raise ValueError(f"a picture has whole numbers of up to 63 bits, and this one goes up to {picture.max()}")
+    return picture.astype(np.int64, copy=False)
+
+
 def kept(srcs, dsts, weights):
     """The arcs between the nodes of two arrays that have a weight."""
     if weights.all():
@@ -166,6 +212,7 @@ def kept(srcs, dsts, weights):
 
 def as_weights(weights, shape, name):
     """Weights as an array of this shape of 64 bits each."""
+    refuse_masked(np, weights, name)
     weights = np.asarray(weights)
     if weights.dtype.kind not in "iu" and not (weights.dtype.kind == "O" and weights.size):
         raise ValueError(f"{name} have to be whole numbers, and are of the kind {weights.dtype}")

@@ -1,0 +1,123 @@
+"""Capacities of any kind of numbers, brought to whole numbers of 64 bits, and flows of these brought back."""
+
+import math
+from array import array
+from fractions import Fraction
+from itertools import islice
+from numbers import Integral, Rational, Real
+
+import networkx as nx
+
+from provedflow.arrays import plain
+from provedflow.library import GREATEST_CAPACITY, MOST_ARCS
+
+INFINITE = float("inf")
+
+
+class TooMuch(nx.NetworkXError, NotImplementedError):
+    """A graph beyond the limits. It is a NotImplementedError too, for which NetworkX asks its next backend."""
+
+
+def edges_of(G, capacity):
+    """The edges that can carry something, each with its capacity. Sees that each capacity is a number."""
+    edges = list(G.edges(data=capacity, default=INFINITE))
+    if any(type(amount) is not int for _, _, amount in edges):
+        edges = [(u, v, number_of(amount)) for u, v, amount in edges]
+        for u, v, amount in edges:
+            if not is_number(amount):
+                raise nx.NetworkXError(f"the capacity of the edge ({u!r}, {v!r}) has to be a number, and is {amount!r}")
+    return [edge for edge in edges if edge[2] > 0 and edge[0] != edge[1]]
+
+
+def number_of(amount):
+    """A capacity as a number of Python, which no sum of it can pass: NumPy's are converted, and whole ones are ints."""
+    amount = plain(amount)
+    return int(amount) if isinstance(amount, Integral) else amount
+
+
+def is_number(amount):
+    """Whether this is a number that can be compared, infinite or not; nan isn't, and neither is a text."""
+    if isinstance(amount, (str, bytes)) or amount is None:
+        return False
+    try:
+        return bool(amount > 0 or amount <= 0) and (amount in (INFINITE, -INFINITE) or bool(amount.as_integer_ratio()))
+    except Exception:  # Whatever a foreign kind does where it is no number.
+        return isinstance(amount, Rational)
+
+
+def as_fraction(amount):
+    """A capacity as a Fraction, exactly."""
+    if isinstance(amount, Rational):
+        return Fraction(int(amount.numerator), int(amount.denominator))
+    try:
+        return Fraction(*amount.as_integer_ratio())
+    except (AttributeError, OverflowError, ValueError):
+        raise nx.NetworkXError(f"the capacity {amount!r} isn't a finite number") from None
+
+
+def kind_of(amounts):
+    """The kind of the answers: int where all capacities are whole, float where one is a float, else Fraction."""
+    kinds = set(map(type, amounts))
+    if all(issubclass(kind, Integral) for kind in kinds):
+        return int
+    if any(issubclass(kind, Real) and not issubclass(kind, Rational) for kind in kinds):
+        return float
+    return Fraction
+
+
+def whole_amounts(capacities, kind):
+    """The capacities as whole numbers of a unit, and how many of these make 1."""
+    if kind is int:
+        return capacities, 1
+    amounts = list(map(as_fraction, capacities))
+    scale = math.lcm(*(amount.denominator for amount in amounts))
+    return [int(amount * scale) for amount in amounts], scale
+
+
+def in_kind(amount, kind):
+    """An exact amount as an answer; a float is the nearest one."""
+    return amount if kind is Fraction else kind(amount)
+
+
+def edge_flow(units, full, capacity, scale, kind):
+    """The flow of an edge of so many units of 1/scale: equal to the capacity only where the edge is really full."""
+    amount = in_kind(Fraction(units, scale), kind)
+    return math.nextafter(amount, 0) if kind is float and units != full and amount >= capacity else amount
+
+
+def limit_of(cutoff, scale):
+    """A cutoff in whole numbers of a unit; None where there is none."""
+    return None if cutoff is None or cutoff == INFINITE else math.ceil(max(as_fraction(cutoff), 0) * scale)
+
+
+def split(srcs, dsts, amounts, scale):
+    """The arcs as arrays, one of more than the greatest capacity as several beside each other, and how many each is;
+    None where each is one. The amounts are whole numbers of 1/scale."""
+    if max(amounts, default=0) <= GREATEST_CAPACITY:
+        return (array("I", srcs), array("I", dsts), array("Q", amounts)), None
+    parts = [max(1, -(-amount // GREATEST_CAPACITY)) for amount in amounts]
+    if sum(parts) > MOST_ARCS:
+        raise TooMuch("the capacities are too great or too different to be counted exactly; they fit where each is "
+                      f"rounded to {rounding(Fraction(max(amounts), scale))}")
+    pieces = [piece for amount, count in zip(amounts, parts)
+              for piece in [GREATEST_CAPACITY] * (count - 1) + [amount - (count - 1) * GREATEST_CAPACITY]]
+    srcs, dsts = ([end for end, count in zip(ends, parts) for _ in range(count)] for ends in (srcs, dsts))
+    return (array("I", srcs), array("I", dsts), array("Q", pieces)), parts
+
+
+def rounding(most):
+    """To how many digits after the point capacities can be rounded, so that whole numbers of that unit have 63 bits
+    where none is more than this, and how. That leaves a bit for the rounding, and for all of them together where an
+    infinite one stands for more than all."""
+    room = 2 ** 63 / most
+    if room >= 1:
+        digits = len(str(int(room))) - 1
+        return f"{digits} digits after the point, as round(capacity * 10 ** {digits})"
+    digits = len(str(int(1 / room)))
+    return f"{digits} digits before the point, as round(capacity / 10 ** {digits})"
+
+
+def joined(flows, parts):
+    """The flows of arcs that `split` has split."""
+    rest = iter(flows)
+    return flows if parts is None else [sum(islice(rest, count)) for count in parts]

@@ -1,69 +1,75 @@
-"""Links between nodes that have names, out of tables and GraphML files, made into problems."""
+"""Links between nodes that have names, out of tables, made into problems."""
 
-import graphml
+import argparse
+
 import tables
 from dimacs import Problem
 from script import Refused
 
 
+def given(description):
+    """The words of a command line that names a table of links, its sources and its sinks."""
+    words = argparse.ArgumentParser(description=description)
+    words.add_argument("--both-ways", action="store_true", help="links can be used in both directions")
+    words.add_argument("--unit", action="store_true", help="each link has the capacity 1")
+    words.add_argument("--scale", metavar="NUMBER", type=int, default=1, help="count capacities in parts of 1/NUMBER")
+    words.add_argument("--sites", help="a CSV file with the columns site and capacity")
+    for column in ("from", "to", "capacity"):
+        words.add_argument(f"--{column}", metavar="COLUMN", help=f"what the column {column} is called")
+    words.add_argument("table", help="a CSV file with the columns from, to and capacity")
+    words.add_argument("sources", help="the names of the sources, parted by commas")
+    words.add_argument("sinks", help="the names of the sinks, parted by commas")
+    return words.parse_args()
+
+
 class Links:
     """The links of a table, and the problem that they make; `arcs[row]` has the places of a row's arcs in it, and
-    `names` the nodes in their order."""
+    `limits` the capacities of the sites that have one."""
 
-    def __init__(self, path, both_ways=False, unit=False, sites=None):
-        self.path = path
-        self.rows = read(path, *(["capacity"] if not unit else []))
+    def __init__(self, words):
+        self.words = words
+        self.rows = tables.read_table(words.table, "from", "to", *["capacity"] * (not words.unit), names=vars(words))
         self.names = list(dict.fromkeys(row.name(end) for row in self.rows for end in ("from", "to")))
-        self.limits = read_sites(sites, self.names, path) if sites else {}
+        self.limits = self._read_sites() if words.sites else {}
         self.problem = Problem()
         for name in self.names:
             self.problem.node(name)
         self.arcs = []
-        for row, capacity in zip(self.rows, self._capacities(unit)):
+        for row, capacity in zip(self.rows, self._capacities()):
             self.arcs.append([len(self.problem.arcs)])
             self.problem.arc(self.out_of(row["from"]), row["to"], capacity)
-            if both_ways or row.both_ways:
+            if words.both_ways:
                 self.arcs[-1].append(len(self.problem.arcs))
                 self.problem.arc(self.out_of(row["to"]), row["from"], capacity)
         for site, capacity in self.limits.items():
             self.problem.arc(site, self.out_of(site), capacity)
+        sources, sinks = tables.terminals(words.sources, words.sinks, self.names, words.table)
+        for name in sources:
+            self.problem.source(name)
+        for name in sinks:
+            self.problem.sink(self.out_of(name))
 
     def out_of(self, name):
         """The node at which the arcs out of a site begin: one of its own where the site has a capacity."""
         return f"{name} (out)" if name in self.limits else name
 
-    def add_terminals(self, sources, sinks):
-        """Makes nodes the sources and the sinks, from two lists of names in a text."""
-        for name in tables.listed(sources, self.names, self.path):
-            self.problem.source(name)
-        for name in tables.listed(sinks, self.names, self.path):
-            self.problem.sink(self.out_of(name))
-
-    def _capacities(self, unit):
+    def _capacities(self):
         """The capacity of each row, where `inf` is one more than all others together."""
-        if unit:
+        if self.words.unit:
             return [1 for _ in self.rows]
-        finite = [None if row["capacity"] == "inf" else row.whole("capacity") for row in self.rows]
+        finite = [None if row["capacity"] == "inf" else row.whole("capacity", scale=self.words.scale)
+                  for row in self.rows]
         infinite = 1 + sum(filter(None, finite)) + sum(self.limits.values())
         if None in finite and infinite > tables.GREATEST:
-            raise Refused(f"{self.path}: the capacities make {infinite - 1} together, which leaves none for inf, since "
-                          f"the greatest is {tables.GREATEST}")
+            raise Refused(f"{self.words.table}: the capacities make {infinite - 1} together, which leaves none for "
+                          f"inf, since the greatest is {tables.GREATEST}")
         return [infinite if capacity is None else capacity for capacity in finite]
 
-
-def read(path, *columns):
-    """The rows of a table of links, or the edges of a GraphML file; `both_ways` tells that an edge has no direction."""
-    if path.lower().endswith(".graphml"):
-        return graphml.read(path, *columns)
-    return tables.read_table(path, "from", "to", *columns)
-
-
-def read_sites(path, names, links):
-    """The capacity of each site that has one."""
-    rows = tables.once(tables.read_table(path, "site", "capacity"), "site")
-    for row in rows.values():
-        row.known("site", names, links)
-    for name in rows:
-        if f"{name} (out)" in names:
-            rows[name].refuse("site", f"'{name} (out)' is the name of another site")
-    return {name: row.whole("capacity") for name, row in rows.items()}
+    def _read_sites(self):
+        """The capacity of each site that has one."""
+        rows = tables.once(tables.read_table(self.words.sites, "site", "capacity"), "site")
+        for name, row in rows.items():
+            row.known("site", self.names, self.words.table)
+            if f"{name} (out)" in self.names:
+                row.refuse("site", f"'{name} (out)' is the name of another site")
+        return {name: row.whole("capacity", scale=self.words.scale) for name, row in rows.items()}

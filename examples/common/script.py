@@ -22,20 +22,41 @@ def run(main):
         os.dup2(os.open(os.devnull, os.O_WRONLY), sys.stdout.fileno())
         status = 1
     except (Refused, OSError) as failure:
-        sys.exit(f"{os.path.basename(sys.argv[0])}: {failure}")
+        sys.exit(f"{os.path.basename(sys.argv[0])}: {in_words(failure)}")
     sys.exit(status)
 
 
-class Progress:
-    """A line on standard error that says how far a script is, where that is a terminal and it is to be shown."""
+def in_words(failure):
+    """What went wrong, as a sentence."""
+    if isinstance(failure, FileNotFoundError) and failure.filename:
+        return f"there is no file {failure.filename}"
+    if isinstance(failure, OSError) and failure.filename:
+        return f"{failure.filename} can't be opened: {failure.strerror.lower()}"
+    return failure
 
-    def __init__(self, shown=True):
-        self.shown = shown and sys.stderr.isatty()
-        self.width = 0
 
-    def say(self, words):
-        """Puts these words in the place of those before; no words clear the line."""
-        if self.shown:
-            sys.stderr.write("\r" + words.ljust(self.width) + ("" if words else "\r"))
-            sys.stderr.flush()
-            self.width = len(words)
+def note(words):
+    """Tells on standard error what the user should know."""
+    print(f"{os.path.basename(sys.argv[0])}: {words}", file=sys.stderr, flush=True)
+
+
+def count(number, thing, things=None):
+    """So many of a thing, in words: '1 link', '2 links', '3 people'."""
+    return f"{number:,} {thing if number == 1 else things or thing + 's'}"
+
+
+def some(names, most=12):
+    """The names, or the first of many."""
+    names = list(names)
+    more = len(names) - most
+    return ", ".join(map(str, names[:most])) + (f" and {more:,} more" if more > 0 else "")
+
+
+def output(words, example, name):
+    """The path of a result: in the folder of --out, else in out/EXAMPLE here, or in the user's own folder where nothing
+    can be written here."""
+    folder = words.out or os.path.join("out", example)
+    if not words.out and not os.access(".", os.W_OK):
+        folder = os.path.join(os.path.expanduser("~"), "flow", folder)
+    os.makedirs(folder, exist_ok=True)
+    return os.path.join(folder, name)

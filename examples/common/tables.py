@@ -4,33 +4,34 @@
         print(row.name("from"), row.name("to"), row.whole("capacity"))
 
 Rows are counted as a spreadsheet counts them: the column names are row 1. What is wrong is a `Refused` with its row
-and column.
+and column. Texts are brought into one form of Unicode (NFC), so that names that look alike are the same.
 """
 
 import codecs
 import csv
 import io
-import math
+import re
+import unicodedata
+from fractions import Fraction
 
-from script import Refused
+from script import Refused, note
 
 GREATEST = 2 ** 64 - 1
 """The greatest capacity that `flow` takes."""
+OTHER_NAMES = {"from": ("source", "src", "one"), "to": ("target", "dst", "other"), "capacity": ("weight", "cap"),
+               "place": ("site", "node")}
+"""What a column may be called too. Small letters and capitals are the same."""
+NUMBER = re.compile(r"\d+([.,]\d+)?([eE]\+?\d{1,2})?")
 
 
 class Row:
-    """A row: `row[column]` is its text, perhaps empty. Blanks around a text don't count, and a run of blanks within it
-    is one blank."""
+    """A row: `row[column]` is its text, empty where the table has no such column. Blanks around a text don't count, and
+    a run of blanks within it is one blank."""
 
-    both_ways = False
-
-    def __init__(self, path, number, texts):
-        self.path = path
-        self.number = number
-        self.texts = texts
+    def __init__(self, path, number, texts, mark):
+        self.path, self.number, self.texts, self.mark = path, number, texts, mark
 
     def __getitem__(self, column):
-        """The text in a column; none where the table has no such column."""
         return self.texts.get(column, "")
 
     def refuse(self, column, words):
@@ -46,43 +47,38 @@ class Row:
         name = self.name(column)
         return name if name in names else self.refuse(column, f"'{name}' isn't in {where}")
 
-    def whole(self, column, least=0, most=GREATEST):
-        """The whole number, which has to lie between these."""
+    def exact(self, column):
+        """The number from 0, exactly. A comma is a decimal comma where it parts no columns."""
         text = self.name(column)
-        if not (text.isascii() and text.isdigit()):
-            self.refuse(column, f"'{text}' isn't a whole number from {least}; decimals want a smaller unit, the same "
-                                "in all rows")
-        number = int(text) if len(text) <= 40 else math.inf
+        if not (text.isascii() and NUMBER.fullmatch(text)) or self.mark == "," in text:
+            self.refuse(column, f"'{text}' isn't a number from 0, as 52 or 52.5")
+        return Fraction(text.replace(",", "."))
+
+    def whole(self, column, least=0, most=GREATEST, scale=None):
+        """The whole number, which has to lie between these, once it is multiplied with the scale, if there is one."""
+        number = self.exact(column) * (scale or 1)
+        if number.denominator > 1:
+            more = next(10 ** digits for digits in range(1, 99) if (number * 10 ** digits).denominator == 1)
+            hint = f"; --scale {scale * more} counts in smaller units" if scale else ""
+            self.refuse(column, f"'{self[column]}' isn't whole{hint}")
         if not least <= number <= most:
-            self.refuse(column, f"'{text}' isn't between {least} and {most}")
-        return number
-
-    def decimal(self, column):
-        """The number, which may have a sign and decimals."""
-        text = self.name(column)
-        try:
-            number = float(text)
-        except ValueError:
-            number = math.nan
-        return number if math.isfinite(number) else self.refuse(column, f"'{text}' isn't a number")
+            self.refuse(column, f"'{self[column]}' isn't between {least} and {most}")
+        return int(number)
 
 
-def read_table(path, *columns):
-    """The rows of a table with these columns; it may have more of them."""
-    rows = list(_fields(path))
+def read_table(path, *columns, names=(), known=None):
+    """The rows of a table with these columns. `names` tells what some are called in this table; columns that aren't
+    among the `known` ones are told on standard error."""
+    mark, rows = _fields(path)
     if not rows:
         raise Refused(f"{path}: row 1 has to name the columns {', '.join(columns)}, and the file is empty")
-    (first, names), *rows = rows
-    for column in columns:
-        if names.count(column) != 1:
-            fault = "isn't" if column not in names else "is twice"
-            raise Refused(f"{path}: row {first}: the column {column} {fault} among {', '.join(filter(None, names))}")
-    return [_row(path, number, fields, names, columns) for number, fields in rows]
-
-
-def has_column(rows, column):
-    """Whether the table of these rows has a column that it may do without."""
-    return any(column in row.texts for row in rows)
+    (_, header), *rows = rows
+    keys = _keys(path, header, columns, dict(names))
+    strange = [name for name, key in zip(header, keys) if name and key not in (*columns, *(known or keys))]
+    if strange:
+        note(f"{path}: the column {', '.join(strange)} isn't known and plays no part; known are "
+             f"{', '.join([*columns, *known])}")
+    return [_row(path, number, fields, keys, columns, mark) for number, fields in rows]
 
 
 def once(rows, column):
@@ -96,30 +92,47 @@ def once(rows, column):
     return found
 
 
-def _row(path, number, fields, names, columns):
-    """A row of the table, as long as the first."""
-    row = Row(path, number, dict(zip(names, fields)))
+def _keys(path, header, columns, names):
+    """The column that stands at each place of the header."""
+    folded = [name.casefold() for name in header]
+    keys = list(folded)
     for column in columns:
-        if column not in row.texts:
-            row.refuse(column, f"the row ends before it: it has {len(fields)} of {len(names)} columns")
-    if any(fields[len(names):]):
-        raise Refused(f"{path}: row {number} has {len(fields)} columns where row 1 has {len(names)}; a text with the "
+        wanted = [names[column].casefold()] if names.get(column) else [column, *OTHER_NAMES.get(column, ())]
+        found = next((name for name in wanted if name in folded), None)
+        if found is None or folded.count(found) > 1:
+            fault = "is twice" if found else "isn't"
+            raise Refused(f"{path}: row 1: the column {found or wanted[0]} {fault} among "
+                          f"{', '.join(filter(None, header))}")
+        keys[folded.index(found)] = column
+    return keys
+
+
+def _row(path, number, fields, keys, columns, mark):
+    """A row of the table, as long as the first."""
+    row = Row(path, number, dict(zip(keys, fields)), mark)
+    for column in set(columns) - set(row.texts):
+        row.refuse(column, f"the row ends before it: it has {len(fields)} of {len(keys)} columns")
+    if any(fields[len(keys):]):
+        raise Refused(f"{path}: row {number} has {len(fields)} columns where row 1 has {len(keys)}; a text with the "
                       "mark that parts columns wants quotes around it")
     return row
 
 
 def _fields(path):
-    """The number and the texts of each row that isn't empty. The first row's marks outside quotes tell what parts
-    columns."""
+    """What parts columns, and the number and the texts of each row that isn't empty. Excel's line `sep=;` tells it,
+    else the first row's marks outside quotes; Excel doesn't count that line as a row."""
     text, number = _text(path), 0
-    mark = max(",;\t", key="".join(text.split("\n", 1)[0].split('"')[::2]).count)
-    lines = csv.reader(io.StringIO(text, newline=""), delimiter=mark, skipinitialspace=True, strict=True)
+    told = re.match(r"sep=(.)\r?\n", text)
+    text = text[told.end():] if told else text
+    mark = told.group(1) if told else max(",;\t", key="".join(text.split("\n", 1)[0].split('"')[::2]).count)
+    lines, rows = csv.reader(io.StringIO(text, newline=""), delimiter=mark, skipinitialspace=True, strict=True), []
     try:
         for number, fields in enumerate(lines, start=1):
             if any(map(str.strip, fields)):
-                yield number, [" ".join(field.split()) for field in fields]
+                rows.append((number, [" ".join(field.split()) for field in fields]))
     except csv.Error as failure:
         raise Refused(f"{path}: row {number + 1} isn't a row of a table: {failure}") from None
+    return mark, rows
 
 
 def _text(path):
@@ -128,28 +141,29 @@ def _text(path):
         raw = file.read()
     wide = raw.startswith((codecs.BOM_UTF16_LE, codecs.BOM_UTF16_BE))
     try:
-        return raw.decode("utf-16" if wide else "utf-8-sig")
-    except UnicodeDecodeError:
-        row = raw.count(b"\n", 0, _first_bad(raw)) + 1
-        raise Refused(f"{path}: row {row} isn't UTF-8; save the table as 'CSV UTF-8'") from None
-
-
-def _first_bad(raw):
-    """The place of the first byte that isn't UTF-8."""
-    try:
-        raw.decode("utf-8")
+        return unicodedata.normalize("NFC", raw.decode("utf-16" if wide else "utf-8-sig"))
     except UnicodeDecodeError as failure:
-        return failure.start
-    return 0
+        row = 1 + raw.count(b"\n", 0, failure.start + 3 * raw.startswith(codecs.BOM_UTF8))
+        raise Refused(f"{path}: row {row} isn't UTF-8; save the table as 'CSV UTF-8'") from None
 
 
 def listed(words, names, where):
     """The names in a list that is parted by commas, each of which has to be one of these; a name with a comma stands
     in double quotes."""
-    found = [" ".join(word.split()) for word in next(csv.reader([words], skipinitialspace=True), [])]
+    fields = next(csv.reader([unicodedata.normalize("NFC", words)], skipinitialspace=True), [])
+    found = [" ".join(field.split()) for field in fields]
     for name in found:
         if name not in names:
             raise Refused(f"'{name}' isn't in {where}")
     if len(set(found)) < len(found) or not found:
         raise Refused(f"'{words}' names a node twice, or none")
     return found
+
+
+def terminals(sources, sinks, names, where):
+    """The sources and the sinks, from two lists in texts; no node may be both."""
+    both = [listed(words, names, where) for words in (sources, sinks)]
+    for name in both[0]:
+        if name in both[1]:
+            raise Refused(f"'{name}' is a source and a sink")
+    return both

@@ -1,52 +1,141 @@
 #!/usr/bin/env python3
 """Tells what gets through where one link of a table fails, or one site.
 
-Usage: failures.py [--both-ways] TABLE SOURCE[,SOURCE ..] SINK[,SINK ..]
+Usage: failures.py [OPTIONS] TABLE SOURCE[,SOURCE ..] SINK[,SINK ..]
 
-TABLE is a CSV or GraphML file as table.py reads it. What is printed is the greatest value; then each link, and each
-site but the sources and sinks, whose failure lowers it, with the value that is left; and how many can fail alone.
+TABLE and the options are as those of table.py. What is printed is the greatest value; then each link, and each site but
+the sources and sinks, whose failure lowers it, with the value that is left; and how many can fail alone.
 """
 
-import argparse
 import os
 import sys
+from collections import Counter
 
 sys.path.insert(0, os.path.join(os.path.dirname(os.path.abspath(__file__)), "..", "common"))
 
-import command
+import links
+import script
 from dimacs import Flow
-from links import Links
 
 
-def main():
-    words = argparse.ArgumentParser(description="Tells what gets through where a link or a site fails.")
-    words.add_argument("--both-ways", action="store_true", help="links can be used in both directions")
-    words.add_argument("table", help="a CSV file with the columns from, to and capacity, or a GraphML file")
-    words.add_argument("sources", help="the names of the sources, parted by commas")
-    words.add_argument("sinks", help="the names of the sinks, parted by commas")
-    given = words.parse_args()
-    links = Links(given.table, given.both_ways)
-    links.add_terminals(given.sources, given.sinks)
-    sites = arcs_at_sites(links.problem)
-    value, *left = Flow().values_without(links.problem, [[], *links.arcs, *sites.values()])
-    print(f"value {value}")
-    names = [f"link {row['from']}, {row['to']}" for row in links.rows] + [f"site {site}" for site in sites]
-    for name, rest in zip(names, left):
-        if rest < value:
-            print(f"{rest} without {name}")
-    for what, found in (("links", left[:len(links.rows)]), ("sites", left[len(links.rows):])):
-        print(f"{what} that can fail alone: {found.count(value)} of {len(found)}")
+class Spare:
+    """What a greatest flow leaves free. Of half-arc 2 a that is how much more arc a can carry, of half-arc 2 a + 1 how
+    much less. Sources are joined with the node 0, and sinks with one more node."""
+
+    def __init__(self, problem, units):
+        count, self.heads, self.room, self.units = len(problem.names), [], [], units
+        self.leaving = [[] for _ in range(count + 2)]
+        extra, plenty = [0] * (count + 2), 1 + sum(capacity for _, _, capacity in problem.arcs)
+        for (src, dst, capacity), amount in zip(problem.arcs, units):
+            self._add(src, dst, capacity - amount, amount)
+            extra[src] += amount
+            extra[dst] -= amount
+        for source in problem.sources:
+            self._add(0, source, plenty, extra[source])
+        for sink in problem.sinks:
+            self._add(sink, count + 1, plenty, -extra[sink])
+
+    def _add(self, src, dst, more, less):
+        self.leaving[src].append(len(self.heads))
+        self.leaving[dst].append(len(self.heads) + 1)
+        self.heads += [dst, src]
+        self.room += [more, less]
+
+    def loss(self, arcs):
+        """How much less gets through where these arcs fail: what they carried, less what other ways can carry from
+        their starts to their ends. The flow stays as it is."""
+        over, before = Counter(), []
+        for arc in arcs:
+            over[self.heads[2 * arc + 1]] += self.units[arc]
+            over[self.heads[2 * arc]] -= self.units[arc]
+            before += [(half, self.room[half]) for half in (2 * arc, 2 * arc + 1)]
+            self.room[2 * arc] = self.room[2 * arc + 1] = 0
+        starts = {node: amount for node, amount in over.items() if amount > 0}
+        ends = {node: -amount for node, amount in over.items() if amount < 0}
+        while starts and ends:
+            way = self._way(starts, ends)
+            if way is None:
+                break
+            start, end = self.heads[way[0] ^ 1], self.heads[way[-1]]
+            amount = min(starts[start], ends[end], *(self.room[half] for half in way))
+            for half in way:
+                before += [(half, self.room[half]), (half ^ 1, self.room[half ^ 1])]
+                self.room[half] -= amount
+                self.room[half ^ 1] += amount
+            for left, node in ((starts, start), (ends, end)):
+                left[node] -= amount
+                if not left[node]:
+                    del left[node]
+        for half, room in reversed(before):
+            self.room[half] = room
+        return sum(starts.values())
+
+    def _way(self, starts, ends):
+        """The half-arcs of a way with room, looked for from both sides, or None."""
+        sides = [dict.fromkeys(starts), list(starts)], [dict.fromkeys(ends), list(ends)]
+        while sides[0][1] and sides[1][1]:
+            against = int(len(sides[1][1]) < len(sides[0][1]))
+            (found, edge), others = sides[against], sides[1 - against][0]
+            met, sides[against][1] = self._step(edge, found, others, against)
+            if met is not None:
+                return self._joined(sides[0][0], sides[1][0], met)
+        return None
+
+    def _step(self, edge, found, others, against):
+        """Goes on by one half-arc from the nodes of an edge, or against one; answers a node that was found from the
+        other side too, where there is one, and the new edge."""
+        heads, room, new = self.heads, self.room, []
+        for node in edge:
+            for half in self.leaving[node]:
+                head = heads[half]
+                if room[half ^ against] and head not in found:
+                    found[head] = half ^ against
+                    if head in others:
+                        return head, new
+                    new.append(head)
+        return None, new
+
+    def _joined(self, ahead, behind, met):
+        """The way through a node that was found from both sides."""
+        ways = []
+        for found, turn in ((ahead, 1), (behind, 0)):
+            node, way = met, []
+            while found[node] is not None:
+                way.append(found[node])
+                node = self.heads[found[node] ^ turn]
+            ways.append(way)
+        return ways[0][::-1] + ways[1]
 
 
-def arcs_at_sites(problem):
-    """The arcs into and out of each site that is neither source nor sink: these fail with it."""
-    ends = {*problem.sources, *problem.sinks}
-    arcs = {name: [] for number, name in enumerate(problem.names, start=1) if number not in ends}
-    for place, (src, dst, _) in enumerate(problem.arcs):
-        for node in {src, dst} - ends:
-            arcs[problem.name(node)].append(place)
+def sites_of(given):
+    """The arcs that fail with each site that is neither source nor sink: those at it, or the one within it where it has
+    a capacity."""
+    problem, within = given.problem, len(given.problem.arcs) - len(given.limits)
+    arcs = {name: [] for name in given.names}
+    for place, (src, dst, _) in enumerate(problem.arcs[:within]):
+        for name in {problem.names[src - 1], problem.names[dst - 1]}:
+            if name in arcs:
+                arcs[name].append(place)
+    arcs.update((name, [within + place]) for place, name in enumerate(given.limits))
+    for node in problem.sources + problem.sinks:
+        arcs.pop(problem.names[node - 1].removesuffix(" (out)"), None)
+        arcs.pop(problem.names[node - 1], None)
     return arcs
 
 
+def main():
+    given = links.Links(links.given("Tells what gets through where a link or a site fails."))
+    value, units = Flow().solve(given.problem)
+    spare, sites = Spare(given.problem, units), sites_of(given)
+    names = [f"link {row['from']}, {row['to']}" for row in given.rows] + [f"site {name}" for name in sites]
+    lost = [spare.loss(arcs) for arcs in [*given.arcs, *sites.values()]]
+    print(f"value {value}")
+    for name, loss in zip(names, lost):
+        if loss:
+            print(f"{value - loss} without {name}")
+    for what, found in (("links", lost[:len(given.rows)]), ("sites", lost[len(given.rows):])):
+        print(f"{what} that can fail alone: {found.count(0)} of {len(found)}")
+
+
 if __name__ == "__main__":
-    command.run(main)
+    script.run(main)

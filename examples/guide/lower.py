@@ -3,40 +3,71 @@
 
 Usage: lower.py [--least] TABLE SOURCE[,SOURCE ..] SINK[,SINK ..]
 
-TABLE is a CSV or GraphML file with the columns from, to, low and high: the least and the most that flows from one end
-to the other. What is printed is the value and the flow of each row. Where no flow keeps the limits, a set of nodes is
-printed into which more must come than can leave it, or the other way round.
+TABLE is a CSV file with the columns from, to, low and high: the least and the most that flows from one end to the
+other. What is printed is the value and the flow of each row. Where no flow keeps the limits, a set of nodes is printed
+into which more must come than can leave it, or the other way round.
 """
 
 import argparse
 import os
 import sys
+from collections import Counter
 
 sys.path.insert(0, os.path.join(os.path.dirname(os.path.abspath(__file__)), "..", "common"))
 
-import command
-import limits
-import links
 import script
 import tables
-from dimacs import Flow
+from dimacs import Flow, Problem
 
 
-def read(path, sources, sinks):
-    """The names in a table, its rows as (from, to, low, high), and the names of the sources and sinks."""
-    table = links.read(path, "low", "high")
-    names = list(dict.fromkeys(row.name(end) for row in table for end in ("from", "to")))
-    arcs = [(row["from"], row["to"], row.whole("low"), row.whole("high")) for row in table]
-    for row, (_, _, low, high) in zip(table, arcs):
-        if row.both_ways:
-            row.refuse("to", "a link with lower limits needs a direction")
-        if low > high:
-            row.refuse("low", f"{low} is greater than high, which is {high}")
-    both = [tables.listed(words, names, path) for words in (sources, sinks)]
-    for name in both[0]:
-        if name in both[1]:
-            raise script.Refused(f"'{name}' is a source and a sink")
-    return names, arcs, *both
+def feasible(flow, arcs, sources, sinks):
+    """A flow within the limits of arcs (from, to, low, high), for each arc, or None; and where there is none, nodes
+    into which more must come than can leave them. The least of each arc is taken for granted, so that its head has a
+    supply and its tail a demand. A node more gives the supplies, another takes the demands, a third joins terminals."""
+    start, end, back = object(), object(), object()
+    needed, plenty = Counter(), 1 + sum(high for _, _, _, high in arcs)
+    problem = Problem()
+    problem.source(start)
+    problem.sink(end)
+    for src, dst, low, high in arcs:
+        problem.arc(src, dst, high - low)
+        needed[dst] += low
+        needed[src] -= low
+    for node in [*sources, *sinks]:
+        problem.arc(node, back, plenty)
+        problem.arc(back, node, plenty)
+    for node, amount in needed.items():
+        if amount:
+            problem.arc(*((start, node) if amount > 0 else (node, end)), abs(amount))
+    value, units = flow.solve(problem)
+    if value == sum(amount for amount in needed.values() if amount > 0):
+        return [low + more for (_, _, low, _), more in zip(arcs, units)], None
+    return None, flow.cut(problem).source_side - {start}
+
+
+def greatest(flow, arcs, sources, sinks, units):
+    """The greatest flow within the limits, from any that keeps them: what can still be sent is a flow over what is left
+    along and against the arcs. With sources and sinks exchanged it is the least flow."""
+    problem = Problem()
+    for nodes, add in ((sources, problem.source), (sinks, problem.sink)):
+        for node in nodes:
+            add(node)
+    for (src, dst, _, high), amount in zip(arcs, units):
+        problem.arc(src, dst, high - amount)
+    for (src, dst, low, _), amount in zip(arcs, units):
+        problem.arc(dst, src, amount - low)
+    _, more = flow.solve(problem)
+    return [amount + along - against for amount, along, against in zip(units, more, more[len(arcs):])]
+
+
+def read(path):
+    """The rows of a table as (from, to, low, high)."""
+    arcs = []
+    for row in tables.read_table(path, "from", "to", "low", "high"):
+        arcs.append((row.name("from"), row.name("to"), row.whole("low"), row.whole("high")))
+        if arcs[-1][2] > arcs[-1][3]:
+            row.refuse("low", f"{arcs[-1][2]} is greater than high, which is {arcs[-1][3]}")
+    return arcs
 
 
 def tell_why(names, arcs, sources, side):
@@ -57,14 +88,14 @@ def main():
     words.add_argument("sources", help="the names of the sources, parted by commas")
     words.add_argument("sinks", help="the names of the sinks, parted by commas")
     given = words.parse_args()
-    names, arcs, sources, sinks = read(given.table, given.sources, given.sinks)
-    flow = Flow()
-    units, side = limits.feasible(flow, arcs, sources, sinks)
+    arcs, flow = read(given.table), Flow()
+    names = list(dict.fromkeys(end for arc in arcs for end in arc[:2]))
+    sources, sinks = tables.terminals(given.sources, given.sinks, names, given.table)
+    units, side = feasible(flow, arcs, sources, sinks)
     if units is None:
         tell_why(names, arcs, sources, side)
         return 1
-    ends = (sinks, sources) if given.least else (sources, sinks)
-    units = limits.greatest(flow, arcs, *ends, units)
+    units = greatest(flow, arcs, *((sinks, sources) if given.least else (sources, sinks)), units)
     value = sum(((src in sources) - (dst in sources)) * amount for (src, dst, _, _), amount in zip(arcs, units))
     print(f"value {value}")
     for (src, dst, low, high), amount in zip(arcs, units):
@@ -73,4 +104,4 @@ def main():
 
 
 if __name__ == "__main__":
-    command.run(main)
+    script.run(main)

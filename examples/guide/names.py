@@ -14,27 +14,21 @@ import script
 ENDS = {"n": 1, "f": 2, "a": 2, "over": 2, "unbalanced": 1}
 
 
-def quoted(name):
-    """The name as it is, or in double quotes where it has a comma or a quote."""
-    return '"' + name.replace('"', '""') + '"' if "," in name or '"' in name else name
-
-
 def main():
     if len(sys.argv) != 2:
         raise script.Refused("usage: names.py PROBLEM < OUTPUT")
-    names = {}
     with open(sys.argv[1], encoding="utf-8") as file:
-        for line in file:
-            if line.startswith("c node "):
-                number, name = line[len("c node "):].rstrip("\n").split(" ", 1)
-                names[number] = quoted(name)
+        names = dict(line[len("c node "):].rstrip("\n").split(" ", 1) for line in file if line.startswith("c node "))
+    for number, name in names.items():
+        if "," in name or '"' in name:
+            names[number] = '"' + name.replace('"', '""') + '"'
     for line in sys.stdin:
         kind, *fields = line.split()
-        ends = ENDS.get(kind, 0)
-        for field in fields[:ends]:
+        for place, field in enumerate(fields[:ENDS.get(kind, 0)]):
             if field not in names:
                 raise script.Refused(f"{sys.argv[1]} has no line 'c node {field} NAME'; table.py writes these")
-        print(kind, ", ".join([names[field] for field in fields[:ends]] + fields[ends:]))
+            fields[place] = names[field]
+        print(kind, ", ".join(fields))
 
 
 if __name__ == "__main__":

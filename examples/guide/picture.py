@@ -36,14 +36,13 @@ def read_places(words, width, height):
     """The pixels of a list of places, each as its node."""
     nodes = []
     for place in words.split():
-        fields = place.split(",")
-        if len(fields) != 2 or not all(field.isascii() and field.isdigit() for field in fields):
+        column, _, row = place.partition(",")
+        if not (column.isdecimal() and row.isdecimal()):
             raise script.Refused(f"'{place}' isn't COLUMN,ROW")
-        column, row = map(int, fields)
-        if column >= width or row >= height:
+        if int(column) >= width or int(row) >= height:
             raise script.Refused(f"column {column}, row {row}: the picture has the columns 0 to {width - 1} and the "
                                  f"rows 0 to {height - 1}")
-        nodes.append(1 + column + width * row)
+        nodes.append(1 + int(column) + width * int(row))
     return list(dict.fromkeys(nodes))
 
 
@@ -55,7 +54,7 @@ def write_problem(width, height, grey, objects, background):
             raise script.Refused(f"column {column}, row {row}: marked as object and as background")
     arcs = []
     for place, here in enumerate(grey):
-        for other, is_inside in ((place + 1, (place + 1) % width), (place + width, place + width < width * height)):
+        for other, is_inside in ((place + 1, (place + 1) % width), (place + width, place + width < len(grey))):
             if is_inside:
                 strength = 1 + 1000 // (1 + (here - grey[other]) ** 2)
                 arcs += [(place + 1, other + 1, strength), (other + 1, place + 1, strength)]
@@ -75,14 +74,13 @@ def print_mask(width, height, lines):
 
 
 def main():
-    if len(sys.argv) == 5 and sys.argv[1] == "problem":
-        width, height, grey = read_picture(sys.argv[2])
-        write_problem(width, height, grey, *(read_places(words, width, height) for words in sys.argv[3:]))
-    elif len(sys.argv) == 3 and sys.argv[1] == "mask":
-        width, height, _ = read_picture(sys.argv[2])
-        print_mask(width, height, sys.stdin)
-    else:
+    if len(sys.argv) < 3 or (sys.argv[1], len(sys.argv)) not in (("problem", 5), ("mask", 3)):
         raise script.Refused(USAGE)
+    width, height, grey = read_picture(sys.argv[2])
+    if sys.argv[1] == "problem":
+        write_problem(width, height, grey, *(read_places(words, width, height) for words in sys.argv[3:]))
+    else:
+        print_mask(width, height, sys.stdin)
 
 
 if __name__ == "__main__":

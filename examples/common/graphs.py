@@ -1,0 +1,239 @@
+"""Networks out of tables and GraphML as NetworkX graphs, as arrays for provedflow, and drawn by matplotlib."""
+
+import os
+import re
+import sys
+import textwrap
+import unicodedata
+from fractions import Fraction
+
+sys.path.append(os.path.join(os.path.dirname(os.path.abspath(__file__)), "..", "..", "python"))
+
+import script
+import tables
+
+try:
+    import matplotlib
+    matplotlib.use("Agg")
+    import matplotlib.pyplot as plt
+    import networkx as nx
+    import numpy as np
+    import provedflow  # Loaded so that it is told here where it isn't installed.
+    from matplotlib.collections import LineCollection
+    from scipy.sparse import coo_matrix, csgraph
+    plt.rcParams["text.parse_math"] = False
+except ModuleNotFoundError as failure:
+    sys.exit(f"{os.path.basename(sys.argv[0])}: there is no Python module {failure.name}; README.md tells what the "
+             "examples need")
+
+PREFIXES = {"k": 10 ** 3, "K": 10 ** 3, "M": 10 ** 6, "G": 10 ** 9, "T": 10 ** 12}
+AMOUNT = re.compile(r"(\d+(?:[.,]\d+)?(?:[eE]\+?\d{1,2})?)\s*(\D.*)?", re.ASCII)
+SPOTS = (("x", "y", -1), ("lon", "lat", 1), ("longitude", "latitude", 1))
+"""What coordinates are called, and whether the second grows upwards."""
+MOST_SPRINGS = 500
+"""How many places are laid out by springs; more of them are laid out by their distances from some."""
+BLACK, GREY, RED, BLUE, ORANGE, GREEN = "#222222", "#B0B0B0", "#C00000", "#0072B2", "#D98000", "#2E8B57"
+AROUND = [(0, 1, "center", "bottom"), (0, -1, "center", "top"), (1, 0, "left", "center"), (-1, 0, "right", "center"),
+          (1, 1, "left", "bottom"), (-1, 1, "right", "bottom"), (1, -1, "left", "top"), (-1, -1, "right", "top")]
+
+
+def add_options(parser, capacity=True):
+    """The options that tell where the network is."""
+    parser.add_argument("network", nargs="?", help="a table of links (CSV), or a GraphML file; else the example's own")
+    parser.add_argument("--places", metavar="TABLE", help="a table of the places, with the column place, and x and y")
+    for column in ["from", "to"] + ["capacity"] * capacity:
+        parser.add_argument(f"--{column}", metavar="COLUMN", help=f"what the column {column} is called")
+    parser.add_argument("--out", metavar="FOLDER", help="where the picture goes; else a folder in out")
+
+
+def read(words, capacity=True):
+    """The network as a MultiGraph, or a MultiDiGraph where GraphML says so. Places have the attributes of their row or
+    node, in small letters, and links `name`, `where` and `capacity`, a text."""
+    path, names = words.network, vars(words)
+    if path.lower().endswith((".graphml", ".xml")):
+        graph = read_graphml(path, names.get("capacity"), capacity)
+    else:
+        graph = nx.MultiGraph()
+        for row in tables.read_table(path, "from", "to", *["capacity"] * capacity, names=names):
+            graph.add_edge(row.name("from"), row.name("to"), name=row["name"], where=f"row {row.number}",
+                           capacity=row["capacity"])
+    if words.places:
+        rows = tables.once(tables.read_table(words.places, "place"), "place")
+        for one, other, where in graph.edges(data="where"):
+            for end in (one, other):
+                if end not in rows:
+                    raise script.Refused(f"{path}: {where}: '{end}' isn't in {words.places}")
+        graph.add_nodes_from((place, row.texts) for place, row in rows.items())
+    if not graph.number_of_edges():
+        raise script.Refused(f"{path} has no links")
+    return graph
+
+
+def read_graphml(path, name, capacity):
+    """The links of a GraphML file. A place is called by its attribute name or label where each has one of its own, else
+    by its id."""
+    try:
+        found = nx.read_graphml(path)
+    except (nx.NetworkXError, SyntaxError, ValueError, KeyError) as failure:
+        raise script.Refused(f"{path} isn't GraphML that NetworkX can read: {failure}") from None
+    called = {node: plain(node) for node in found}
+    for key in ("label", "name"):
+        texts = {node: plain(data.get(key, "")) for node, data in found.nodes(data=True)}
+        called = texts if all(texts.values()) and len(set(texts.values())) == len(texts) else called
+    graph = (nx.MultiDiGraph if found.is_directed() else nx.MultiGraph)()
+    graph.add_nodes_from((called[node], {key.casefold(): value for key, value in data.items() if key != "name"})
+                         for node, data in found.nodes(data=True))
+    there = sorted({str(key) for *_, data in found.edges(data=True) for key in data})
+    wanted = [name] if name else ["capacity", *tables.OTHER_NAMES["capacity"]]
+    key = next((key for name in wanted for key in there if key.casefold() == name.casefold()), None)
+    if capacity and key is None:
+        raise script.Refused(f"{path}: no edge has the attribute {wanted[0]}; there are "
+                             f"{script.some(there) or 'none'}, and --capacity names one")
+    for number, (one, other, data) in enumerate(found.edges(data=True), start=1):
+        graph.add_edge(called[one], called[other], name=plain(data.get("name", "")), where=f"edge {number}",
+                       capacity=plain(data.get(key, "")))
+    return graph
+
+
+def plain(text):
+    """A text in NFC, without blanks around it and line ends within."""
+    return " ".join(unicodedata.normalize("NFC", str(text)).split())
+
+
+def amounts(path, graph):
+    """The capacities of the links as exact numbers of a unit, and the unit: 2.5 Gbit and 800 Mbit are 2.5 and 0.8 of
+    Gbit, and numbers may stand without a unit."""
+    found = {}
+    for *_, data in graph.edges(data=True):
+        text = data["capacity"]
+        found[text] = found.get(text) or AMOUNT.fullmatch(text)
+        if not found[text]:
+            raise script.Refused(f"{path}: {data['where']}: the capacity '{text}' isn't a number from 0, as 52.5 or "
+                                 "2.5 Gbit")
+    texts = {part.group(2) or "" for part in found.values()}
+    stem = os.path.commonprefix([text[::-1] for text in texts])[::-1]
+    if len(texts) > 1 and not (stem and all(text[:-len(stem)] in ("", *PREFIXES) for text in texts)):
+        raise script.Refused(f"{path}: the capacities have different units: {script.some(sorted(texts))}")
+    factors = {text: PREFIXES.get(text[:-len(stem)], 1) if len(texts) > 1 else 1 for text in texts}
+    unit = max(texts, key=factors.get)
+    exact = {text: Fraction(part.group(1).replace(",", ".")) * factors[part.group(2) or ""] / factors[unit]
+             for text, part in found.items()}
+    return [exact[text] for *_, text in graph.edges(data="capacity")], unit
+
+
+def arcs(graph, path=None, given=None, also=()):
+    """The network in arrays for provedflow: the ends and the capacities of the arcs, where each link without direction
+    is one both ways, the ways back behind all others; and how many units make 1, so that the given capacities and what
+    is given also are whole. Without capacities each is 1."""
+    ends, scale = ends_of(graph), 1
+    while any(scale % denominator for denominator in {amount.denominator for amount in [*(given or ()), *also]}):
+        scale *= 10
+    units = [int(amount * scale) for amount in given] if given else [1] * len(ends[0])
+    if max(units) > tables.GREATEST:
+        raise script.Refused(f"{path}: a capacity is too great, or has too many digits")
+    src, dst = ends if graph.is_directed() else np.concatenate([ends, ends[::-1]], axis=1)
+    return src, dst, np.resize(np.array(units, np.uint64), len(src)), scale
+
+
+def ends_of(graph):
+    """The ends of the links by number, in an array with two rows."""
+    number = {place: index for index, place in enumerate(graph)}
+    return np.array([(number[one], number[other]) for one, other in graph.edges()], np.uint32).T.copy()
+
+
+def in_words(units, scale, unit=""):
+    """So many units of 1/scale as a decimal number."""
+    whole, rest = divmod(int(units), scale)
+    decimals = f".{rest:0{len(str(scale)) - 1}}".rstrip("0") if rest else ""
+    return f"{whole}{decimals} {unit}".rstrip()
+
+
+def matrix_of(count, ends):
+    """The links between so many places as a matrix of SciPy."""
+    return coo_matrix((np.ones(ends.shape[1]), ends), (count, count)).tocsr()
+
+
+def part_of(count, ends):
+    """Of each of so many places the number of the part that it is in, where links between these ends join places."""
+    return csgraph.connected_components(matrix_of(count, ends), directed=False)[1]
+
+
+def parts(graph):
+    """How many places each part has that no link joins with another, the largest first."""
+    return sorted(np.bincount(part_of(len(graph), ends_of(graph))).tolist(), reverse=True)
+
+
+def spots(graph):
+    """Where each place stands, upwards: as the data says, or else laid out by the links; and which of the two."""
+    for x, y, sign in SPOTS:
+        try:
+            return {place: (float(data[x]), sign * float(data[y])) for place, data in graph.nodes(data=True)}, True
+        except (KeyError, ValueError, TypeError):
+            continue
+    if len(graph) <= MOST_SPRINGS:
+        return nx.spring_layout(nx.Graph(graph), seed=1), False
+    return by_distances(graph), False
+
+
+def by_distances(graph, pivots=24):
+    """A layout that keeps the distances from some places that lie far from each other."""
+    links, part = matrix_of(len(graph), ends_of(graph)), part_of(len(graph), ends_of(graph))
+    found, place = [], int((part == np.bincount(part).argmax()).argmax())
+    for _ in range(pivots):
+        far = csgraph.dijkstra(links, False, place, unweighted=True)
+        found.append(np.where(np.isinf(far), far[~np.isinf(far)].mean(), far))
+        place = int(np.min(found, axis=0).argmax())
+    squares = np.array(found).T ** 2
+    squares -= squares.mean(axis=0)
+    squares -= squares.mean(axis=1, keepdims=True)
+    flat = squares @ np.linalg.svd(squares, full_matrices=False)[2][:2].T
+    return dict(zip(graph, flat / np.abs(flat).max()))
+
+
+class Picture:
+    """A drawing of a network: links and places, and labels where there is room for them."""
+
+    def __init__(self, where, title):
+        self.where, self.labels, self.taken = where, {}, []
+        across, along = np.maximum(np.ptp(list(where.values()), axis=0), 1e-9)
+        self.figure, self.axes = plt.subplots(figsize=(10, float(np.clip(10 * along / across, 4, 10))), dpi=110)
+        self.axes.set_axis_off()
+        self.axes.set_title(textwrap.fill(title, 85), loc="left", fontsize=13, weight="bold")
+        self.small = float(np.clip(40 / len(where) ** 0.5, 0.4, 5))
+
+    def links(self, edges, colour, width, style="solid", label=None):
+        """Lines between places."""
+        lines = [(self.where[one], self.where[other]) for one, other, *_ in edges]
+        self.axes.add_collection(LineCollection(lines, colors=colour, linewidths=width, linestyles=style, label=label))
+
+    def places(self, names, colour, size=None, marker="o", label=None):
+        """Marks for places."""
+        if names:
+            x, y = zip(*(self.where[name] for name in names))
+            self.axes.scatter(x, y, s=(size or self.small) ** 2, c=colour, marker=marker, label=label, zorder=3,
+                              linewidths=0)
+
+    def label(self, place, text, bold=False):
+        """A text beside a place or a point; those named first have the room first."""
+        spot = tuple(self.where[place] if place in self.where else place)
+        self.labels.setdefault((spot, text), "bold" if bold else "normal")
+
+    def save(self, path):
+        """Writes the picture. A label stands where it hides no other one, or not at all, and is cut nowhere."""
+        self.figure.legend(*self.axes.get_legend_handles_labels(), loc="upper center", bbox_to_anchor=(0.5, 0.1),
+                           ncol=2, frameon=False)
+        low, high = (change(list(self.where.values()), axis=0) for change in (np.min, np.max))
+        edge = 0.06 * np.maximum(high - low, 1e-9)
+        self.axes.set(xlim=(low[0] - edge[0], high[0] + edge[0]), ylim=(low[1] - edge[1], high[1] + edge[1]))
+        renderer = self.figure.canvas.get_renderer()
+        for (spot, text), weight in self.labels.items():
+            for dx, dy, across, along in AROUND:
+                note = self.axes.annotate(text, spot, (7 * dx, 7 * dy), textcoords="offset points", ha=across, va=along,
+                                          fontsize=9, weight=weight, zorder=4,
+                                          bbox={"fc": "white", "ec": "none", "alpha": 0.75, "pad": 0.6})
+                box = note.get_window_extent(renderer)
+                if not any(box.overlaps(other) for other in self.taken):
+                    self.taken.append(box)
+                    break
+                note.remove()
+        self.figure.savefig(path, bbox_inches="tight", facecolor="white")

@@ -1,16 +1,13 @@
 """Problems on grids: pictures, volumes and photographs to be cut into object and background, and roads.
 
 A problem is its number of nodes, its source, its sink, and its arcs as triples of tail, head and capacity. Nodes are
-numbers from 0.
+numbers from 0. Each family takes a random generator and the number of arcs wanted.
 """
 import importlib.util
 import math
-import sys
 from pathlib import Path
 
-sys.path.append(str(Path(__file__).resolve().parent.parent / 'examples' / 'common'))
-
-import pictures  # noqa: E402
+from networks import collected, variant
 
 # Where Debian's packages python3-skimage and opencv-doc have their photographs, and the strokes on each, as a user
 # would draw them: from and to a point, the pixels within two of the line between.
@@ -63,8 +60,8 @@ def discs(rand, height, width):
     return [[grey + .28 * blurred(rand) for grey in row] for row in image]
 
 
-def segmentation(rand, arcs, neighbours):
-    """Boykov and Jolly 2001: a pixel is a node; the terminals take its likelihoods, neighbours its contrasts."""
+def segmentation(rand, arcs, neighbours=4):
+    """Boykov and Jolly 2001: a pixel is a node; the terminals take its likelihoods, 4 or 8 neighbours its contrasts."""
     height, width = grown(arcs / (1 + neighbours), 3 / 4)
     image = discs(rand, height, width)
     steps = [(0, 1, 400), (1, 0, 400)] + ([(1, 1, 283), (1, -1, 283)] if neighbours == 8 else [])
@@ -106,11 +103,6 @@ def stereo(rand, arcs):
     return height * width + 2, source, sink, found
 
 
-def cube(side):
-    """The steps from a point of a cube to those beyond it, each with how far it goes in each direction."""
-    return [(1, (0, 0, 1)), (side, (0, 1, 0)), (side * side, (1, 0, 0))]
-
-
 def volume(rand, arcs):
     """Boykov and Funka-Lea 2006: a scan in three dimensions, 6 neighbours, bodies of every size in noise."""
     side = max(2, round((arcs / 6.5) ** (1 / 3)))
@@ -130,7 +122,7 @@ def volume(rand, arcs):
     for here in range(count):
         likelihood = int(1000 * (grey[here] - .5))
         found.append((source, here, likelihood + 1) if likelihood >= 0 else (here, sink, 1 - likelihood))
-        for step, _ in cube(side):
+        for step in (1, side, side * side):
             if here // step % side + 1 < side:
                 contrast = grey[here] - grey[here + step]
                 weight = 1 + int(300 * math.exp(-contrast * contrast / .05))
@@ -158,7 +150,7 @@ def surface(rand, arcs):
         elif 0 in (z, y, x) or side - 1 in (z, y, x):
             found.append((here, sink, 1000000))
     for here in range(count):
-        for step, _ in cube(side):
+        for step in (1, side, side * side):
             if here // step % side + 1 < side:
                 weight = cost[here] + cost[here + step]
                 found += [(here, here + step, weight), (here + step, here, weight)]
@@ -166,17 +158,17 @@ def surface(rand, arcs):
 
 
 def found_photograph(name):
-    """The path of a photograph, if it is on the machine and can be read: one that is no PNG needs Pillow."""
-    paths = [pictures.find(folder, name) for folder in PHOTOGRAPHS if folder.is_dir()]
-    return next((path for path in paths if path and (path.endswith('.png') or importlib.util.find_spec('PIL'))), None)
+    """The path of a photograph, if it is on the machine and Pillow can read it."""
+    paths = [path for folder in PHOTOGRAPHS for path in sorted(folder.glob(f'{name}.*'))]
+    return paths[0] if paths and importlib.util.find_spec('PIL') else None
 
 
-def photograph(name, neighbours):
-    """Boykov and Jolly 2001 on a whole photograph: strokes are terminals, colours cost by the strokes' histograms, and
-    an outline costs least where colours differ."""
-    rows = pictures.read(found_photograph(name)).pixels
-    height, width = len(rows), len(rows[0])
-    pixels = [pixel[:3] for row in rows for pixel in row]
+def photograph(_rand, _arcs, name, neighbours=4, as_terminals=False):
+    """Boykov and Jolly 2001 on a whole photograph: strokes are ample arcs or themselves sources and sinks, colours cost
+    by the strokes' histograms, and an outline costs least where colours differ."""
+    import PIL.Image
+    image = PIL.Image.open(found_photograph(name)).convert('RGB')
+    (width, height), pixels = image.size, list(image.getdata())
     marked = [stroked(strokes, height, width) for strokes in STROKES[name]]
     bins = [red // 24 * 121 + green // 24 * 11 + blue // 24 for red, green, blue in pixels]
     likely = [histogram([bins[here] for here in strokes]) for strokes in marked]
@@ -185,8 +177,9 @@ def photograph(name, neighbours):
     source, sink = height * width, height * width + 1
     found = []
     for here, colour in enumerate(pixels):
-        cost = 1000000 if here in marked[0] else -1000000 if here in marked[1] else costs[bins[here]]
-        if cost:
+        is_marked = here in marked[0] or here in marked[1]
+        cost = (1000000 if here in marked[0] else -1000000) if is_marked else costs[bins[here]]
+        if cost and not (is_marked and as_terminals):
             found.append((source, here, cost) if cost > 0 else (here, sink, -cost))
         i, j = divmod(here, width)
         for down, right, share in steps:
@@ -195,7 +188,8 @@ def photograph(name, neighbours):
                 unlike = sum((one - other) ** 2 for one, other in zip(colour, pixels[there]))
                 weight = 1 + int(1000 * share * math.exp(-unlike / 1200))
                 found += [(here, there, weight), (there, here, weight)]
-    return height * width + 2, source, sink, found
+    sources, sinks = (sorted(marked[0]), sorted(marked[1] - marked[0])) if as_terminals else ([], [])
+    return height * width + 2, [source, *sources], [sink, *sinks], found
 
 
 def stroked(strokes, height, width):
@@ -239,7 +233,7 @@ def streets(rand, height, width, capacity):
     return found
 
 
-def roads(rand, arcs, height, capacity, ample):
+def streets_across(rand, arcs, height, capacity, ample):
     """A map of streets, from its west side to its east side; the height is that of a square map where none is given."""
     height = height or max(2, round((arcs / 3.6) ** .5))
     width = max(2, round(arcs / 3.6 / height))
@@ -250,17 +244,34 @@ def roads(rand, arcs, height, capacity, ample):
     return height * width + 2, source, sink, found
 
 
-def town(rand, arcs, height=0):
-    """Streets of 1 to 2,000, wide ones of up to 20,000."""
-    return roads(rand, arcs, height,
-                 lambda wide: int(2000 + 18000 * rand.random()) if wide else 1 + int(2000 * rand.random()), 1000000)
+def roads(rand, arcs, height=0):
+    """Two-way streets of 1 to 2,000 and wide ones of up to 20,000, from the west side of a map to its east side."""
+    return streets_across(rand, arcs, height, lambda wide: (
+        int(2000 + 18000 * rand.random()) if wide else 1 + int(2000 * rand.random())), 1000000)
+
+
+def long_road(rand, arcs):
+    """The same, 24 streets high and as long as it takes."""
+    return roads(rand, arcs, 24 if arcs > 5000 else 4)
 
 
 def unit_roads(rand, arcs):
     """Routes that share no street (Menger 1927): every street has capacity 1."""
-    return roads(rand, arcs, 0, lambda wide: 1, 4)
+    return streets_across(rand, arcs, 0, lambda wide: 1, 4)
 
 
 def magnitudes(rand, arcs):
     """Streets with capacities over twelve orders of magnitude, each order as likely."""
-    return roads(rand, arcs, 0, lambda wide: int(10 ** (12 * rand.random())), 10 ** 12)
+    return streets_across(rand, arcs, 0, lambda wide: int(10 ** (12 * rand.random())), 10 ** 12)
+
+
+def photographs():
+    """The families of the photographs that are on the machine."""
+    return {f'photograph-{name}-{kind}': variant(photograph, name=name, **named)
+            for name in STROKES if found_photograph(name)
+            for kind, named in (('4', {'neighbours': 4}), ('8', {'neighbours': 8}), ('strokes', {'as_terminals': True}))
+            if (name, kind) != ('building', '8')}  # which has too many arcs
+
+
+FAMILIES = {'segmentation-4': segmentation, 'segmentation-8': variant(segmentation, neighbours=8), 'roads': roads,
+            **collected(globals(), 'arcs')}

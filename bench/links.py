@@ -1,10 +1,10 @@
 """Networks to test the redundancy of: every capacity is 1, the first node is the source, the last the sink.
 
-Each takes the number of nodes wanted. A problem is as in networks.py.
+Each takes a random generator and the number of nodes wanted. A problem is as in networks.py.
 """
 import math
 
-from networks import attached
+import networks
 
 
 def unit(nodes, pairs):
@@ -14,12 +14,7 @@ def unit(nodes, pairs):
 def grid(_, nodes):
     """A square grid."""
     side = max(2, math.isqrt(nodes))
-    pairs = []
-    for i in range(side):
-        for j in range(side):
-            pairs += [(i * side + j, i * side + j + 1)] if j + 1 < side else []
-            pairs += [(i * side + j, (i + 1) * side + j)] if i + 1 < side else []
-    return unit(side * side, pairs)
+    return unit(side * side, networks.lattice(side, side))
 
 
 def small_world(rand, nodes):
@@ -30,12 +25,7 @@ def small_world(rand, nodes):
 
 def attachment(rand, nodes):
     """Barabasi and Albert 1999: each new node is joined to four earlier ones, the busier the likelier."""
-    return unit(nodes, attached(rand, nodes, lambda: 4))
-
-
-def attachment_with_leaves(rand, nodes):
-    """The same, with two fifths of the new nodes joined to one earlier node, the others to three."""
-    return unit(nodes, attached(rand, nodes, lambda: 1 if rand.random() < .4 else 3))
+    return unit(nodes, networks.attached(rand, nodes))
 
 
 def two_halves(rand, nodes):
@@ -45,26 +35,10 @@ def two_halves(rand, nodes):
     return unit(2 * half, pairs + [(int(half * rand.random()), half + int(half * rand.random())) for _ in range(3)])
 
 
-def random_regular(rand, nodes):
-    """The union of three random permutations."""
-    pairs = []
-    for _ in range(3):
-        to = list(range(nodes))
-        rand.shuffle(to)
-        pairs += enumerate(to)
-    return unit(nodes, pairs)
-
-
 def tree_with_links(rand, nodes):
     """A tree in which a node hangs on one of the fifty before it, and a link more for every fifth node."""
     pairs = [(i, max(0, i - 1 - int(50 * rand.random()))) for i in range(1, nodes)]
     return unit(nodes, pairs + [(int(nodes * rand.random()), int(nodes * rand.random())) for _ in range(nodes // 5)])
-
-
-def ring_with_chords(rand, nodes):
-    """A ring, and a chord for every tenth node."""
-    pairs = [(i, (i + 1) % nodes) for i in range(nodes)]
-    return unit(nodes, pairs + [(int(nodes * rand.random()), int(nodes * rand.random())) for _ in range(nodes // 10)])
 
 
 def ring(_, nodes):
@@ -73,40 +47,25 @@ def ring(_, nodes):
 
 
 def regular(rand, nodes, degree):
-    """So many links at each node, no two of them between the same nodes: the ends of all links are paired at random,
-    and while one is a self-loop, or a second link of two nodes, it exchanges ends with another drawn at random."""
-    nodes = max(2 * degree, nodes - nodes * degree % 2)
-    ends = list(range(nodes)) * degree
-    rand.shuffle(ends)
-    pairs = [(min(pair), max(pair)) for pair in zip(ends[::2], ends[1::2])]
-    known, faulty = set(), []
-    for at, pair in enumerate(pairs):
-        if pair[0] == pair[1] or pair in known:
-            faulty.append(at)
-        known.add(pair)
-    while faulty:
-        at, other = faulty[-1], int(len(pairs) * rand.random())
-        (one, two), (three, four) = pairs[at], pairs[other]
-        if rand.random() < .5:
-            three, four = four, three
-        new = [(min(one, four), max(one, four)), (min(three, two), max(three, two))]
-        if other in faulty or one == four or three == two or new[0] == new[1] or not known.isdisjoint(new):
-            continue
-        known.remove(pairs[other])
-        known.update(new)
-        pairs[at], pairs[other] = new
-        faulty.pop()
-    return unit(nodes, sorted(pairs))
+    """So many links at each node, which is how many random matchings."""
+    orders = [rand.sample(range(nodes), nodes // 2 * 2) for _ in range(degree)]
+    return unit(nodes, [pair for order in orders for pair in zip(order[::2], order[1::2])])
 
 
 def cubic(rand, nodes):
-    """Three links at each node, drawn at random."""
+    """Three random links at each node."""
     return regular(rand, nodes, 3)
 
 
-def simple_regular(rand, nodes):
-    """Six links at each node, drawn at random."""
+def six_regular(rand, nodes):
+    """Six random links at each node."""
     return regular(rand, nodes, 6)
+
+
+def ring_with_matching(rand, nodes):
+    """A ring, and one random link more at each node."""
+    nodes, source, sink, arcs = regular(rand, nodes, 1)
+    return nodes, source, sink, arcs + ring(rand, nodes)[3]
 
 
 def torus(_, nodes):
@@ -117,8 +76,8 @@ def torus(_, nodes):
 
 
 def hypercube(_, nodes):
-    """The corners of a cube of many dimensions, joined along its edges."""
-    dimensions = max(1, nodes.bit_length() - 1)
+    """The corners of a cube of up to 18 dimensions, joined along its edges."""
+    dimensions = min(18, nodes.bit_length() - 1)
     return unit(1 << dimensions, [(i, i | 1 << bit) for i in range(1 << dimensions) for bit in range(dimensions)
                                   if not i >> bit & 1])
 
@@ -145,12 +104,14 @@ def clusters(rand, nodes):
 
 
 def complete(_, nodes):
-    """A link between any two nodes."""
+    """A link between any two of up to 2,000 nodes."""
+    nodes = min(nodes, 2000)
     return unit(nodes, [(i, j) for i in range(nodes) for j in range(i + 1, nodes)])
 
 
 def directed_attachment(rand, nodes):
-    """Each new node has two arcs to earlier ones and two from earlier ones, the busier the likelier."""
+    """Each of up to 300,000 nodes has two arcs to earlier ones and two from them, the busier the likelier."""
+    nodes = min(nodes, 300000)
     pairs = [(i, j) for i in range(4) for j in range(4) if i != j]
     ends = [end for pair in pairs for end in pair]
     for node in range(4, nodes):
@@ -168,3 +129,13 @@ def directed_permutations(rand, nodes):
         rand.shuffle(cycle)
         pairs += zip(cycle, cycle[1:] + cycle[:1])
     return unit(nodes, sorted(pairs))
+
+
+def directed_torus(_, nodes):
+    """A torus of three dimensions, each link one way."""
+    side = max(2, round(min(nodes, 970299) ** (1 / 3)))
+    return unit(side ** 3, [(here, here - here // step % side * step + (here // step + 1) % side * step)
+                            for here in range(side ** 3) for step in (1, side, side ** 2)])
+
+
+FAMILIES = networks.collected(globals(), 'nodes')

@@ -1,29 +1,46 @@
 """Problems of flows that aren't on a grid of pixels or streets: those of the challenges, of textbooks and of practice.
 
 A problem is its number of nodes, its source, its sink, and its arcs as triples of tail, head and capacity. Nodes are
-numbers from 0.
+numbers from 0. Each family takes a random generator and the number of arcs wanted.
 """
+import functools
+import inspect
 import math
 
+NODES = 999_998
 
-def genrmf(rand, side, frames):
-    """Goldfarb and Grigoriadis 1988: frames of a square grid, ample within, a random permutation to the next."""
-    frame = side * side
+
+def collected(names, size):
+    """The families of a module: its functions of a random generator and a size, by their names."""
+    return {name.replace('_', '-'): call for name, call in names.items()
+            if inspect.isfunction(call) and [*inspect.signature(call).parameters][1:] == [size]}
+
+
+def variant(call, **named):
+    """A family with some words that its function takes besides."""
+    return functools.update_wrapper(functools.partial(call, **named), call)
+
+
+def lattice(height, width):
+    """The pairs of neighbours in a grid, row by row."""
+    count = height * width
+    return [(here, there) for here in range(count) for there, inside in
+            ((here + 1, (here + 1) % width), (here + width, here + width < count)) if inside]
+
+
+def genrmf(rand, arcs, degree=4):
+    """Goldfarb and Grigoriadis 1988: square frames in a row, ample within, a random permutation to the next; many small
+    frames, or few large ones."""
+    side = max(2, round((arcs / 5) ** (1 / degree)))
+    frame, frames = side * side, max(2, arcs // 5 // side ** 2)
     most = 10000
-    found = []
+    found, grid = [], lattice(side, side)
     for k in range(frames):
         base = k * frame
-        for i in range(side):
-            for j in range(side):
-                here = base + i * side + j
-                if j + 1 < side:
-                    found += [(here, here + 1, most * frame), (here + 1, here, most * frame)]
-                if i + 1 < side:
-                    found += [(here, here + side, most * frame), (here + side, here, most * frame)]
+        found += [(base + tail, base + head, most * frame) for pair in grid for tail, head in (pair, pair[::-1])]
         if k + 1 < frames:
-            to = list(range(frame))
-            rand.shuffle(to)
-            found += [(base + i, base + frame + to[i], rand.randint(1, most)) for i in range(frame)]
+            found += [(base + i, base + frame + to, rand.randint(1, most))
+                      for i, to in enumerate(rand.sample(range(frame), frame))]
     return frame * frames, 0, frame * frames - 1, found
 
 
@@ -37,9 +54,11 @@ def levels(width, count, ample, heads, capacity):
     return width * count + 2, source, sink, found
 
 
-def random_levels(rand, width, count):
-    """The Washington generator's random level graph (Johnson and McGeoch 1993): three arcs to random nodes of the next
-    level."""
+def random_levels(rand, arcs, is_long=True):
+    """The Washington generator's random levels (Johnson and McGeoch 1993): three arcs from each node to random ones of
+    the next level; 64 nodes a level, or 64 levels."""
+    other = min(NODES // 64, max(2, arcs // 192))
+    width, count = (64, other) if is_long else (other, 64)
     return levels(width, count, 30000, lambda j: [int(width * rand.random()) for _ in range(3)],
                   lambda: 1 + int(10000 * rand.random()))
 
@@ -51,8 +70,9 @@ def mesh(rand, arcs):
     return levels(width, width, 30000, near.__getitem__, lambda: 1 + int(10000 * rand.random()))
 
 
-def acyclic_dense(rand, nodes):
+def acyclic_dense(rand, arcs):
     """Waissi 1990: an arc from each node to every later one."""
+    nodes = max(3, math.isqrt(2 * arcs))
     found = [(i, j, 1 + int(100000 * rand.random())) for i in range(nodes) for j in range(i + 1, nodes)]
     return nodes, 0, nodes - 1, found
 
@@ -75,8 +95,9 @@ def growing_paths(rand, arcs):
     return 4 * count + 2, source, sink, found
 
 
-def matching(rand, side):
+def matching(rand, arcs):
     """Bipartite matching (Hopcroft and Karp 1973): each worker may do one to four of the jobs, every capacity is 1."""
+    side = min(NODES // 2, max(2, arcs * 2 // 9))
     source, sink = 2 * side, 2 * side + 1
     found = [(source, i, 1) for i in range(side)]
     for i in range(side):
@@ -85,8 +106,9 @@ def matching(rand, side):
     return 2 * side + 2, source, sink, found
 
 
-def transportation(rand, side):
+def transportation(rand, arcs):
     """Hitchcock 1941: suppliers and customers, each supplier with roads to ten customers, of which most are near."""
+    side = max(2, arcs // 12)
     source, sink = 2 * side, 2 * side + 1
     found = [(source, i, 100 + int(900 * rand.random())) for i in range(side)]
     for i in range(side):
@@ -121,8 +143,10 @@ def evacuation(rand, arcs):
     return rooms * minutes + 2, source, sink, found
 
 
-def project_selection(rand, side, depth):
+def project_selection(rand, arcs):
     """A closure of most profit (Picard 1976) in an open pit: a block wants the nine above it dug out first."""
+    side = max(2, round((arcs / 2) ** (1 / 3)))
+    depth = max(2, side // 4)
     bodies = [((rand.uniform(0, side), rand.uniform(0, side), rand.uniform(depth / 3, depth)), rand.uniform(2, depth))
               for _ in range(3 + side // 8)]
     source, sink = side * side * depth, side * side * depth + 1
@@ -144,64 +168,14 @@ def project_selection(rand, side, depth):
     return side * side * depth + 2, source, sink, found
 
 
-def point_cloud(rand, arcs):
-    """Golovinskiy and Funkhouser 2009: objects in a scan of points, each joined to its nearest ones; the terminals take
-    how far a point is from an object's place."""
-    count = max(9, arcs // 6)
-    cells = max(1, math.isqrt(count // 2))
-    objects = [(rand.random(), rand.random()) for _ in range(max(1, cells // 12) ** 2)]
-    points = []
-    for _ in range(count):
-        if rand.random() < .4:
-            x, y = (min(.999, max(0., at + .5 / len(objects) ** .5 * blur)) for at, blur in
-                    zip(objects[int(len(objects) * rand.random())], (rand.random() - .5, rand.random() - .5)))
-        else:
-            x, y = rand.random(), rand.random()
-        points.append((int(y * cells), int(x * cells), x, y))
-    points.sort()
-    source, sink = count, count + 1
-    found = []
-    reach = .4 / len(objects) ** .5
-    homes = {}
-    for at, (x, y) in enumerate(objects):
-        homes.setdefault((int(y / reach), int(x / reach)), []).append(at)
-    for here, (_, _, x, y) in enumerate(points):
-        near = [math.dist((x, y), objects[at]) for i in (-1, 0, 1) for j in (-1, 0, 1)
-                for at in homes.get((int(y / reach) + i, int(x / reach) + j), ())]
-        cost = int(300 * (.5 - min(near, default=reach) / reach) + 200 * (rand.random() - .5))
-        found.append((source, here, cost + 1) if cost >= 0 else (here, sink, -cost))
-    for here, there, far in nearest(points, cells):
-        weight = 1 + int(400 * math.exp(-far * cells))
-        found += [(here, there, weight), (there, here, weight)]
-    return count + 2, source, sink, found
-
-
-def nearest(points, cells):
-    """Pairs of points of which one is among the four nearest of the other, each once, with how far they lie apart."""
-    wide = cells + 2
-    homes = [[] for _ in range(wide * wide)]
-    for here, (row, column, x, y) in enumerate(points):
-        homes[(row + 1) * wide + column + 1].append((x, y, here))
-    pairs = {}
-    for at in range(wide + 1, wide * (wide - 1) - 1):
-        near = [point for row in (at - wide, at, at + wide) for home in homes[row - 1:row + 2] for point in home] \
-            if homes[at] else []
-        for x, y, here in homes[at]:
-            around = sorted([((x - a) ** 2 + (y - b) ** 2, there) for a, b, there in near])
-            for far, there in around[1:5]:
-                pairs[(here, there) if here < there else (there, here)] = far
-    return [(here, there, far ** .5) for (here, there), far in pairs.items()]
-
-
-def attached(rand, nodes, links):
-    """Pairs of a network of attachment (Barabasi and Albert 1999): each new node is joined to some earlier ones, as
-    many as the function says, the busier the likelier."""
+def attached(rand, nodes):
+    """Pairs of a network of attachment (Barabasi and Albert 1999): each new node is joined to four earlier ones, the
+    busier the likelier."""
     pairs = [(i, j) for i in range(1, 5) for j in range(i)]
     ends = [end for pair in pairs for end in pair]
     for node in range(5, nodes):
         near = set()
-        wanted = links()
-        while len(near) < wanted:
+        while len(near) < 4:
             near.add(ends[int(len(ends) * rand.random())])
         for other in sorted(near):
             pairs.append((node, other))
@@ -218,7 +192,7 @@ def communities(rand, arcs):
     for node in range(nodes):
         if rand.random() < .1:
             found.append((source, node, 1000) if rand.random() < .5 else (node, sink, 1000))
-    for one, other in attached(rand, nodes, lambda: 4):
+    for one, other in attached(rand, nodes):
         found += [(one, other, 1), (other, one, 1)]
     return nodes + 2, source, sink, found
 
@@ -266,3 +240,7 @@ def netlist(rand, arcs):
                     for at in divmod(net, side))
             found += [(y * side + x, enter, endless), (leave, y * side + x, endless)]
     return 3 * cells + 2, source, sink, found
+
+
+FAMILIES = {'genrmf-long': genrmf, 'genrmf-wide': variant(genrmf, degree=2.5), 'rlg-long': random_levels,
+            'rlg-wide': variant(random_levels, is_long=False), **collected(globals(), 'arcs')}

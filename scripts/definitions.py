@@ -18,6 +18,7 @@ failed'. With --write the tables of the page and its counts are written anew; wh
 
     python3 scripts/definitions.py [--write]
 """
+import functools
 import re
 import sys
 from pathlib import Path
@@ -119,37 +120,30 @@ def cited(text, names, modules):
     return found
 
 
-class Specs:
-    """The files of specs/, read once."""
+@functools.lru_cache(None)
+def spec(path):
+    """A file of specs/: its definitions, the names that it imports and the modules that it imports whole."""
+    text = path.read_text()
+    return blocks(text), *imports(text, path.relative_to(ROOT))
 
-    def __init__(self):
-        self.files = {}
 
-    def of(self, path):
-        if path not in self.files:
-            text = path.read_text()
-            self.files[path] = (blocks(text), *imports(text, path.relative_to(ROOT)))
-        return self.files[path]
-
-    def reached(self, starts):
-        """All that these names cite, and they themselves: those defined in specs/, and those from outside."""
-        todo, seen, outside = list(starts), set(), set()
-        while todo:
-            there = todo.pop()
-            if isinstance(there, Outside):
-                outside.add(there)
-                continue
-            if there in seen:
-                continue
+def reached_from(starts):
+    """All that these names cite, and they themselves: those defined in specs/, and those from outside."""
+    todo, seen, outside = list(starts), set(), set()
+    while todo:
+        there = todo.pop()
+        if isinstance(there, Outside):
+            outside.add(there)
+        elif there not in seen:
             seen.add(there)
             path, name = there
-            defined, names, modules = self.of(path)
+            defined, names, modules = spec(path)
             if name not in defined:
                 fail(f"{path.relative_to(ROOT)} has no {name}")
             text = "\n".join(defined[name])
             todo += [target(*pair) for pair in cited(text, names, modules)]
             todo += [(path, part) for word in WORD.findall(text) for part in word.split(".") if part in defined]
-        return seen, outside
+    return seen, outside
 
 
 def starts(contracts):
@@ -167,14 +161,10 @@ def starts(contracts):
 
 def source_of(path):
     """The file of the code in which a declared module stands, and the crate."""
-    parts = path.split(".")
-    base = ROOT / "crates" / parts[1] / "src"
-    modules = parts[4:]
-    for count in range(len(modules), -1, -1):
-        file = base.joinpath(*modules[:count]).with_suffix(".rt") if count else base / "lib.rt"
-        if file.is_file():
-            return file
-    return fail(f"{path} isn't a module of the code")
+    _, crate, _, _, *modules = path.split(".")
+    source = ROOT / "crates" / crate / "src"
+    files = [source.joinpath(*modules[:count]).with_suffix(".rt") for count in range(len(modules), 0, -1)]
+    return next(file for file in [*files, source / "lib.rt"] if file.is_file())
 
 
 def rows(counts, outside):
@@ -199,20 +189,15 @@ def rows(counts, outside):
             types[f"| `{kind}` of `{file.relative_to(ROOT)}` | {len(lines)} | `{held}` |"] = len(lines)
     table += [f"- `{path}`: {' '.join(f'`{name}`' for name in names)}" for path, names in sorted(library.items())]
     table += [f"| `{name}` | `{value}` |" for name, value in sorted(constants.items())]
-    table += sorted(types)
+    table += [*sorted(types), *(f"- `{line}`" for line in streams())]
     return table, library, constants, types
 
 
 def streams():
     """What each stream of the crates says of its bytes and its bound, and of which type."""
-    found = []
-    for file in sorted(ROOT.glob("crates/*/src/**/*.rt")):
-        of = None
-        for line in file.read_text().splitlines():
-            of = line.rstrip(" {") if line.startswith("impl") else of
-            if re.match(r" +ghost (state|bound) =", line):
-                found.append(f"{of}: {line.strip().rstrip(';')}")
-    return found
+    return [f"{of}: {line}" for file in sorted(ROOT.glob("crates/*/src/**/*.rt"))
+            for of, body in re.findall(r"^(impl.*?)[ {]*\n(.*?)(?=^impl|\Z)", file.read_text(), re.M | re.S)
+            for line in re.findall(r"^ +(ghost (?:state|bound) =.*?);*$", body, re.M)]
 
 
 def ways_to_flows():
@@ -244,9 +229,9 @@ def public_contracts(crate):
     return found
 
 
-def beyond_the_public(specs, crate, above):
+def beyond_the_public(crate, above):
     """What the crates above cite of a crate beside the words that its public contracts rest on."""
-    public, _ = specs.reached(starts(public_contracts(crate)))
+    public, _ = reached_from(starts(public_contracts(crate)))
     found = []
     for file in sorted(it for other in above for it in (ROOT / "crates" / other).glob("*/**/*.*t")):
         if file.suffix not in (".rt", ".antt") or {"out", "tests"} & {*file.relative_to(ROOT).parts}:
@@ -272,13 +257,7 @@ def clauses(lines):
         binders = re.findall(r"\(([^:()]+) :", head[head.index(name) + len(name) :])
         fields = re.sub(r"\bpub ", "", fields)
         return [squeezed(f"record {' '.join([name, *binders])} where {fields}")]
-    parts = []
-    for line in lines:
-        if line.startswith((" ", "}")):
-            parts[-1] += " " + line
-        else:
-            parts.append(line)
-    return [squeezed(part) for part in parts[1:]]
+    return [squeezed(part) for part in re.split(r"\n(?![ }])", "\n".join(lines))[1:]]
 
 
 def quotes():
@@ -312,13 +291,12 @@ def written(page, lines, sentences):
 def main():
     if sys.argv[1:] not in ([], ["--write"]):
         sys.exit(__doc__)
-    specs = Specs()
-    reached, outside = specs.reached(starts(STARTS))
-    closed = specs.reached(starts(CLOSED))[0] - reached
-    more = sum(len(specs.of(path)[0][name]) for path, name in closed)
+    reached, outside = reached_from(starts(STARTS))
+    closed = reached_from(starts(CLOSED))[0] - reached
+    more = sum(len(spec(path)[0][name]) for path, name in closed)
     counts, others = {}, {}
     for path in sorted({path for path, _ in reached}):
-        defined = specs.of(path)[0]
+        defined = spec(path)[0]
         name = str(path.relative_to(ROOT))
         counts[name] = sum(len(defined[item]) for other, item in reached if other == path)
         others[name] = [item for item in defined if (path, item) not in reached]
@@ -332,15 +310,12 @@ def main():
     ]
     page = PAGE.read_text()
     if sys.argv[1:]:
-        page = written(page, [*table, *(f"- `{line}`" for line in streams())], sentences)
+        page = written(page, table, sentences)
         PAGE.write_text(page)
     tests = {f"the page says '{sentence}'": sentence in page for sentence in sentences}
-    told = re.findall(r"^\| `.* \|$|^- `(?:Rattle|Prim)\..*$", page[page.index("## How much it is") :], re.M)
+    told = re.findall(r"^\| `.* \|$|^- `(?:Rattle\.|Prim\.|impl).*$", page[page.index("## How much it is") :], re.M)
     for row in sorted({*table, *told}):
         tests[f"'{row}' is a row of the page, and true"] = row in table and row in told
-    said = re.findall(r"^- `(impl.*)`$", page, re.M)
-    for line in sorted({*streams(), *said}):
-        tests[f"'{line}' stands on the page, and in the code"] = line in streams() and line in said
     for name, rest in others.items():
         tests[f"{name} holds what the contracts reach and nothing else, but also has {', '.join(rest)}"] = not rest
     every = {}
@@ -348,13 +323,12 @@ def main():
         for name, lines in blocks(path.read_text()).items():
             every.setdefault(name, []).append((path, clauses(lines)))
     for name, quoted in quotes().items():
-        found = [text for path, text in every.get(name, []) if (path, name) in reached | closed] or [
-            text for _, text in every.get(name, [])
-        ]
+        known = every.get(name, [])
+        found = [text for path, text in known if (path, name) in reached | closed] or [text for _, text in known]
         tests[f"the page quotes {name} as it stands in the specs"] = found == [quoted]
     ways = ways_to_flows()
     tests[f"flows are got at by {sorted(WAYS_TO_FLOWS)} alone, not by {sorted(ways)}"] = ways == WAYS_TO_FLOWS
-    beyond = beyond_the_public(specs, "flow_solve", ["flow_tools", "flow", "growths", "ferries"])
+    beyond = beyond_the_public("flow_solve", ["flow_tools", "flow", "growths", "ferries"])
     tests[f"of flow_solve no more is cited than its public contracts say, but also {', '.join(beyond)}"] = not beyond
     for test, holds in tests.items():
         if not holds:

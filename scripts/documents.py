@@ -13,7 +13,6 @@ alone is compared, with the repository's path shown as /path/to/flow, and they m
 take. Links to files of the repository must lead somewhere, and each file of the crates must stand on the page that
 tells what stands where, by its path. Each check that fails is told; the last line counts them.
 """
-
 import difflib
 import os
 import pathlib
@@ -24,31 +23,34 @@ import sys
 import tempfile
 
 REPOSITORY = pathlib.Path(__file__).resolve().parent.parent
-SHOWN_PATH = "/path/to/flow"
-SECONDS = 3600  # An install proves what it doesn't find proved.
+SECONDS = 600
 LIBRARY_PLACES = ("C_INCLUDE_PATH", "CPLUS_INCLUDE_PATH", "LIBRARY_PATH", "LD_LIBRARY_PATH")
 LAST_LINES = 40  # Of the errors of a command of the checkout that didn't print what is shown.
+counts = {True: 0, False: 0}
+
+
+def check(holds, *told):
+    """Counts a check, and tells of it where it fails."""
+    counts[bool(holds)] += 1
+    if not holds:
+        print("failed:", *told)
 
 
 def blocks(text):
     """The console blocks of a document: the line of each, whether it runs in the checkout, and its lines."""
-    found, inside = [], None
+    inside = None
     for number, line in enumerate(text.split("\n"), 1):
-        fence = re.match(r"```(.*)$", line)
-        if not fence:
-            if inside is not None:
-                inside.append(line)
-        elif inside is None and fence.group(1):
-            inside = []
-            if fence.group(1).split()[0] == "console":
-                found.append((number + 1, fence.group(1).split()[1:] == ["checkout"], inside))
+        if not line.startswith("```"):
+            if inside:
+                inside[2].append(line)
         elif inside is None:
-            inside = []
+            inside = number + 1, line.split()[1:] == ["checkout"], [], line.split()[0] == "```console"
         else:
+            if inside[3]:
+                yield inside[:3]
             inside = None
-    if inside is not None:
+    if inside:
         raise SystemExit("a block without an end")
-    return found
 
 
 def commands(lines, first):
@@ -69,31 +71,29 @@ def commands(lines, first):
     return [(number, "\n".join(text), "".join(f"{line}\n" for line in shown)) for number, text, shown in found]
 
 
+def changes():
+    """What git says has changed in the repository; nothing where there is no git."""
+    return subprocess.run("git status --porcelain", shell=True, cwd=REPOSITORY, capture_output=True, text=True).stdout
+
+
 def run(command, status, folder, environment, in_checkout):
     """Runs a command after one that ended with this status; answers its status, what it printed, and its errors."""
-    errors = subprocess.PIPE if in_checkout else subprocess.STDOUT
-    script = f"(exit {status})\n{command}\n"
+    before = changes() if in_checkout else ""
     try:
         done = subprocess.run(
-            ["bash", "-c", script], cwd=folder, env=environment, stdin=subprocess.DEVNULL, stdout=subprocess.PIPE,
-            stderr=errors, timeout=SECONDS, errors="replace")
+            ["bash", "-c", f"(exit {status})\n{command}\n"], cwd=REPOSITORY if in_checkout else folder, env=environment,
+            stdin=subprocess.DEVNULL, stdout=subprocess.PIPE, timeout=SECONDS, errors="replace",
+            stderr=subprocess.PIPE if in_checkout else subprocess.STDOUT)
     except subprocess.TimeoutExpired:
         return 1, f"no end after {SECONDS} seconds\n", ""
-    printed = done.stdout.replace(str(REPOSITORY), SHOWN_PATH) if in_checkout else done.stdout
+    printed = done.stdout.replace(str(REPOSITORY), "/path/to/flow") if in_checkout else done.stdout
+    if in_checkout and changes() != before:
+        printed += "and the repository isn't as it was\n"
     return done.returncode, printed, done.stderr or ""
 
 
-def changes():
-    """What git says has changed in the repository; nothing where there is no git."""
-    try:
-        done = subprocess.run(["git", "status", "--porcelain"], cwd=REPOSITORY, capture_output=True, text=True)
-    except FileNotFoundError:
-        return ""
-    return done.stdout
-
-
 def check_commands(document, scratch, flow, library):
-    """Runs the commands of a document; answers how many printed what is shown, and how many did not."""
+    """Runs the commands of a document."""
     folder, programs = scratch / "work", scratch / "bin"
     folder.mkdir()
     programs.mkdir()
@@ -101,24 +101,14 @@ def check_commands(document, scratch, flow, library):
     shutil.copytree(REPOSITORY / "examples", folder / "examples")
     environment = dict(os.environ, PATH=f"{programs}:{os.environ['PATH']}", LC_ALL="C", PYTHONDONTWRITEBYTECODE="1")
     environment.update({name: str(library) for name in LIBRARY_PLACES if library})
-    passed = failed = 0
     for first, in_checkout, lines in blocks(document.read_text()):
         status = 0
         for number, command, shown in commands(lines, first):
-            place = REPOSITORY if in_checkout else folder
-            before = changes() if in_checkout else ""
-            status, printed, errors = run(command, status, place, environment, in_checkout)
-            if in_checkout and changes() != before:
-                printed += "and the repository isn't as it was\n"
-            if printed == shown:
-                passed += 1
-                continue
-            failed += 1
-            print(f"failed: {document.relative_to(REPOSITORY)} line {number}: {command}")
-            print("".join(difflib.unified_diff(
-                shown.splitlines(True), printed.splitlines(True), "shown", f"printed, status {status}")))
-            print("".join(errors.splitlines(True)[-LAST_LINES:]), end="")
-    return passed, failed
+            status, printed, errors = run(command, status, folder, environment, in_checkout)
+            differences = "".join(difflib.unified_diff(
+                shown.splitlines(True), printed.splitlines(True), "shown", f"printed, status {status}"))
+            check(printed == shown, f"{document.relative_to(REPOSITORY)} line {number}: {command}\n{differences}",
+                  *errors.splitlines(True)[-LAST_LINES:])
 
 
 def places(document):
@@ -128,18 +118,11 @@ def places(document):
 
 
 def check_links(document):
-    """Looks for what a document links to or shows; answers how many of these are there, and how many are not."""
-    passed = failed = 0
-    for name, place in re.findall(r"\]\(([^)#\s]*)(?:#([^)\s]*))?\)", document.read_text()):
-        if re.match(r"[a-z]+:", name):
-            continue
+    """Looks for what a document links to or shows."""
+    for name, place in re.findall(r"\]\((?![a-z]+:)([^)#\s]*)(?:#([^)\s]*))?\)", document.read_text()):
         target = document.parent / name if name else document
-        if target.exists() and (not place or place in places(target)):
-            passed += 1
-        else:
-            failed += 1
-            print(f"failed: {document.relative_to(REPOSITORY)} links to {name}#{place}, which isn't there")
-    return passed, failed
+        check(target.exists() and (not place or place in places(target)),
+              f"{document.relative_to(REPOSITORY)} links to {name}#{place}, which isn't there")
 
 
 def sections(document):
@@ -154,31 +137,25 @@ def declares_alone(file):
 
 
 def check_names():
-    """Looks for the crates' files on the pages that tell what stands where; answers how many are there and aren't.
+    """Looks for the crates' files on the page that tells what stands where.
 
     The part of docs/ARCHITECTURE.md on a crate names each file of its src/ and specs/ by the path within the crate,
-    and a lemma file has a row in docs/PROOFS.md. Tests are named where they are declared, and so are the files of a
-    folder of specs/ or proofs/.
+    and the first line of a lemma file says what it is about. Tests are named where they are declared, and so are the
+    files of a folder of specs/ or proofs/.
     """
     parts = sections(REPOSITORY / "docs/ARCHITECTURE.md")
-    rows = re.findall(r"^\| ([^|]*) \|", (REPOSITORY / "docs/PROOFS.md").read_text(), re.M)
-    lemmas = {name for row in rows for name in re.findall(r"`(\w+)`", row)}
-    wanted = [(file, "ARCHITECTURE") for kind in ("src/**/*.rt", "specs/**/*.antt")
-              for file in REPOSITORY.glob(f"crates/*/{kind}")]
-    wanted += [(file, "PROOFS") for file in REPOSITORY.glob("crates/*/proofs/**/*.antt")
-               if file.stem not in ("Answers", "Invariants", "Proof")]
-    wanted = [(file, page) for file, page in wanted if not declares_alone(file)]
-    passed = failed = 0
-    for file, page in sorted(wanted):
+    for file in sorted(file for kind in ("src/**/*.rt", "specs/**/*.antt", "proofs/**/*.antt")
+                       for file in REPOSITORY.glob(f"crates/*/{kind}")):
         crate, *path = file.relative_to(REPOSITORY / "crates").parts
-        if file.stem in ("Lib", "lib") or {"tests", "test"} & set("_".join([*path[1:-1], file.stem]).split("_")):
+        is_test = {"tests", "test"} & set("_".join([*path[1:-1], file.stem]).split("_"))
+        has_goals_alone = path[0] == "proofs" and file.stem in ("Answers", "Invariants", "Proof")
+        if is_test or has_goals_alone or file.stem in ("Lib", "lib") or declares_alone(file):
             continue
-        if file.stem in lemmas if page == "PROOFS" else f"`{'/'.join(path)}`" in parts.get(crate, ""):
-            passed += 1
+        if path[0] == "proofs":
+            check(file.read_text().startswith("-- "), f"{'/'.join([crate, *path])} doesn't begin with what it is about")
         else:
-            failed += 1
-            print(f"failed: {file.relative_to(REPOSITORY)} is not named in docs/{page}.md")
-    return passed, failed
+            check(f"`{'/'.join(path)}`" in parts.get(crate, ""),
+                  f"{'/'.join([crate, *path])} is not named in docs/ARCHITECTURE.md")
 
 
 def main():
@@ -187,19 +164,15 @@ def main():
     if not words or not os.access(words[0], os.X_OK):
         sys.exit(__doc__)
     flow, *named = (pathlib.Path(name).resolve() for name in words)
-    documents = named or [REPOSITORY / "README.md", REPOSITORY / "CONTRIBUTING.md"]
-    if not named:
-        documents += sorted((REPOSITORY / "docs").glob("*.md"))
-    passed = failed = 0
-    for document in documents:
+    for document in named or [*(REPOSITORY / name for name in ("README.md", "CONTRIBUTING.md")),
+                              *sorted((REPOSITORY / "docs").glob("*.md"))]:
         with tempfile.TemporaryDirectory() as scratch:
-            counts = [check_commands(document, pathlib.Path(scratch), flow, library), check_links(document)]
-        passed += sum(count[0] for count in counts)
-        failed += sum(count[1] for count in counts)
+            check_commands(document, pathlib.Path(scratch), flow, library)
+        check_links(document)
     if not named:
-        passed, failed = map(sum, zip((passed, failed), check_names()))
-    print(f"documents: {passed} passed, {failed} failed")
-    return 1 if failed else 0
+        check_names()
+    print(f"documents: {counts[True]} passed, {counts[False]} failed")
+    return 1 if counts[False] else 0
 
 
 if __name__ == "__main__":

@@ -1,252 +1,187 @@
 #!/usr/bin/env python3
-"""Writes what follows from the program's help: from_help.py FLOW
+"""Writes what follows from the program's help, or compares it: from_help.py FLOW [--check]
 
-These are the completions for bash, zsh and fish, and in the manual page the synopsis and the options of the commands.
-FLOW is the program that was built. `scripts/pages.py` sees that the files are what this writes, and asks the shells
-what they offer.
+FLOW is the program that was built. In man/flow.1 these are the version, the synopsis, the commands, the options and the
+statuses; in completions/ the commands and options of bash, zsh and fish. All else in these files is written by hand.
+With --check nothing is written: a file that differs is a failure. Then bash and fish have to offer just the commands
+and options of the help, zsh has to read its file, and man has to typeset the page without a warning, as far as these
+are installed. The last line is then 'pages: N passed, M failed'.
 """
 import re
+import shlex
+import shutil
 import subprocess
 import sys
 from pathlib import Path
+from types import SimpleNamespace
 
 TOP = Path(__file__).resolve().parent.parent
-PAGE = TOP / 'man' / 'flow.1'
-
-BASH = '''\
-# Completion of flow's command lines for bash. It is loaded by bash-completion from
-# /usr/share/bash-completion/completions/flow, or by a line 'source flow.bash' in ~/.bashrc.
-# Written by scripts/from_help.py.
-
-_flow() {
-  local word=${COMP_WORDS[COMP_CWORD]}
-  local command=
-  local -i at
-  for ((at = 1; at < COMP_CWORD; at++)); do
-    case ${COMP_WORDS[at]} in
-      -*) ;;
-      *) command=${COMP_WORDS[at]}; break ;;
-    esac
-  done
-
-  local flags=
-  case $command in
-@FLAGS@  esac
-
-  COMPREPLY=()
-  if [[ $word == -* ]]; then
-    mapfile -t COMPREPLY < <(compgen -W "$flags" -- "$word")
-  elif [[ -z $command ]]; then
-    mapfile -t COMPREPLY < <(compgen -W '@COMMANDS@ help' -- "$word")
-  elif [[ $command == help ]]; then
-    mapfile -t COMPREPLY < <(compgen -W '@COMMANDS@' -- "$word")
-  else
-    compopt -o filenames 2> /dev/null
-    mapfile -t COMPREPLY < <(compgen -f -- "$word")
-  fi
-}
-
-complete -F _flow flow
-'''
-
-ZSH = '''\
-#compdef flow
-# Completion of flow's command lines for zsh. It belongs into a folder of $fpath, as
-# /usr/share/zsh/vendor-completions, under the name _flow.
-# Written by scripts/from_help.py.
-
-_flow() {
-  local context state state_descr line
-  typeset -A opt_args
-
-  _arguments -C \\
-@TOP@    '1:command:->command' \\
-    '*::argument:->argument'
-
-  case $state in
-    command)
-      local -a commands=(
-@DESCRIBED@      )
-      _describe -t commands command commands
-      ;;
-    argument)
-      case $words[1] in
-@ARGUMENTS@        help)
-          _arguments '1:command:(@COMMANDS@)'
-          ;;
-      esac
-      ;;
-  esac
-}
-
-_flow "$@"
-'''
-
-FISH = '''\
-# Completion of flow's command lines for fish. It belongs into /usr/share/fish/vendor_completions.d or
-# ~/.config/fish/completions, under the name flow.fish.
-# Written by scripts/from_help.py.
-
-# No files before a command is named; a problem or a solution may be any file.
-complete -c flow -n __fish_use_subcommand -f
-@LINES@complete -c flow -n '__fish_seen_subcommand_from help' -f -a '@COMMANDS@'
-'''
 
 
-def said(*words, **named):
+def said(*words):
     """What a program prints, standard error too."""
-    done = subprocess.run(words, stdout=subprocess.PIPE, stderr=subprocess.STDOUT, text=True, timeout=60, **named)
-    return done.stdout
+    return subprocess.run(words, stdout=subprocess.PIPE, stderr=subprocess.STDOUT, text=True, timeout=60).stdout
 
 
-class Help:
-    """What one help text says: commands, options in order, operands, lines of output and statuses."""
-
-    def __init__(self, text):
-        block = {'': []}
-        name = ''
-        for line in text.splitlines():
-            heading = re.fullmatch(r'([A-Z][A-Za-z ]*):', line)
-            if heading:
-                name = heading[1]
-                block[name] = []
-            else:
-                block[name].append(line)
-        head = '\n'.join(block[''])
-        self.commands = dict(re.findall(r'^  (\w+)  +(\S.*)', '\n'.join(block.get('Commands', [])), re.M))
-        self.options, self.meanings = [], {}
-        for line in block.get('Options', []):
-            option = re.fullmatch(r' +(?:(-\w), )?(--[\w-]+)(?:  +(\S.*))?', line)
-            if option:
-                self.options.append((option[1] or '', option[2]))
-                self.meanings[option[2]] = option[3] or ''
-            elif line.strip() and not self.meanings[self.options[-1][1]]:
-                self.meanings[self.options[-1][1]] = line.strip()
-        usage = re.search(r'^Usage: \S+ ?(.*)$', head, re.M)
-        words = usage[1].replace('<', '').replace('>', '').split() if usage else []
-        self.operands = [word for word in words[1:] if word != '[OPTIONS]']
-        self.lines = re.findall(r'^  ([a-z-]+(?: [A-Z]+)+)  +\S', head, re.M)
-        self.statuses = {}
-        last = None
-        for line in block.get('Exit status', []):
-            status = re.fullmatch(r'  (\d)  (\S.*)', line)
-            if status:
-                last = status[1]
-                self.statuses[last] = status[2]
-            elif line.startswith('     ') and last:
-                self.statuses[last] += ' ' + line.strip()
-            elif not line.strip():
-                last = None
-
-    def long(self):
-        return [long for _, long in self.options]
+def parsed(text):
+    """What a help tells: its head, and its commands, options (short, long, meaning), operands and statuses."""
+    head, *rest = re.split(r'^([A-Z][A-Za-z ]*):\n', text, flags=re.M)
+    block = dict(zip(rest[::2], rest[1::2]))
+    return SimpleNamespace(
+        head=re.split(r'^(?:Example|Usage)', head, flags=re.M)[0].strip('\n').splitlines(),
+        commands=dict(re.findall(r'^  (\w+)  +(\S.*)', block.get('Commands', ''), re.M)),
+        options=re.findall(r'^ +(?:(-\w), )?(--[\w-]+)\s+(\S.*)', block['Options'], re.M),
+        operands=re.findall(r'(?<=<)\w+|\[(?!OPTIONS|COMMAND)\w+\]', head.split('Usage:')[1]),
+        statuses=re.findall(r'^  (\d)  (\S.*)', block['Exit status'], re.M))
 
 
 def helps_of(program):
-    """The help of the program, and the short ones of its commands by their names."""
-    main = Help(said(program, '--help'))
-    helps = {name: Help(said(program, name, '-h')) for name in main.commands if name != 'help'}
+    """The help of the program, and those of its commands by their names."""
+    main = parsed(said(program, '--help'))
+    helps = {name: parsed(said(program, name, '--help')) for name in main.commands if name != 'help'}
     for known in helps.values():
-        known.meanings['--help'] = main.meanings['--help']
+        known.options[-1] = main.options[0] # that of --help
     return main, helps
+
+
+def plain(text):
+    """A text in the source of the manual page."""
+    return text.replace('\\', '\\e').replace('-', '\\-')
+
+
+def typeset(lines):
+    """The head of a help in the source of the manual page: a line of output and its meaning make a paragraph."""
+    found, is_output = [], False
+    for line in lines:
+        output = re.fullmatch(r'  ([a-z-]+)((?: [A-Z]+)+)  +(\S.*)', line)
+        if output:
+            found += ['.TP', f'.BI {plain(output[1])} "{output[2]}"', plain(output[3])]
+        else:
+            found += ['.PP'] * (is_output and not line.startswith(' ')) + [plain(line.strip())]
+        is_output = bool(output) or is_output and line.startswith(' ')
+    return found
+
+
+def manual(page, version, main, helps):
+    """The manual page, its parts written as the helps tell."""
+    synopsis, commands = [], []
+    for name, known in helps.items():
+        flags = [f'.RB [ {plain(long)} ]' for short, long, _ in known.options if not short]
+        operands = [f'.RI [ {word[1:-1]} ]' if word.startswith('[') else f'.I {word}' for word in known.operands]
+        synopsis += [f'.B flow {name}', *flags, *operands, '.br']
+        commands += [f'.SS {name}', *typeset(known.head), '.PP', 'Options:']
+        commands += [line for short, long, meaning in known.options if not short
+                     for line in ('.TP', f'.B {plain(long)}', plain(meaning))]
+    commands += ['.SS help', plain(main.commands['help'])]
+    options = [line for short, long, meaning in main.options
+               for line in ('.TP', f'.BR {plain(short)} ", " {plain(long)}', plain(meaning))]
+    statuses = [line for status, meaning in main.statuses for line in ('.TP', f'.B {status}', plain(meaning))]
+    for name, lines, end in (('SYNOPSIS', [*synopsis, '.B flow help', '.RI [ COMMAND ]'], r'\.SH'),
+                             ('COMMANDS', commands, r'\.SH'), ('OPTIONS', options, r'\.SH'),
+                             ('EXIT STATUS', statuses, r'\.PP')):
+        page = between(page, rf'\.SH {name}\n', ''.join(f'{line}\n' for line in lines), end)
+    return re.sub(r'"flow [0-9.]+"', f'"flow {version}"', page)
+
+
+def between(text, begin, new, end):
+    """A text with what stands between two others on lines of their own written anew."""
+    return re.sub(rf'(?ms)(^ *{begin}).*?(?=^ *{end})', lambda found: found[1] + new, text)
 
 
 def quoted(text):
     return f'"{text}"' if "'" in text else f"'{text}'"
 
 
-def bash_file(main, helps):
-    flags = [f"    {name or quoted('')}) flags='{' '.join(known.long())}' ;;\n"
-             for name, known in {'': main, **helps}.items()]
-    return BASH.replace('@FLAGS@', ''.join(flags)).replace('@COMMANDS@', ' '.join(helps))
+def bash(text, main, helps):
+    """The completion of bash."""
+    flags = ''.join(f"    {name or quoted('')}) flags='{' '.join(long for _, long, _ in known.options)}' ;;\n"
+                    for name, known in {'': main, **helps}.items())
+    text = re.sub(r"(?<=-W ')[a-z ]+?(?= help'|')", ' '.join(helps), text)
+    return between(text, r'case \$command in\n', flags, 'esac')
 
 
-def zsh_option(known, short, long, room):
-    """A line of the file for zsh; what has a short form too says all that there is to say."""
-    words = f"'(- *)'{{{short},{long}}}" + quoted(f'[{known.meanings[long]}]') if short else \
-        quoted(f'{long}[{known.meanings[long]}]')
-    return f'{room}{words} \\\n'
+def zsh_options(known, room):
+    """The lines that tell zsh the options of a command; what has a short form too says all that there is to say."""
+    return ''.join(room + (f"'(- *)'{{{short},{long}}}{quoted(f'[{meaning}]')}" if short else
+                           quoted(f'{long}[{meaning}]')) + ' \\\n' for short, long, meaning in known.options)
 
 
-def zsh_file(main, helps):
-    top = [zsh_option(main, short, long, ' ' * 4) for short, long in main.options]
-    described = [f"        {quoted(f'{name}:{meaning}')}\n" for name, meaning in main.commands.items()]
-    arguments = []
+def zsh(text, main, helps):
+    """The completion of zsh."""
+    arguments = ''
     for name, known in helps.items():
-        rows = [zsh_option(known, short, long, ' ' * 12) for short, long in known.options]
-        files = [f"{' ' * 12}'{place}:{operand.strip('[]').lower()}:_files'"
-                 for place, operand in enumerate(known.operands, 1)]
-        last = ' \\\n'.join(files) + '\n'
-        arguments.append(f'        {name})\n          _arguments \\\n{"".join(rows)}{last}          ;;\n')
-    filled = ZSH.replace('@TOP@', ''.join(top)).replace('@DESCRIBED@', ''.join(described))
-    return filled.replace('@ARGUMENTS@', ''.join(arguments)).replace('@COMMANDS@', ' '.join(helps))
+        files = ' \\\n'.join(f"{' ' * 12}'{place}:{operand.strip('[]').lower()}:_files'"
+                             for place, operand in enumerate(known.operands, 1))
+        arguments += f'        {name})\n          _arguments \\\n{zsh_options(known, " " * 12)}{files}\n          ;;\n'
+    described = ''.join(f"        {quoted(f'{name}:{meaning}')}\n" for name, meaning in main.commands.items())
+    text = between(text, r'_arguments -C \\\n', zsh_options(main, '    '), "'1:command")
+    text = between(text, r'local -a commands=\(\n', described, r'\)')
+    text = between(text, r'case \$words\[1\] in\n', arguments, r'help\)')
+    return re.sub(r"(?<='1:command:\()[a-z ]+", ' '.join(helps), text)
 
 
-def fish_line(condition, short, long, meaning):
-    """A line of the file for fish."""
-    letter = f" -s {short.lstrip('-')}" if short else ''
-    return f"complete -c flow -n {condition}{letter} -l {long.lstrip('-')} -d {quoted(meaning)}\n"
-
-
-def fish_file(main, helps):
-    lines = []
-    for short, long in main.options:
-        where = "'not __fish_seen_subcommand_from help'" if long == '--help' else '__fish_use_subcommand'
-        lines.append(fish_line(where, short, long, main.meanings[long]))
-    lines.append('\n')
+def fish(text, main, helps):
+    """The completion of fish."""
+    rows = [("'not __fish_seen_subcommand_from help'" if long == '--help' else '__fish_use_subcommand', option)
+            for option in main.options for long in option[1:2]]
+    rows += [(f"'__fish_seen_subcommand_from {name}'", option) for name, known in helps.items()
+             for option in known.options if option[1] != '--help']
+    lines = [f"complete -c flow -n {where}{f' -s {short[1:]}' if short else ''} -l {long[2:]} -d {quoted(meaning)}\n"
+             for where, (short, long, meaning) in rows]
     lines += [f'complete -c flow -n __fish_use_subcommand -a {name} -d {quoted(meaning)}\n'
               for name, meaning in main.commands.items()]
+    lines.append(f"complete -c flow -n '__fish_seen_subcommand_from help' -f -a '{' '.join(helps)}'\n")
+    return text[:text.index('complete')] + 'complete -c flow -n __fish_use_subcommand -f\n' + ''.join(lines)
+
+
+def offered(line):
+    """What bash offers at the end of the line, and where it is installed what fish does."""
+    file, words = (shlex.quote(str(TOP / 'completions/flow')), shlex.join(line.split(' ')))
+    script = (f'source {file}.bash; COMP_WORDS=({words}); COMP_CWORD=$((${{#COMP_WORDS[@]}} - 1)); _flow; '
+              'printf "%s\\n" "${COMPREPLY[@]}"')
+    yield 'bash', said('bash', '--norc', '--noprofile', '-c', script).split()
+    if shutil.which('fish'):
+        lines = said('fish', '--no-config', '-c', f'source {file}.fish; complete -C {shlex.quote(line)}').splitlines()
+        yield 'fish', [offer.split('\t')[0] for offer in lines]
+
+
+def shells(main, helps):
+    """What the shells and man say of the files: pairs of what is tested and whether it holds."""
+    offers = {'flow ': sorted(main.commands), 'flow help ': sorted(helps)}
+    offers.update({' '.join(['flow', *name, '--']): sorted(long for _, long, _ in known.options)
+                   for name, known in [((), main), *(((name,), known) for name, known in helps.items())]})
+    for line, wanted in offers.items():
+        yield from ((f'{shell} at the end of {line!r}', sorted(found) == wanted) for shell, found in offered(line))
+    if shutil.which('zsh'):
+        yield 'zsh reads its file', said('zsh', '-n', str(TOP / 'completions/_flow')) == ''
+    if shutil.which('man') and shutil.which('groff'):
+        words = f'man --warnings -E UTF-8 -l {shlex.quote(str(TOP / "man/flow.1"))} 2>&1 > /dev/null'
+        yield 'man has no warning', said('bash', '-c', words) == ''
     for name, known in helps.items():
-        lines.append('\n')
-        lines += [fish_line(f"'__fish_seen_subcommand_from {name}'", short, long, known.meanings[long])
-                  for short, long in known.options if long != '--help']
-    return FISH.replace('@LINES@', ''.join(lines) + '\n').replace('@COMMANDS@', ' '.join(helps))
-
-
-def typeset(text):
-    """A text in the source of the manual page, a word with its parameters on a line of its own."""
-    parts = re.split(r'(?<!\S)([a-z-]+)((?: [A-Z]{2,})+)(?!\S)', text.replace('-', '\\-'))
-    lines = []
-    for place in range(0, len(parts), 3):
-        lines += [parts[place].strip()] if parts[place].strip() else []
-        lines += [f'.BI {parts[place + 1]} "{parts[place + 2]}"'] if place + 1 < len(parts) else []
-    return '\n'.join(lines) + ('\n' if lines[-1].startswith('.') else '.\n')
-
-
-def synopsis(helps):
-    """The lines of the manual page's synopsis."""
-    lines = []
-    for name, known in helps.items():
-        flags = [f'.RB [ {typeset(long)[:-2]} ]' for short, long in known.options if not short]
-        operands = [f'.RI [ {word[1:-1]} ]' if word.startswith('[') else f'.I {word}' for word in known.operands]
-        lines += [f'.B flow {name}', *flags, *operands, '.br']
-    return '\n'.join([*lines, '.B flow help', '.RI [ COMMAND ]']) + '\n'
-
-
-def manual_page(main, helps):
-    """The manual page, with its synopsis and the options of its commands as the helps say."""
-    page = re.sub(r'(?<=^\.SH SYNOPSIS\n).*?(?=^\.SH)', lambda _: synopsis(helps), PAGE.read_text(), flags=re.M | re.S)
-    for name, known in helps.items():
-        options = [f'.TP\n.B {typeset(long)[:-2]}\n{typeset(known.meanings[long])}'
-                   for short, long in known.options if not short]
-        lead = 'It takes the option:\n' if len(options) == 1 else 'The options are:\n'
-        page = re.sub(rf'(^\.SS {name}\n(?:(?!\.S).*\n)*?).*\n(?:\.TP\n\.B \\-\\-.*\n(?:(?!\.TP|\.S).*\n)+)+',
-                      lambda found: found[1] + lead + ''.join(options), page, flags=re.M)
-    return page
-
-
-# The files, and what makes the text of each.
-FILES = {'completions/flow.bash': bash_file, 'completions/_flow': zsh_file, 'completions/flow.fish': fish_file,
-         'man/flow.1': manual_page}
+        yield f'only check has status 1, and {name} all others', [status for status, _ in known.statuses] == [
+            status for status, _ in main.statuses if status != '1' or name == 'check']
 
 
 def main():
-    if len(sys.argv) != 2:
+    if sys.argv[2:] not in ([], ['--check']) or len(sys.argv) < 2:
         sys.exit(__doc__)
-    helps = helps_of(str(Path(sys.argv[1]).resolve()))
-    for name, make in FILES.items():
-        (TOP / name).write_text(make(*helps))
+    program = str(Path(sys.argv[1]).resolve())
+    known = helps_of(program)
+    version = said(program, '--version').split()[-1]
+    files = {'man/flow.1': lambda text, *known: manual(text, version, *known), 'completions/flow.bash': bash,
+             'completions/_flow': zsh, 'completions/flow.fish': fish}
+    texts = {name: make((TOP / name).read_text(), *known) for name, make in files.items()}
+    if not sys.argv[2:]:
+        for name, text in texts.items():
+            (TOP / name).write_text(text)
+        return 0
+    tests = [(f'{name} is what scripts/from_help.py writes', (TOP / name).read_text() == text)
+             for name, text in texts.items()] + [*shells(*known)]
+    failed = [what for what, holds in tests if not holds]
+    print(*(f'pages: not so: {what}\n' for what in failed), sep='', end='')
+    print(f'pages: {len(tests) - len(failed)} passed, {len(failed)} failed')
+    return 1 if failed else 0
 
 
 if __name__ == '__main__':
-    main()
+    sys.exit(main())

@@ -149,7 +149,6 @@ def refused_growths(folder):
     in_order, in_order_solved = chain(1)
     scattered, scattered_solved = chain(257)
     near, near_scattered = circle(600, (1, 2), 1), circle(600, (1, 2), 257)
-    far, far_scattered = circle(2000, (1, 37, 411, 703), 1), circle(2000, (1, 37, 411, 703), 2971)
     made = {}
     jobs = [
         (["solve"], in_order, (0, in_order_solved, b"")),
@@ -163,8 +162,6 @@ def refused_growths(folder):
         (["connect", "--pair"], scattered, (0, b"k 1\n", b"")),
         (["connect", "--undirected"], near, (0, b"k 4\n", b"")),
         (["connect", "--undirected"], near_scattered, (0, b"k 4\n", b"")),
-        (["connect", "--undirected"], far, (0, b"k 8\n", b"")),
-        (["connect", "--undirected"], far_scattered, (0, b"k 8\n", b"")),
         (["check", net], SOLUTION, (0, b"optimal 5\n", b"")),
         (["solve"], TOO_FEW_ARCS, (3, b"", b"flow: line 5: too few arcs\n")),
     ]
@@ -182,18 +179,13 @@ def refused_growths(folder):
             check(f"{words} with request {nth} refused", holds, answer)
         answer = run_refused(folder, words, stdin, "all")[1]
         check(f"{words} with every request refused", answer == (4, b"", OUT_OF_MEMORY), answer)
-    # A file whose arcs come in no order is arranged, for which it takes two lists of nodes and two of arcs.
+    # A file whose arcs come in no order is solved in a copy: lists of its arcs, their spots, the names of the nodes and
+    # either terminals, and of the flows that are read from it.
     more = made["solve", scattered] - made["solve", in_order]
-    check("a file in no order asks for four lists more", more == 4, more)
-    # For its connectivity it is arranged in cells of their own, which are free again before a solver asks for its own.
-    more = made["connect", scattered] - made["connect", in_order]
-    check("a file in no order asks for four lists and cells more", more == 5, more)
-    # Before that the arcs at each node are counted, in one row, and then the nodes that links lead to; where they lead
-    # anywhere it stays as it is.
+    check("a file in no order asks for six lists more", more == 6, more)
+    # For its connectivity it is taken as it comes.
     more = made["connect", near_scattered] - made["connect", near]
-    check("a scattered file with short links asks for four lists, cells and two counts more", more == 7, more)
-    more = made["connect", far_scattered] - made["connect", far]
-    check("a scattered file with links that lead anywhere asks for two counts more", more == 2, more)
+    check("connect asks for no more of a file in no order", more == 0, more)
 
 
 def refused_calls(folder):

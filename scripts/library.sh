@@ -1,7 +1,8 @@
 #!/usr/bin/env bash
 # Makes the library for C and C++ and puts it into a folder with its header: library.sh DIR [ARCHIVE]
-# DIR gets libprovedflow.so.0 with the link libprovedflow.so, libprovedflow.a and provedflow.h. ARCHIVE is what was
-# built of the crate flow_c; where none is handed in, it is proved and built, unless nothing has changed since it was.
+# DIR gets libprovedflow.so.0 with the link libprovedflow.so, libprovedflow.a, the headers for C and C++, and a file by
+# which CMake finds them. ARCHIVE is what was built of the crate flow_c; where none is handed in, scripts/build.sh proves
+# and builds it.
 # To its code comes the kit's heap, which calls malloc, realloc and free, and nothing else: there is no C of ours in the
 # library. It needs the C library alone, its code may lie anywhere in memory, and of its names only provedflow_* can be
 # seen from outside. Progress goes to standard error. The one line of standard output is the path of the shared library.
@@ -10,24 +11,18 @@ if [ $# -lt 1 ] || [ $# -gt 2 ]; then
   echo "usage: bash scripts/library.sh DIR [ARCHIVE]" >&2
   exit 2
 fi
-if ! command -v rt > /dev/null; then
-  echo "the Rattle kit's command rt is not on the PATH; CONTRIBUTING.md tells what the kit is" >&2
-  exit 1
+scripts=$(cd "$(dirname "$0")" && pwd)
+if [ $# -eq 1 ]; then
+  bash "$scripts/build.sh" flow_c
 fi
+archive=$(realpath "${2:-$scripts/../crates/flow_c/out/libflow_c.a}")
 mkdir -p "$1"
 folder=$(cd "$1" && pwd)
-archive=$(if [ $# -eq 2 ]; then realpath "$2"; fi)
-cd "$(dirname "$0")/.."
+cd "$scripts/.."
 scratch=$(mktemp -d)
 trap 'rm -rf "$scratch"' EXIT
 
 kit=$(dirname "$(rt doc)")
-
-if [ -z "$archive" ]; then
-  archive=crates/flow_c/out/libflow_c.a
-  bash scripts/prove.sh flow_c
-  archive=$PWD/$archive
-fi
 
 # One object of it all, in which every other name than those of the exports is local.
 heap=$kit/c/liblibc_c.a
@@ -56,6 +51,7 @@ for nm in "nm -D $scratch/libprovedflow.so.0" "nm -g $scratch/provedflow.o"; do
   fi
 done
 
-install -m 644 "$scratch/libprovedflow.so.0" "$scratch/libprovedflow.a" c/provedflow.h "$folder"
+install -m 644 "$scratch/libprovedflow.so.0" "$scratch/libprovedflow.a" c/provedflow.h c/provedflow.hpp \
+  c/provedflow-config.cmake "$folder"
 ln -sf libprovedflow.so.0 "$folder/libprovedflow.so"
 echo "$folder/libprovedflow.so.0"

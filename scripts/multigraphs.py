@@ -117,55 +117,38 @@ def small(rand):
     return nodes, arcs
 
 
-def ring(rand, size, links):
-    return [(i, (i + 1) % size) for i in range(size) for _ in range((links + 1) // 2)]
-
-
-def complete(rand, size, links):
-    return [(i, j) for i in range(min(size, 24)) for j in range(i)] + [(i, i - 1) for i in range(24, size)
-                                                                       for _ in range(links)]
-
-
-def circulant(rand, size, links):
-    return [(i, (i + step) % size) for i in range(size) for step in range(1, links // 2 + 2)]
-
-
-def permutations(rand, size, links):
-    arcs = []
-    for _ in range((links + 1) // 2):
-        arcs += zip(range(size), rand.sample(range(size), size))
-    return arcs + ring(rand, size, 1)
-
-
-def lattice(rand, size, links):
-    width = max(2, int(size ** .5))
-    steps = (1, width) if links < 5 else (1, width, width + 1)
+def wheel(size, steps):
     return [(i, (i + step) % size) for i in range(size) for step in steps]
 
 
-def tree(rand, size, links):
-    return [(i, max(0, i - rand.randint(1, 8))) for i in range(1, size) for _ in range(links)]
-
-
-def hubs(rand, size, links):
-    most = max(1, size // 10)
-    return [(i, (i + rand.randrange(most)) % most) for i in range(most, size) for _ in range(links)] + ring(
-        rand, most, links)
-
-
-PARTS = (ring, complete, circulant, permutations, lattice, tree, hubs)
+# The links of a part by its shape, of so many nodes, where each is to have about so many links.
+PARTS = {
+    "ring": lambda rand, size, links: wheel(size, [1] * ((links + 1) // 2)),
+    "complete": lambda rand, size, links: [(i, j) for i in range(min(size, 24)) for j in range(i)] + [
+        (i, i - 1) for i in range(24, size) for _ in range(links)],
+    "circulant": lambda rand, size, links: wheel(size, range(1, links // 2 + 2)),
+    "permutations": lambda rand, size, links: wheel(size, [1]) + [
+        pair for _ in range((links + 1) // 2) for pair in zip(range(size), rand.sample(range(size), size))],
+    "lattice": lambda rand, size, links: wheel(size, (1, int(size ** .5), int(size ** .5) + 1)[:2 + (links > 4)]),
+    "tree": lambda rand, size, links: [(i, max(0, i - rand.randint(1, 8))) for i in range(1, size)
+                                       for _ in range(links)],
+    "hubs": lambda rand, size, links: wheel(max(1, size // 10), [1] * links) + [
+        (i, (i + rand.randrange(size)) % max(1, size // 10)) for i in range(max(1, size // 10), size)
+        for _ in range(links)],
+}
 
 
 def composed_links(rand, first, size, links, depth):
     """The links of a network of the nodes from `first` on: of one shape, or of parts that few links join."""
     if size <= 6 or depth == 0 or rand.random() < .1:
-        return [(first + i, first + j) for i, j in rand.choice(PARTS)(rand, size, links) if i != j or links > 4]
+        part = rand.choice([*PARTS.values()])(rand, size, links)
+        return [(first + i, first + j) for i, j in part if i != j or links > 4]
     parts = min(rand.randint(2, rand.choice((8, 30))), size // 2)
     starts = [first + size * part // parts for part in range(parts)] + [first + size]
     found = []
     for start, end in zip(starts, starts[1:]):
         found += composed_links(rand, start, end - start, links, depth - 1)
-    shape = rand.choice((ring, circulant, lattice, tree))(rand, parts, links)
+    shape = PARTS[rand.choice(("ring", "circulant", "lattice", "tree"))](rand, parts, links)
     return found + [(rand.randrange(starts[i], starts[i + 1]), rand.randrange(starts[j], starts[j + 1]))
                     for i, j in shape]
 

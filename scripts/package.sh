@@ -70,26 +70,15 @@ put_copyright() {
 pack() {
   local package=$folder/$1_${version}_$2.deb
   put_copyright "$1"
-  {
-    echo "$1 ($version) unstable; urgency=medium"
-    echo
-    echo '  * What changed stands in NEWS.md of the package flow.'
-    echo
-    echo " -- $maintainer  $(date -R -u -d "@$SOURCE_DATE_EPOCH")"
-  } > "$scratch/changelog"
+  printf '%s\n\n' "$1 ($version) unstable; urgency=medium" '  * What changed stands in NEWS.md of the package flow.' \
+    > "$scratch/changelog"
+  echo " -- $maintainer  $(date -R -u -d "@$SOURCE_DATE_EPOCH")" >> "$scratch/changelog"
   put 644 "$scratch/changelog" "usr/share/doc/$1/changelog"
   find "$root/usr/share" \( -path '*/man/*' -o -name changelog -o -name NEWS.md \) -type f -print0 | xargs -0 gzip -9 -n
   mkdir "$root/DEBIAN"
-  {
-    echo "Package: $1"
-    echo "Version: $version"
-    echo "Architecture: $2"
-    echo "Maintainer: $maintainer"
-    echo "Installed-Size: $(du -k -s "$root/usr" | cut -f 1)"
-    echo "Section: $3"
-    echo 'Priority: optional'
-    cat
-  } > "$root/DEBIAN/control"
+  printf '%s\n' "Package: $1" "Version: $version" "Architecture: $2" "Maintainer: $maintainer" \
+    "Installed-Size: $(du -k -s "$root/usr" | cut -f 1)" "Section: $3" 'Priority: optional' > "$root/DEBIAN/control"
+  cat >> "$root/DEBIAN/control"
   (cd "$root" && find usr -type f -print0 | sort -z | xargs -0 md5sum) > "$root/DEBIAN/md5sums"
   chmod 644 "$root/DEBIAN"/*
   dpkg-deb --build --root-owner-group "$root" "$package" > /dev/null
@@ -149,6 +138,8 @@ TEXT
 
 root=$scratch/libprovedflow-dev
 put 644 c/provedflow.h usr/include/provedflow.h
+put 644 c/provedflow.hpp usr/include/provedflow.hpp
+put 644 c/provedflow-config.cmake "$place/cmake/provedflow/provedflow-config.cmake"
 put 644 "$libraries/libprovedflow.a" "$place/libprovedflow.a"
 ln -s libprovedflow.so.0 "$root/$place/libprovedflow.so"
 cat > "$scratch/provedflow.pc" << TEXT
@@ -168,18 +159,23 @@ python3 scripts/package_pages.py "$root/usr/share/doc/libprovedflow-dev"
 pack libprovedflow-dev amd64 libdevel << TEXT
 Depends: libprovedflow0 (= $version), libc6-dev
 Description: proved maximum flows, minimum cuts and edge connectivity: headers
- The header for C99 and C++, the static library, and what pkg-config reads.
+ The headers for C99 and C++, the static library, and what pkg-config and CMake
+ read.
 TEXT
 
 root=$scratch/python3-provedflow
-for file in python/provedflow/*.py; do
-  put 644 "$file" "usr/lib/python3/dist-packages/provedflow/$(basename "$file")"
+packages=usr/lib/python3/dist-packages
+for file in python/provedflow/*.py python/provedflow/py.typed; do
+  put 644 "$file" "$packages/provedflow/$(basename "$file")"
+done
+for file in "$(python3 scripts/wheel.py "$scratch")"/*; do
+  put 644 "$file" "$packages/provedflow-$version.dist-info/$(basename "$file")"
 done
 put 644 docs/PYTHON.md usr/share/doc/python3-provedflow/PYTHON.md
 python3 scripts/package_pages.py "$root/usr/share/doc/python3-provedflow"
 pack python3-provedflow all python << TEXT
 Depends: python3 (>= 3.9), libprovedflow0 (>= $version)
-Suggests: python3-numpy, python3-scipy, python3-networkx
+Suggests: python3-numpy, python3-scipy, python3-networkx, python3-pil, python3-matplotlib
 Description: proved maximum flows, minimum cuts and edge connectivity: Python
  Maximum flows, minimum cuts and the edge connectivity of networks that lie in
  lists or in NumPy's arrays, of SciPy's matrices, of NetworkX's graphs, and of

@@ -37,96 +37,75 @@ end() {
   rm -rf "$folder"
 }
 trap end EXIT
-chmod 755 "$folder" # the gate runs programs as nobody, in a folder below
-mkdir "$folder/temporary" "$folder/begun"
-chmod 1777 "$folder/temporary"
 
-# Every proof from nothing, the edits that the gate tries one by one, each test, and each program as two compilers make
-# it. Libraries from before, which it would put back, go first: its own work doesn't hold over them. The wrong bodies that
-# share a check begin with what the gate has proved as soon as that is there, and give way to it.
+# The gate: every proof from nothing, each wrong body, each test, and each program as two compilers make it. It would put
+# libraries from before back, so these go first.
 rm -rf crates/*/out/rlib
-say "the gate, $RT_JOBS checks at a time, and wrong bodies that share a check"
-python3 scripts/planted.py --beside "$folder/temporary" "$folder/begun" > "$folder/planted" 2>&1 &
-planted=$!
+say "the gate, $RT_JOBS checks at a time"
 (
   while sleep 60; do
-    say "the gate: $(grep -c '^rt: .* proved$' "$folder/gate") proofs, $(cat "$folder/begun/edits") checks of edits"
+    say "the gate: $(grep -c '^rt: .* proved$' "$folder/gate") proofs"
   done
 ) &
 watched=$!
-TMPDIR="$folder/temporary" rt ci 2>&1 | tee "$folder/gate"
+rt ci 2>&1 | tee "$folder/gate"
 [ "${PIPESTATUS[0]}" -eq 0 ] || exit 1
 kill "$watched" 2> /dev/null
 gate=$(grep -E '^[0-9]+ passed, 0 failed$' "$folder/gate" | tail -n 1)
 [ -n "$gate" ] || exit 1
 passed=${gate%% *}
-if [ -x crates/flow/out/flow ]; then
-  bash scripts/sum.sh all crates/flow/out/flow > crates/flow/out/flow.proved || exit 1
-fi
-bash scripts/prove.sh gate || exit 1
-touch "$folder/begun/ended"
 
-# begin NAME COMMAND..: begins a part beside the others, once fewer than RT_JOBS of them are left.
+# The library for C, proved and built over the libraries that the gate has just proved.
+archive() {
+  local kit words=() library
+  kit=$(dirname "$(rt doc)")
+  for library in flow_net flow_text flow_solve flow_tools; do
+    words+=(--extern "$library=../$library/out/rlib/$library.rlib" -L "dependency=../$library/out/rlib")
+  done
+  cd crates/flow_c || return 1
+  "$kit/bin/rattle" build --crate-name flow_c src/lib.rt --links flow_c= --extern "std=$kit/rlibs/std.rlib" \
+    "${words[@]}" -L "dependency=$kit/rlibs" --antt-project "$kit/rattle/logic/antt-project.json" \
+    --logic-built "$kit/logic_built" --jobs "$RT_JOBS" --crate-type staticlib --toolchain "$kit/toolchain" \
+    -o out/libflow_c.a
+}
+say "the library for C"
+(archive) > "$folder/archive" 2>&1 || { cat "$folder/archive"; exit 1; }
+bash scripts/library.sh "$folder/made" crates/flow_c/out/libflow_c.a > /dev/null || exit 1
+[ -x crates/flow/out/flow ] || (cd crates/flow && rt run -- solve --value < stdin > /dev/null) || exit 1
+[ -x crates/growths/out/growths ] || (cd crates/growths && rt run < stdin > /dev/null) || exit 1
+flow=crates/flow/out/flow
+library=$folder/made/libprovedflow.so.0
+
+# part NAME COMMAND..: begins a part beside the others, once fewer than RT_JOBS of them are left.
 parts=()
-begin() {
+part() {
   local name=$1
   shift
-  while [ "$(jobs -rp | wc -l)" -gt "$RT_JOBS" ]; do
+  while [ "$(jobs -rp | wc -l)" -ge "$RT_JOBS" ]; do
     sleep 0.2
   done
   say "$name"
   "$@" > "$folder/$name" 2>&1 &
   parts+=("$name $!")
 }
-
-# The built programs under hostile use.
-[ -x crates/flow/out/flow ] || (cd crates/flow && rt run -- solve --value < stdin > /dev/null) || exit 1
-[ -x crates/growths/out/growths ] || (cd crates/growths && rt run < stdin > /dev/null) || exit 1
-begin hostile python3 scripts/hostile.py crates/flow/out/flow crates/growths/out/growths
-
-# What the words of the command line lead to.
-begin words python3 scripts/words.py crates/flow/out/flow
-
-# The library for C. What the gate's edits of the crate began with is its whole proof: the library needs no other one.
-say "the library for C"
-if [ -d "$folder/begun/flow_c" ]; then
-  cp -a "$folder/begun/flow_c" crates/flow_c/out/begun
-fi
-bash scripts/library.sh "$folder/made" > /dev/null || exit 1
-
-# The connectivity, against all sets of nodes of small networks and against flows in composed ones.
-begin multigraphs python3 scripts/multigraphs.py crates/flow/out/flow "$folder/made/libprovedflow.so.0"
-
-# The library, its header against the crate's exports, and the package for Python over it.
-begin bindings python3 scripts/bindings.py "$folder/made/libprovedflow.so.0"
-begin library python3 scripts/try_library.py "$folder/made" crates/flow/out/flow
-begin header python3 scripts/header.py
-
-# The examples say and draw what is committed, and their numbers are those found in other ways.
-begin examples python3 scripts/examples.py crates/flow/out/flow
-
-# What the built program answers, against a second reading of the definitions.
-begin independent python3 scripts/independent.py crates/flow/out/flow
-
-# The generator and the runner of the benchmarks, on tiny problems.
-begin bench python3 bench/smoke.py crates/flow/out/flow
-
-# Each command that the documents show prints what they show.
-begin documents python3 scripts/documents.py --library "$folder/made" crates/flow/out/flow
-
-# The page of definitions tells what the contracts of `run` and of the streams reach.
-begin definitions python3 scripts/definitions.py
-
-# Every text tells the limits as their constants say.
-begin limits python3 scripts/limits.py
-
-# The manual page and the completions say what the program's help says.
-begin pages python3 scripts/pages.py crates/flow/out/flow
+part install bash scripts/try_install.sh                                      # what may be installed
+part hostile python3 scripts/hostile.py $flow crates/growths/out/growths       # the programs under hostile use
+part multigraphs python3 scripts/multigraphs.py $flow "$library"               # the connectivity of small networks
+part bindings python3 scripts/bindings.py "$library"                           # the package for Python
+part library python3 scripts/try_library.py "$folder/made" $flow               # the library for C
+part header python3 scripts/header.py                                          # its header
+part words python3 scripts/words.py $flow                                      # the command line
+part examples python3 scripts/examples.py $flow "$library"                     # the examples
+part independent python3 scripts/independent.py $flow                          # a second reading of the definitions
+part bench python3 bench/smoke.py $flow                                        # the benchmarks, on tiny problems
+part documents python3 scripts/documents.py --library "$folder/made" $flow     # what the pages show
+part definitions python3 scripts/definitions.py                                # the page of definitions
+part limits python3 scripts/limits.py                                          # the limits in texts
+part pages python3 scripts/from_help.py $flow --check                          # the manual page, completions
 
 # Each part has to end well, and its last line to be 'NAME: N passed, 0 failed'.
-for part in "${parts[@]}" "planted $planted"; do
+for part in "${parts[@]}"; do
   name=${part% *}
-  ! kill -0 "${part#* }" 2> /dev/null || say "waiting for $name"
   wait "${part#* }"
   status=$?
   cat "$folder/$name"

@@ -5,10 +5,11 @@ DIR has what scripts/library.sh puts there, FLOW is the built `flow`. The progra
 as C++11, by gcc and by clang as far as they are there, with the static library and with the shared one, and run:
 plainly, with the sanitizers of addresses and undefined behaviour, and the calls from two threads also with the
 sanitizer of threads. In one of them each request for memory is refused in turn. Then random problems are answered by
-the library and by FLOW. What isn't there and so isn't tried is told in a line of its own. The last line is
-'library: N passed, M failed'.
+the library and by FLOW, the header for C++ 17 is tried, by CMake too, and the library is called from Rust and Go. What
+isn't there and so isn't tried is told in a line of its own. The last line is 'library: N passed, M failed'.
 """
 
+import os
 import pathlib
 import random
 import re
@@ -74,6 +75,50 @@ def compile_and_run(count, name, library, options, compiler, folder):
         else:
             count.add(title, True)
             yield program
+
+
+def try_classes(count, library, folder):
+    """Compiles and runs the trial of the header for C++ 17, by the compiler and by CMake as far as they are there."""
+    links = [library / "libprovedflow.a"]
+    for compiler, options in [(name, options) for name in ("g++", "clang++") for options in (PLAIN, ADDRESSES)]:
+        if shutil.which(compiler):
+            status, _, errors = run(compiler, "-std=c++17", *STRICT, "-Wconversion", "-Wold-style-cast", *options,
+                                    TESTS / "lists.cpp", *links, "-o", folder / "lists")
+            status, printed, errors = run(folder / "lists") if status == 0 else (status, "", errors)
+            count.add(f"lists by {compiler} {' '.join(options)}",
+                      status == 0 and re.search(r"^lists: [1-9]\d* passed, 0 failed\n\Z", printed, re.M),
+                      f"status {status}\n{printed}{errors}")
+    if not shutil.which("cmake"):
+        print("library: CMake isn't there, and nothing was built by it")
+        return
+    project = folder / "project"
+    project.mkdir()
+    (project / "CMakeLists.txt").write_text(f"""cmake_minimum_required(VERSION 3.13)
+project(trial CXX)
+find_package(provedflow REQUIRED)
+add_executable(trial {TESTS / "lists.cpp"})
+target_compile_features(trial PRIVATE cxx_std_17)
+target_link_libraries(trial provedflow::provedflow)
+""")
+    made = [run("cmake", "-S", project, "-B", project / "made", f"-Dprovedflow_DIR={library}"),
+            run("cmake", "--build", project / "made"), run(project / "made" / "trial")]
+    count.add("lists by CMake", all(status == 0 for status, _, _ in made), made)
+
+
+def try_languages(count, library, folder):
+    """Calls the library from Rust and from Go, as far as their compilers are there."""
+    where = {**os.environ, "CGO_CFLAGS": f"-I{library}", "CGO_LDFLAGS": f"-L{library}", "GO111MODULE": "off",
+             "GOCACHE": str(folder / "go"), "GOPATH": str(folder / "path"), "LD_LIBRARY_PATH": str(library)}
+    for compiler, words in {"rustc": ["--version", "-O", "-L", library, "-o", folder / "four", TESTS / "four.rs"],
+                            "go": ["version", "build", "-o", folder / "four", TESTS / "four.go"]}.items():
+        if not shutil.which(compiler) or run(compiler, words[0])[0] != 0:
+            print(f"library: {compiler} isn't there, and nothing was compiled by it")
+            continue
+        done = [subprocess.run(list(map(str, command)), env=where, capture_output=True, text=True, check=False)
+                for command in ([compiler, *words[1:]], ["sh", "-c", folder / "four"])]
+        count.add(f"four nodes by {compiler}",
+                  done[1].returncode == 0 and re.findall(r"\d+", done[1].stdout) == "0 0 5 3 2 1 2 3".split(), done)
+        (folder / "four").unlink(missing_ok=True)
 
 
 def random_problem(chance):
@@ -191,6 +236,8 @@ def main():
                     programs += compile_and_run(count, name, library, options, compiler, folder)
         for program in programs[:2]:
             same_answers(count, program, flow, folder)
+        try_classes(count, library, folder)
+        try_languages(count, library, folder)
     if not programs:
         count.add("random problems", False, "there is no compiler, and nothing was tried")
     print(f"library: {count.passed} passed, {count.failed} failed")

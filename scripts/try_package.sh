@@ -1,10 +1,12 @@
 #!/usr/bin/env bash
 # Tries the packages in a root of their own: try_package.sh DIR ROOT
-# DIR is what scripts/package.sh has made. ROOT is a root file system of Debian with a compiler, as
-# 'debootstrap --variant=minbase --include=python3,python3-venv,gcc,libc6-dev,pkg-config bookworm ROOT' makes it. The
-# packages are installed there with dpkg. An ordinary user then runs the program and the examples, compiles a program in
-# C against the library, shared and static, calls the library from Python, and installs the wheel into a virtual
-# environment. In the end the packages are removed again. Needs the right to chroot.
+# DIR is what scripts/package.sh has made. ROOT is a root file system of Debian with a compiler and what the examples
+# need, as
+#   debootstrap --variant=minbase --include=gcc,libc6-dev,pkg-config,python3-venv,python3-numpy,python3-scipy,\
+#   python3-networkx,python3-pil,python3-matplotlib bookworm ROOT
+# makes it. The packages are installed there with dpkg. An ordinary user then runs the program and the examples, compiles
+# a program in C against the library, shared and static, calls the library from Python, and installs the wheel into a
+# virtual environment. In the end the packages are removed again. Needs the right to chroot.
 set -eu
 if [ $# -ne 2 ]; then
   echo "usage: bash scripts/try_package.sh DIR ROOT" >&2
@@ -81,6 +83,9 @@ same 'the version' "$(as_user 'pkg-config --modversion provedflow')" "$(inside d
 ask='import provedflow; print(provedflow.maximum_flow([0, 0, 1, 1, 2], [1, 2, 2, 3, 3], [3, 2, 1, 2, 3], 0, 3))'
 answer='Flow(value=5, flows=[3, 2, 1, 2, 3])'
 same 'from Python' "$(as_user "python3 -c '$ask'")" "$answer"
+ask_version='from importlib.metadata import version; print(version("provedflow"))'
+same 'the version in Python' "$(as_user "python3 -c '$ask_version'")" \
+  "$(inside dpkg-query -W -f '${Version}' python3-provedflow)"
 
 # shellcheck disable=SC2086
 inside dpkg --purge $packages > /dev/null

@@ -31,6 +31,7 @@ WORDS = [
     ("connect", b"k 0\n", b"", 0),
     ("connect --undirected", b"k 2\n", b"", 0),
     ("connect --pair", b"k 2\n", b"", 0),
+    ("connect --pair b.max", b"k 1\n", b"", 0),
     ("check missing.max missing.sol", b"", b"flow: cannot open missing.max\n", 4),
     ("check b.max missing.sol", b"", b"flow: cannot open missing.sol\n", 4),
     ("check --feasible b.max b.sol", b"feasible 2\n", b"", 0),

@@ -14,7 +14,7 @@ A file that is reached has to hold nothing else, so that its reader never wonder
 
 Two things more are seen to: that flows are got at by the counted calls of a table alone, and that the crates above
 the solvers cite nothing of these but the words of their public contracts. The last line is 'definitions: N passed, M
-failed'. With --write the tables of the page and its counts are written anew; what it quotes is mended by hand.
+failed'. With --write the lists of the page and its counts are written anew; what it quotes is mended by hand.
 
     python3 scripts/definitions.py [--write]
 """
@@ -39,8 +39,8 @@ CLOSED = [("crates/flow_tools/src/running/texts.rt", "pub fn run_on_texts", "\n{
 # The public calls of the crate that has the tables which take or make one, and so get at flows.
 WAYS_TO_FLOWS = {"new", "look", "push", "clear", "into_flows"}
 
-# How the rows of the page's tables and lists begin: files, names of the standard library, constants, types, streams.
-ROWS = [r"\| `crates/", r"- `(?:Rattle|Prim)\.", r"\| `[A-Z_]+` \|", r"\| `\w+` of `", r"- `impl"]
+# How the lines of the page's lists begin: files, names of the standard library, constants, types, streams.
+ROWS = [r"- `crates/", r"- `(?:Rattle|Prim)\.", r"- `[A-Z_]+`: ", r"- `\w+` of `", r"- `impl"]
 
 # A name, with what stands before and behind its dots: a run of characters between blanks and brackets.
 WORD = re.compile(r"[^\s(){}\[\];:,]+")
@@ -168,8 +168,8 @@ def source_of(path):
 
 
 def rows(counts, outside):
-    """The rows of the page's tables."""
-    table = [f"| `{name}` | {lines} |" for name, lines in counts.items()]
+    """The lines of the page's lists."""
+    table = [f"- `{name}`: {lines}" for name, lines in counts.items()]
     library, constants, types = {}, {}, {}
     for name in sorted(outside):
         path, _, last = name.rpartition(".")
@@ -186,9 +186,9 @@ def rows(counts, outside):
             lines = (text or fail(f"{kind} isn't a type of {file}"))[0].splitlines()
             lines = [line for line in lines if line.strip() and not line.strip().startswith(("//", "#["))]
             held = squeezed(" ".join(lines[1:-1]).replace("pub ", "")).rstrip(",").replace(", }", " }")
-            types[f"| `{kind}` of `{file.relative_to(ROOT)}` | {len(lines)} | `{held}` |"] = len(lines)
+            types[f"- `{kind}` of `{file.relative_to(ROOT)}`, {len(lines)} lines: `{held}`"] = len(lines)
     table += [f"- `{path}`: {' '.join(f'`{name}`' for name in names)}" for path, names in sorted(library.items())]
-    table += [f"| `{name}` | `{value}` |" for name, value in sorted(constants.items())]
+    table += [f"- `{name}`: `{value}`" for name, value in sorted(constants.items())]
     table += [*sorted(types), *(f"- `{line}`" for line in streams())]
     return table, library, constants, types
 
@@ -278,7 +278,7 @@ def quotes():
 
 
 def written(page, lines, sentences):
-    """The page with these rows in its tables and lists, and these counts in its sentences."""
+    """The page with these lines in its lists, and these counts in its sentences."""
     head, mark, rest = page.partition("## How much it is")
     for begin in ROWS:
         new = "".join(f"{line}\n" for line in lines if re.match(begin, line))
@@ -313,9 +313,9 @@ def main():
         page = written(page, table, sentences)
         PAGE.write_text(page)
     tests = {f"the page says '{sentence}'": sentence in page for sentence in sentences}
-    told = re.findall(r"^\| `.* \|$|^- `(?:Rattle\.|Prim\.|impl).*$", page[page.index("## How much it is") :], re.M)
+    told = re.findall(r"^- `.*$", page[page.index("## How much it is") :], re.M)
     for row in sorted({*table, *told}):
-        tests[f"'{row}' is a row of the page, and true"] = row in table and row in told
+        tests[f"'{row}' is a line of the page, and true"] = row in table and row in told
     for name, rest in others.items():
         tests[f"{name} holds what the contracts reach and nothing else, but also has {', '.join(rest)}"] = not rest
     every = {}

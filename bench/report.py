@@ -49,8 +49,23 @@ class Ratio:
 
 def mean(ratios):
     """The geometric mean of the factors, bounds as they are."""
-    factors = [math.log(max(ratio.factor, 1e-9)) for ratio in ratios if ratio.factor is not None]
-    return told(math.exp(sum(factors) / len(factors))) if factors else '-'
+    return math.exp(sum(math.log(max(ratio.factor, 1e-9)) for ratio in ratios) / len(ratios))
+
+
+def kind_of(family):
+    """The row of a family in its table: photographs of one kind, such as photograph-coffee-4, share photographs-4."""
+    return re.sub(r'^photograph-\w+-', 'photographs-', family)
+
+
+def shared_cell(ratios):
+    """The cell of all ratios that share it: of several their mean, with the other solvers that were fastest."""
+    if len(ratios) == 1:
+        return ratios[0].cell()
+    known = [ratio for ratio in ratios if ratio.factor is not None]
+    if not known:
+        return '-'
+    text = ' '.join([told(mean(known)), *dict.fromkeys(ratio.name for ratio in known)])
+    return f'**{text}**' if mean(known) > LEVEL else text
 
 
 class Report:
@@ -78,7 +93,7 @@ class Report:
                 if ratios:
                     worst = max(ratios, key=lambda ratio: ratio.factor)
                     label = [title, *([] if in_all else [f'{size:,}' if size > 1 else '', order])]
-                    rows.append([*label, mean(ratios), f'{sum(ratio.is_behind() for ratio in ratios)} of {len(ratios)}',
+                    rows.append([*label, told(mean(ratios)), f'{sum(ratio.is_behind() for ratio in ratios)} of {len(ratios)}',
                                  f'{worst.row["family"]} {worst.cell().strip("*")}'])
         return table(['Problems', *([] if in_all else ['Arcs or nodes', 'Order']), 'flow over the fastest other',
                       'Behind on', 'Worst'], rows, 0)
@@ -87,8 +102,10 @@ class Report:
         """A row for each family of a collection: the ratio at each size in each order, with the fastest other."""
         columns, cells = self.columns(collection), {}
         for ratio in self.of(collection):
-            cells.setdefault(ratio.row['family'], {})[ratio.row['size'], ratio.row['order']] = ratio.cell()
-        rows = [[family, *(known.get(column, '-') for column in columns)] for family, known in cells.items()]
+            place = ratio.row['size'], ratio.row['order']
+            cells.setdefault(kind_of(ratio.row['family']), {}).setdefault(place, []).append(ratio)
+        rows = [[kind, *(shared_cell(known[column]) if column in known else '-' for column in columns)]
+                for kind, known in cells.items()]
         return table(['Family', *(f'{size:,}, {order}' if size > 1 else order for size, order in columns)], rows,
                      len(columns))
 

@@ -1,8 +1,8 @@
 #!/usr/bin/env bash
 # Runs a command while the system gives large pages of memory to all programs: large_pages.sh COMMAND..
-# The prover finds its way in them faster: a check takes a sixth to a fourth less of the processor. It is a setting of
-# the whole machine, which only root can change, and no other script does; what it was is set back when the command
-# ends. Where it can't be changed, or needn't be, the command runs as it is.
+# A check takes less CPU time with them. It is a setting of the whole machine, which only root can change; no other
+# script changes it. It is set back when the command ends. Where it can't be changed, or needn't be, the command runs
+# as it is.
 set -u
 if [ $# -eq 0 ]; then
   echo "usage: bash scripts/large_pages.sh COMMAND.." >&2

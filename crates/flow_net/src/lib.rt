@@ -1,14 +1,12 @@
 //! Networks, tables of flows, and the theory of maximum flows and minimum cuts.
 //!
-//! This is the lowest crate of the toolkit. It says what a network, a feasible flow, a cut and the edge connectivity
-//! are (`specs/`; docs/DEFINITIONS.md tells which of these files are to be believed), proves the laws that join them
-//! (`laws`, after Ford and Fulkerson 1956), and has the code through which every other crate touches a network or a
-//! flow.
+//! This is the lowest crate of the toolkit. Its `specs/` define networks, feasible flows, cuts and the edge
+//! connectivity; docs/DEFINITIONS.md says which of these files a reader has to believe. `laws` has the theorems that
+//! connect them (Ford and Fulkerson 1956).
 //!
-//! A solver gets at flows only by the calls of [`FlowTable`]. They speak of *half-arcs*: half-arc `2·i` runs along arc
-//! `i`, and half-arc `2·i + 1` against it, where flow can be taken back; textbooks call it the reverse arc of the
-//! residual network. Each look and each push is one step. The table counts its steps for contracts alone: the count
-//! takes no bytes, and no running program can read it.
+//! Solvers read and change flows only by the calls of [`FlowTable`], in terms of *half-arcs*: half-arc `2·i` is arc
+//! `i`, and half-arc `2·i + 1` its reverse arc in the residual network. Each look and each push is one step. The table
+//! counts its steps for contracts alone: the count takes no bytes, and no running program can read it.
 #![tactic(auto)]
 
 mod arranging;

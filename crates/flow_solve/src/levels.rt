@@ -1,51 +1,20 @@
-//! The method by levels (Dinitz 1970), in four stages that work on one flow: near sends, then search trees, then waves
-//! of excess where the trees don't finish, then phases.
+//! The method by levels: four stages that work on one flow.
 //!
-//! 1. **Near sends** (`near_sends`): what can leave a source goes to sinks over one node or two. No tree is there yet
-//!    that a push could break, so they cost no repair. Assignments get most of their flow so.
-//! 2. **Two trees** (`trees`, `chains`, `orphans`, `forest`, `border`). Search trees grow from the sources and the
-//!    sinks (Boykov and Kolmogorov 2004), from one *active* node after another. Each node in a tree has a *parent*, the
-//!    half-arc that leads towards its root, a *label*, which tells how far that was when it was last looked at, and a
-//!    *stamp*, the time when its parents were last known to lead to a root. Where the trees touch, an augmenting path
-//!    is pushed through. A node whose half-arc to its parent was filled is an *orphan*: it is *adopted* by the nearest
-//!    node of its tree whose parents lead to a root, unless that moves it much farther from its own. Or else it comes
-//!    free, with its children as orphans in turn, and the tree may come back to it by a shorter way. So no search
-//!    begins anew. When no node is active any more, one pass over the arcs shows that the flow is greatest: nothing
-//!    remains on a half-arc that leads into the tree of the sinks. The trees may take two steps for each arc, and 512
-//!    more for each path that they find: they go on as long as a path costs them no more than that. That serves where
-//!    most of a tree outlives a push: images, assignments, closures. In a dense network, where a repair passes many
-//!    half-arcs, there are none.
-//! 3. **Waves that lift** (`waves`, `settling`), where the trees had to end before their active nodes ran out. All
-//!    that can leave the sources does, and each node sends what it has received, its *excess*, on to nodes that a
-//!    search has found a level nearer to the sinks, the farthest level first (after Karzanov 1974). A node that is
-//!    stuck is *lifted* to one more than the nearest level that it leads to, which is the relabelling of Goldberg and
-//!    Tarjan (1988), as far as a *ceiling* that comes down with the farthest excess; what is lifted to it waits for the
-//!    next search, and searches are made anew from time to time (Cherkassky and Goldberg 1997). In the end what no sink
-//!    takes goes home by waves to the sources, and the table is settled: it stays if a feasible flow stands there, and
-//!    is cleared otherwise. So thousands of paths that share most of their half-arcs cost one search and one sweep.
-//!    That serves where ways are long: roads, frames, layers, netlists, chains.
-//! 4. **Phases** (`phases`, `walking`). A search backwards from the sinks tells how far each node is, walks from the
-//!    sources along falling distances block all shortest paths, and the distance from the sources to the sinks grows by
-//!    each phase (Dinitz 1970). They go on from whatever feasible flow they find, and their last search, which sees no
-//!    source, shows that the flow is greatest. Behind the waves that is mostly their only one.
+//! 1. **Near sends** (`near_sends`) augment along paths over one node or two. No tree exists yet that they could break.
+//! 2. **Search trees** (`trees`; Boykov and Kolmogorov 2004) grow from the sources and the sinks and augment where they
+//!    touch. At the end one pass over the arcs (`border`) tests whether the flow is maximum. The trees end early if
+//!    paths become expensive or the first one is long. A dense network has none, since a repair passes all half-arcs of
+//!    a node.
+//! 3. **Waves** (`waves`) push excess towards the sinks, farthest level first (after Karzanov 1974), and relabel stuck
+//!    nodes (Goldberg and Tarjan 1988) up to a ceiling. They follow unless the trees have finished. `settling` tests at
+//!    the end whether the flow is feasible.
+//! 4. **Phases** (`phases`, `walking`) are Dinic's algorithm (Dinitz 1970). They start from any feasible flow, and
+//!    their last search shows that the flow is maximum.
 //!
-//! Nodes with excess are lifted, and yet this is no push-relabel method: to lift is the business of a stage, which
-//! hands on a feasible flow or none, and the phases carry the proof and the bound whatever it does. Nothing is claimed
-//! of the trees: each half-arc of a path is looked at when something is pushed over it, a push that doesn't go from a
-//! source to a sink isn't kept, and it is tested that they are finished. Of waves no more is claimed than what their
-//! end tests. A stage may leave wherever it is.
-//!
-//! Near sends and trees work in rows of *entries* (`rows`, `entries`): one for an arc and its opposite, where these
-//! stand side by side. Where the trees finish nothing else is packed; the later stages want each half-arc in its row,
-//! and pack anew. In a dense network the half-arcs serve the near sends too.
-//!
-//! What near sends and trees take is counted off an allowance of 48 steps for each arc, and what the waves take off the
-//! rest of `n²·m`, at most 1024 steps for each arc in each direction; a half-arc that is passed by without a look, or a
-//! node that is walked over, counts as a step too. The phases take at most `3·n²·m` from any feasible flow, so that all
-//! stay within `4·n²·m` for each network.
-//!
-//! The trees end at once where the nearest source and sink are found to be far apart, since then much flow goes far,
-//! and paths one by one bring little. There the waves begin.
+//! The first three stages promise a feasible flow and a bound on steps. That the flow is maximum is shown by the test at
+//! the end of the trees, or by the phases. The stages before the phases take at most `n²·m` steps together, and the
+//! phases at most `3·n²·m`. Near sends and trees use rows of *entries* (`rows`, `entries`), in which an arc and its
+//! opposite may share one entry. The later stages need each half-arc in its row, and pack anew.
 ghost use Rattle.std.specs.Prelude.{◌≡◌, ◌+◌, ◌*◌, ◌≤◌, IsFalse, IsTrue, drop, length};
 ghost use Rattle.flow_net.specs.Limits.{AreTerminals};
 ghost use Rattle.flow_net.specs.NodeSets.{one_of};
@@ -98,8 +67,7 @@ pub fn allowance(net: &Network) -> u64
     (n * n).min(OPENING_SHARE) * u64::from(net.len())
 }
 
-/// How many times the number of arcs the waves may take: 1024 in each direction, and the looks that settle their table.
-/// It bounds what is lost where they bring nothing.
+/// How many times the number of arcs the waves may take, should they bring nothing: 1024 each way, and the test's look.
 const REST_SHARE: u64 = 2 * 1024 + 1;
 
 /// How much the waves may take of what is left of `n²·m`, in 64 bits.

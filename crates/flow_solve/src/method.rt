@@ -1,4 +1,4 @@
-//! What every way to a greatest flow promises, and the cells that it works in.
+//! What every maximum flow method promises, and how many cells it needs.
 ghost use Rattle.std.specs.Prelude.{◌≡◌, ℕ, ◌+◌, ◌*◌, ◌≤◌, length, drop};
 ghost use Rattle.flow_net.specs.Nets.{Net};
 ghost use Rattle.flow_net.specs.Limits.{AreTerminals};

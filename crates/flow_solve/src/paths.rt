@@ -1,11 +1,9 @@
-//! Augmentation along residual paths (Ford and Fulkerson 1956).
+//! Augmentation along shortest residual paths (Ford and Fulkerson 1956; Edmonds and Karp 1972).
 //!
-//! A search backwards from the sinks gives each node that it sees the half-arc over which it came. These half-arcs
-//! lead on from any such node to a sink, each to a node nearer by one: the node's *trail*. So a path needs no cells of
-//! its own. It is walked twice, once to find the least residual capacity and once to push so much.
-//!
-//! With `n` nodes the first `n` cells have the distances, the next `n` the half-arcs, and the next `n` the search's
-//! queue.
+//! A search backwards from the sinks gives each node that it sees the half-arc over which it came. These half-arcs are
+//! the node's *trail*: they lead to a sink, each to a node nearer by one. So a path needs no cells of its own. The code
+//! walks it twice, for the least residual capacity and to push that. With `n` nodes the first `n` cells have the
+//! distances, the next `n` the half-arcs, and the next `n` the search's queue.
 ghost use Rattle.std.specs.Prelude.{◌≡◌, ℕ, ◌+◌, ◌-◌, ◌*◌, ◌<◌, ◌≤◌, IsTrue, IsFalse, IfSome, IfNone, length};
 ghost use Rattle.std.specs.Prelude.{slice_index, sum_by};
 ghost use Rattle.std.specs.List.{All};

@@ -1,4 +1,4 @@
-//! The residual network, as all verbs go over it: half-arcs, packed by the node that they leave; the searches; cells.
+//! The residual network: half-arcs, packed by the node that they leave; searches; cells.
 pub(crate) mod cells;
 pub(crate) mod half_arcs;
 pub(crate) mod packing;

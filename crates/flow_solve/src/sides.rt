@@ -1,10 +1,8 @@
-//! The least sides of the minimum cuts, by one search of the residual network of a greatest flow.
+//! The least sides of the minimum cuts, by one search of the residual network of a maximum flow.
 //!
-//! What the sources reach there is the least source side, and what reaches a sink is the least sink side: whichever
-//! greatest flow it is, and though there may be many minimum cuts.
-//!
-//! With `n` nodes the first `n` cells have the distances of the search, the next `n` the half-arcs over which it came,
-//! and the next `n` its queue.
+//! What the sources reach there is the least source side, and what reaches a sink is the least sink side, for every
+//! maximum flow. With `n` nodes the first `n` cells have the distances of the search, the next `n` the half-arcs over
+//! which it came, and the next `n` its queue.
 ghost use Rattle.std.specs.Prelude.{◌≡◌, ℕ, ◌+◌, ◌*◌, ◌≤◌, ◌↔◌, true, false, IsTrue, IsFalse, length, take, drop};
 ghost use Rattle.flow_net.specs.Limits.{AreTerminals};
 ghost use Rattle.flow_net.specs.NodeSets.{one_of};

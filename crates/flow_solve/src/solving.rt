@@ -1,4 +1,4 @@
-//! What the methods share: from no flow, over packed half-arcs, to a flow of the greatest value.
+//! The frame of a method: from no flow, over packed half-arcs, to a maximum flow.
 ghost use Rattle.std.specs.Prelude.{◌≡◌, ℕ, ◌+◌, ◌*◌, ◌≤◌, length, drop};
 ghost use Rattle.flow_net.specs.Nets.{Net};
 ghost use Rattle.flow_net.specs.Limits.{AreTerminals};

@@ -1,5 +1,5 @@
-//! The stages of [`Levels`](crate::Levels) one by one, and what they work on: for whoever measures them, tests them or
-//! makes a method of them. Who only wants a greatest flow calls a [`Method`](crate::Method).
+//! The stages of [`Levels`](crate::Levels) one by one, for tests, measurements and other methods. To find a maximum
+//! flow, call a [`Method`](crate::Method).
 pub use crate::levels::allowance;
 pub use crate::levels::near_sends::send_near;
 pub use crate::levels::phases::run_phases;

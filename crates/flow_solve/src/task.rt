@@ -1,4 +1,4 @@
-//! What methods and searches are given.
+//! The parameters of methods and searches.
 
 use crate::residual::packing::Packed;
 use flow_net::Network;

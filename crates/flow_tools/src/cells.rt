@@ -1,4 +1,4 @@
-//! Memory for cells: where it is refused, that is [`OutOfMemory`].
+//! Memory for cells: if it is refused, the error is [`OutOfMemory`].
 ghost use Rattle.std.specs.Prelude.{◌≡◌, ◌≤◌, length, replicate, IfOk};
 ghost use Rattle.flow_net.specs.Limits.{IsNet};
 ghost use Rattle.flow_solve.specs.Bounds.{work_cells};

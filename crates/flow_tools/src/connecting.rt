@@ -94,7 +94,7 @@ fn least_cut<M: Method>(net: &Network, flow: &mut FlowTable, cells: &mut [u32]) 
 
 /// The edge connectivity of a network in which every capacity is 1: the least number of arcs that leave a set of nodes
 /// which is neither empty nor all. With `pair` it is the least over the sets with every node of `s` inside and every
-/// node of `t` outside; without it `s` and `t` are not looked at. For the undirected number hand in the network after
+/// node of `t` outside; without it `s` and `t` are not looked at. For the undirected number give it the network after
 /// [`Network::both_ways`].
 ///
 /// It takes no memory: it works in the first [`work_len`] cells of `work`, and the table holds some flow afterwards.

@@ -1,16 +1,16 @@
 //! Jobs over whole texts: all that the program does, over any streams.
 //!
-//! [`run`] pulls a problem from an [`Input`] piece by piece, has it solved, and puts the answer to an [`Output`]:
+//! [`run`] reads a problem from an [`Input`] piece by piece, solves it, and writes the answer to an [`Output`]:
 //!
 //! ```text
 //! bytes → reading → Problem → answers (flow_solve) → a flow or a cut → printing → lines → sending → bytes
 //! ```
 //!
-//! What a run may put is the page `specs/running/Answers.antt`; how it ends, its message and its status are the page
-//! `specs/running/Exits.antt`. Both speak of the bytes that the streams delivered and took, and of the definitions of
-//! `flow_net` and `flow_text`, never of this code. Standard streams and files are [`Counted`]; [`memory`] has streams
-//! for tests. Over texts that lie in memory [`run_on_texts`] promises the same with nothing left open but memory, on
-//! the page `specs/running/TextRuns.antt`: this is the call for a program of your own.
+//! `specs/running/Answers.antt` says what a run may write, and `specs/running/Exits.antt` how it ends, with its message
+//! and its status. Both speak of bytes and of the definitions of `flow_net` and `flow_text`, never of this code.
+//! [`Counted`] makes streams of the standard library's readers and writers, and [`memory`] has streams for tests.
+//! [`run_on_texts`], the call for other programs, promises the same for texts in memory
+//! (`specs/running/TextRuns.antt`), with refused memory as the only failure.
 #![tactic(auto)]
 
 mod cells;

@@ -1,4 +1,4 @@
-//! Where the bytes of a run come from, and where they go.
+//! Where a run reads its bytes from, and where it writes them.
 ghost use Rattle.std.specs.Prelude.{◌≡◌, ◌≤◌, ◌<◌, ℕ, length, IfOk};
 ghost use Rattle.std.specs.Io.KnownBytes.{ReadConsumes, WriteAppends};
 ghost use Rattle.flow_tools.specs.streams.Streams.{Flags, StreamState};

@@ -1,10 +1,10 @@
 //! The count of steps. It takes no bytes, its calls do nothing at run time, and contracts alone read it.
 //!
-//! No call on a table lowers its count: the count's field, its module and both of its functions are private to the
-//! table, and the one way to a count from another is [`Steps::after`], which is one more than a count that is lent to
-//! it. A new table begins at 0, so whoever replaces a table loses the old count; a solver can't, since it is lent a
-//! table and no allocator to make another with. The proofs of both functions, in `proofs/tables/steps/`, are written
-//! by hand. No other proof may be, since it could claim any count.
+//! No call lowers a table's count. The count's field, module and functions are private to the table, and the only way
+//! from one count to another is [`Steps::after`], which is one more than a count that it borrows. A new table starts at
+//! 0, so replacing a table would lose its count; a solver cannot do that, since it gets no allocator. The proofs of
+//! both functions, in `proofs/tables/steps/`, are written by hand. No other proof may be, since it could claim any
+//! count.
 ghost use Rattle.std.specs.Prelude.{◌≡◌, ℕ, ◌+◌};
 ghost use Rattle.std.specs.Borrow.{ftrue};
 

@@ -1,10 +1,8 @@
-//! Entries of the rows in which near sends and trees look for what leads on from a node: one for each half-arc, or for
-//! two at once, where an arc's opposite follows it.
+//! Entries of the rows that near sends and trees use: one for each half-arc, or a *joined* one for two.
 //!
-//! In a picture or a road map there is an arc each way between neighbours, and most files tell the two one after the
-//! other. The one neighbour comes to the other over the half-arc along the one arc, or over that against the other.
-//! Such two are *joined*: so a row has half as many entries, and each neighbour is asked once. In the trees a half-arc
-//! stands by itself, that on which something was found to remain.
+//! In a picture or a road map there is an arc each way between neighbours, and most files have the two one after the
+//! other. Both lead from one neighbour to the other in the residual network, the first along its arc and the second
+//! against it. One joined entry stands for both, so a row is half as long.
 ghost use Rattle.std.specs.Prelude.{◌≡◌, ◌+◌, ◌*◌, ◌<◌, ◌≤◌, IfNone, IfSome, IsTrue, length};
 ghost use Rattle.flow_net.specs.Nets.{Net};
 ghost use Rattle.flow_net.specs.Flows.{Fits};

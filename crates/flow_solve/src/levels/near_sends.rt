@@ -1,9 +1,8 @@
-//! Near sends, before the trees grow: what can leave a source goes to sinks over one node or two, by pushes. No tree is
-//! there yet that a push could break, so what they bring costs no repair. Assignments get most of their flow so.
+//! Near sends: augmenting along paths over one node or two, before the trees grow.
 //!
-//! At each node next to a sink stands its *last half-arc*, one that leads there, until it is filled. The half-arcs of
-//! the sources are gone over one by one: what remains on one is sent on over the last half-arc of its node, and then
-//! along the arcs to nodes that have one, until nothing of it is left.
+//! Each node next to a sink has a *last half-arc*, one that leads to a sink, until it is filled. For each half-arc of a
+//! source, what remains on it goes on over the last half-arc of its node, and then along arcs to nodes that have one,
+//! until nothing is left.
 ghost use Rattle.std.specs.Prelude.{◌≡◌, ◌≢◌, ℕ, ◌+◌, ◌-◌, ◌*◌, ◌/◌, ◌<◌, ◌≤◌, IfSome, IsTrue, length};
 ghost use Rattle.std.specs.Prelude.{slice_index};
 ghost use Rattle.std.specs.List.{All};

@@ -1,15 +1,9 @@
-//! Phases of the method by levels, as in Dinic's algorithm: the distances that a search backwards gives, and the walks
-//! from all sources, which push a blocking flow.
+//! Phases of Dinic's algorithm: a search backwards from the sinks gives distances, and walks from all sources push a
+//! blocking flow.
 //!
-//! With `n` nodes the `5·n` cells of a stage are, in this order:
-//!
-//! | Cells | What they hold |
-//! |---|---|
-//! | `n` | each node's distance in the last search |
-//! | `n` | the half-arc over which the search came to it |
-//! | `n` | each node's current place: the half-arc that walks try next |
-//! | `n` | the half-arcs of the walk's path |
-//! | `n` | the search's queue |
+//! With `n` nodes the `5·n` cells of a stage are, `n` each: the nodes' distances in the last search, the half-arcs over
+//! which it came to them, their current places (current arcs), the half-arcs of the walk's path, and the search's
+//! queue.
 ghost use Rattle.std.specs.Prelude.{◌≡◌, ◌⊎◌, ℕ, List, true, false, ◌+◌, ◌-◌, ◌*◌, ◌<◌, ◌≤◌, min, IsTrue, IsFalse};
 ghost use Rattle.std.specs.Prelude.{length};
 ghost use Rattle.std.specs.List.{All};

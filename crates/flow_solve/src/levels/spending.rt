@@ -1,4 +1,4 @@
-//! What a stage may still do.
+//! The budget of a stage.
 ghost use Rattle.std.specs.Prelude.{◌≡◌, ◌+◌, true, false};
 
 /// Takes a cost off what may still be done. Answers whether there was so much; where there wasn't, nothing more may be

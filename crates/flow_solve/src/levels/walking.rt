@@ -1,4 +1,4 @@
-//! Walks from a source to sinks, along half-arcs that lead nearer to a sink (Dinitz 1970).
+//! Walks from a source to sinks along admissible half-arcs (Dinitz 1970).
 ghost use Rattle.std.specs.Prelude.{◌≡◌, ◌⊎◌, ℕ, Bool, List, ◌+◌, ◌-◌, ◌*◌, ◌<◌, ◌≤◌, IsTrue, IsFalse, IfSome, IfNone};
 ghost use Rattle.std.specs.Prelude.{length, slice_index, slice_set};
 ghost use Rattle.std.specs.List.{All};

@@ -1,15 +1,12 @@
-//! Waves of excess that lift: what each node has received and not sent on, its *excess*, goes to the next nearer level,
-//! and a node that is stuck is lifted.
+//! Waves: excess moves towards the sinks level by level, and stuck nodes are lifted (relabelled).
 //!
-//! All that can leave the sources does. Then a search backwards from the sinks gives the nodes their levels
-//! (`levelling`), and the farthest level with excess is emptied first, node by node, over half-arcs that lead exactly
-//! one level nearer. A node that is stuck is lifted at once to one more than the nearest node that it leads to, and
-//! goes on (`discharging`). The *ceiling* stands some levels above the farthest excess and comes down with it: what the
-//! sweep has left behind and lifts to the ceiling is mostly where nothing leads on, and waits for the next search. A
-//! wave ends when no excess below the ceiling is left, or after so many half-arcs that a new search is worth its cost.
-//! Every other node passes its half-arcs from the last to the first, by turns in waves, lest excess drift to one side.
-//!
-//! In the end the same waves bring home to the sources what no sink takes, and the table is settled (`settling`).
+//! All that can leave the sources does. A search backwards from the sinks gives the nodes their levels (`levelling`).
+//! Then the nodes of the farthest level with excess push it over half-arcs that lead one level nearer, and a stuck node
+//! is lifted at once (`discharging`). The *ceiling* is some levels above the farthest excess and falls with it; a node
+//! that would be lifted to the ceiling waits for the next search. A wave ends when no excess is left below the ceiling,
+//! or when a new search is due. Every other node goes through its half-arcs backwards, by turns, so that excess does
+//! not drift to one side. In the end such waves return to the sources what no sink takes, and `settling` tests the
+//! flow.
 ghost use Rattle.std.specs.Prelude.{◌≡◌, ◌*◌, ◌<◌, length};
 ghost use Rattle.std.specs.List.{All};
 ghost use Rattle.flow_net.specs.Nets.{IsNode};
@@ -99,7 +96,7 @@ fn sweep(packed: Packed<'_>, flow: &mut FlowTable, wave: &mut Wave<'_>)
     }
 }
 
-/// The least reach. With fewer levels there are more searches, and with more frames and netlists pass more half-arcs.
+/// The least reach, in levels: a lower one needs more searches, and a higher one passes more half-arcs in dead ends.
 const LEAST_REACH: u32 = 16;
 
 /// Waves towards the sinks of a task, until no search finds excess that leads there, or no more may be done. One that
@@ -172,7 +169,7 @@ fn send_home(task: Task<'_>, flow: &mut FlowTable, cells: &mut [u32], share: u64
     send(Task { packed, s: t, t: s }, flow, &mut wave);
 }
 
-/// Sends waves from a flow of some value on, and settles what they leave. Answers the flow's value: 0, with the table
+/// Sends waves from a flow of some value on, and tests what they leave. Answers the flow's value: 0, with the table
 /// cleared, where something couldn't be brought home.
 pub fn send_waves(task: Task<'_>, flow: &mut FlowTable, cells: &mut [u32], begun: Sent) -> u128
     requires task { IsTask task }

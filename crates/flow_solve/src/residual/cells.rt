@@ -1,4 +1,4 @@
-//! Cells that hold hints: one that doesn't exist reads as 0, and a write to it is dropped.
+//! Cells that hold hints: one that does not exist reads as 0, and a write to it is dropped.
 ghost use Rattle.std.specs.Prelude.{◌≡◌, slice_index};
 
 /// Stands behind the last node of a queue or a list.

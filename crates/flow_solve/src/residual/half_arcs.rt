@@ -1,5 +1,5 @@
-//! Half-arcs: their ends, their arcs' other half-arcs, and the directions in which they are gone over. No call here is
-//! a step: each reads the arc alone.
+//! Half-arcs: their ends, the other half-arc of the same arc, and directions. No call here is a step: each reads only
+//! the arc.
 ghost use Rattle.std.specs.Prelude.{◌≡◌, ◌*◌, ◌<◌, length};
 ghost use Rattle.flow_net.specs.Nets.{IsNode};
 ghost use Rattle.flow_net.specs.Residual.{tail_of, head_of};

@@ -1,11 +1,10 @@
 //! Breadth-first searches of the residual network: forwards from sources, or backwards from sinks.
 //!
-//! There is one loop for both directions. It walks the half-arcs that leave a node. Forwards it may go over such a
-//! half-arc, and backwards over its twin, which runs towards the node; in both cases to the node at the other end. It
-//! reads that end first, which is no step, and looks only if the node is unseen.
-//!
-//! A search can stop early: the nodes that it looks out for have a distance of their own while they are unseen, so
-//! that it counts them as it enters them. The distances are the levels of a layered network (Dinitz 1970).
+//! One loop serves both directions. It walks the half-arcs that leave a node. Forwards it may use such a half-arc, and
+//! backwards its twin, which leads to the node. It reads the node at the other end first, which is no step, and looks
+//! only if that node is unseen. A search can stop early: wanted nodes have a distance of their own while they are
+//! unseen, so that the search counts them when it reaches them. The distances are the levels of a layered network
+//! (Dinitz 1970).
 ghost use Rattle.std.specs.Prelude.{◌⊎◌, ◌≡◌, ℕ, List, IsTrue, IfSome, IfNone, ◌+◌, ◌-◌, ◌*◌, ◌<◌, ◌≤◌, length};
 ghost use Rattle.std.specs.Prelude.{slice_index};
 ghost use Rattle.std.specs.List.{All};

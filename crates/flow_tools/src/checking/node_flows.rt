@@ -1,4 +1,4 @@
-//! What flow lines add up to at each node.
+//! The sums of flow lines at each node.
 ghost use Rattle.std.specs.Prelude.{◌≡◌, ℕ, [], ◌+◌, ◌-◌, ◌-ℤ◌, ◌<◌, ◌≤◌, ◌^◌, ◌||◌, List, pos, length, slice_index};
 ghost use Rattle.std.specs.Prelude.{slice_set, sum_by, IfOk, IfSome, MatchOption};
 ghost use Rattle.std.specs.List.{All};

@@ -1,8 +1,8 @@
-//! Sharing the flow lines of a solution out over the arcs of its problem.
+//! Assigning the flow lines of a solution to the arcs of its problem.
 //!
-//! A solution speaks of pairs of nodes, a flow of arcs. The arcs and the lines are brought into the order of their
-//! pairs, and then each line's flow is put on the arcs of its pair, the next where one is full. So a flow comes out
-//! that carries what the lines say of every pair, or the first line whose pair has no room left.
+//! A solution speaks of pairs of nodes, a flow of arcs. Arcs and lines are sorted by their pairs, and each line's flow
+//! goes to the arcs of its pair, to the next one when an arc is full. The result is a flow that carries what the lines
+//! say of every pair, or the first line whose pair has no room left.
 ghost use Rattle.std.specs.Prelude.{◌≡◌, ℕ, [], ◌+◌, ◌-◌, ◌*◌, ◌<◌, ◌≤◌, ◌^◌, length, slice_index, slice_set, IfOk};
 ghost use Rattle.std.specs.Prelude.{MatchOption};
 ghost use Rattle.std.specs.List.{All};

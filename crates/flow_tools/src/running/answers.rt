@@ -1,4 +1,4 @@
-//! The answer of a job to a problem: a value, whose text is put once it is there.
+//! The answer of a job to a problem: a value, which is written once it is there.
 ghost use Rattle.std.specs.Prelude.{◌≡◌, [], IfOk};
 ghost use Rattle.flow_net.specs.Nets.{Instance};
 ghost use Rattle.flow_tools.specs.running.Exits.{IsCheck};

@@ -1,4 +1,4 @@
-//! What is asked of a run, and why one ends without an answer.
+//! The jobs of a run, and why a run ends without an answer.
 ghost use Rattle.std.specs.Prelude.{◌≡◌};
 ghost use Rattle.flow_tools.specs.declared.running.jobs.Stop.TheVariants.{OutOfMemory};
 

@@ -1,4 +1,4 @@
-//! One pass over an input: each piece is fed to a reader before the next is pulled.
+//! One pass over an input: a reader gets each piece before the next is read.
 ghost use Rattle.std.specs.Prelude.{◌≡◌, ◌++◌, ℕ, List, [], None};
 ghost use Rattle.std.specs.declared.option.Option.{Option};
 ghost use Rattle.flow_text.specs.declared.faults.FaultCode.{FaultCode};

@@ -1,4 +1,4 @@
-//! A run over texts that lie in memory.
+//! A run over texts in memory.
 ghost use Rattle.std.specs.Prelude.{◌≡◌, ℕ, List, false, ◌++◌, length, Some};
 ghost use Rattle.flow_tools.specs.running.TextRuns.{RunsOn};
 

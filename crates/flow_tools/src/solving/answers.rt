@@ -1,5 +1,7 @@
-//! A greatest flow and a minimum cut, as values. All memory is asked for before a solver begins, but for what is read
-//! from a copy that is arranged: before that is asked for, the arcs of the copy are free.
+//! A maximum flow and a minimum cut, as values.
+//!
+//! All memory is asked for before a solver begins, except for an answer that is read from a renumbered copy: the arcs
+//! of the copy are freed before that.
 ghost use Rattle.std.specs.Prelude.{◌≡◌, ℕ, not, List, ◌≤◌, length, IfOk};
 ghost use Rattle.flow_net.specs.Nets.{Instance};
 ghost use Rattle.flow_net.specs.Flows.{Fits};
@@ -47,7 +49,7 @@ pub enum Side {
 }
 
 /// What a network is solved with: a table of flows, the cells that a solver works in, and a copy that is arranged, if
-/// its arcs come in no order.
+/// it is scattered.
 #[derive(Drop)]
 struct Ready {
     table: FlowTable,

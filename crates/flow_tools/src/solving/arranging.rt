@@ -1,5 +1,4 @@
-//! Networks in no order are copied in one that is quick to read, and what is found of the copy is read as the network
-//! has it.
+//! A network in no useful order is solved in a renumbered copy, and the answer is read in the order of the network.
 ghost use Rattle.std.specs.Prelude.{◌≡◌, ◌≤◌, ◌<◌, length, map, IfOk, IfSome};
 ghost use Rattle.std.specs.List.{All};
 ghost use Rattle.flow_net.specs.MarkedNodes.{marked};
@@ -108,8 +107,7 @@ fn arrange_in(network: &FlowNetwork, room: Room, work: &mut [u32]) -> Option<Arr
     })
 }
 
-/// Arranges a network in a copy, if its arcs come in no order. The memory is asked for first. It works in the cells of
-/// a solver.
+/// Arranges a network in a copy, if it is scattered. The memory is asked for first. It works in the cells of a solver.
 pub(crate) fn arrange_if_scattered(
     alloc: Global,
     network: &FlowNetwork,

@@ -1,4 +1,4 @@
-//! The lines of which a text has many are made in the gathered bytes themselves, so that each is copied once.
+//! The lines of which a text has many are made in the output buffer itself, so that each is copied once.
 ghost use Rattle.std.specs.Prelude.{◌+◌, ◌≤◌, [], ◌∷◌, ◌++◌, OnOk};
 ghost use Rattle.arrayvec.specs.ArrayVec.{array_vec_len};
 ghost use Rattle.flow_text.specs.Output.{flow_line, line_of};

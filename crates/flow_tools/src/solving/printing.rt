@@ -1,4 +1,4 @@
-//! The text of an answer is gathered line by line, and put when there is much of it.
+//! The text of an answer is gathered line by line, and written whenever the buffer is full.
 ghost use Rattle.std.specs.Prelude.{◌≡◌, ◌≤◌, [], ◌∷◌, ◌++◌, length, filter, false};
 ghost use Rattle.std.specs.List.{flat_map, zip};
 ghost use Rattle.flow_net.specs.Cuts.{leaves};

@@ -1,4 +1,4 @@
-//! Streams over std's readers and writers.
+//! Streams over the standard library's readers and writers.
 ghost use Rattle.std.specs.Prelude.{◌≡◌, ◌≤◌, ◌<◌, ◌^◌, ◌-◌, false, length, IfOk};
 ghost use Rattle.std.specs.Io.KnownBytes.{ReadConsumes, WriteAppends};
 ghost use Rattle.flow_tools.specs.streams.Streams.{Flags};

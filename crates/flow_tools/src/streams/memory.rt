@@ -1,4 +1,4 @@
-//! Streams over memory that lies ready, for tests: they ask for none, and fail where they are told to.
+//! Streams over memory, for tests: they ask for no memory, and fail where they are told to.
 ghost use Rattle.std.specs.Prelude.{◌≡◌, ◌≢◌, ◌≤◌, ◌<◌, ◌+◌, ◌-◌, ◌^◌, ℕ, [], Some, length, slice_index, true, false};
 ghost use Rattle.std.specs.Prelude.{IfOk, OnOk, OnErr};
 ghost use Rattle.std.specs.Io.KnownBytes.{ReadConsumes, WriteAppends};

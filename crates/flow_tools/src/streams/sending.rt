@@ -1,4 +1,4 @@
-//! Whole texts are put in as few calls as serve: lines are gathered, and a slice that was taken in part is continued.
+//! Whole texts are written in few calls: lines are gathered, and a slice that was taken in part is continued.
 ghost use Rattle.flow_tools.specs.streams.Streams.{over};
 ghost use Rattle.flow_tools.specs.streams.Sending.{IsPut};
 

@@ -1,8 +1,8 @@
-//! The border of the tree of the sinks: one pass over the arcs shows that a flow is greatest, in place of a search.
+//! The test at the end of the trees: one pass over the arcs shows that the flow is maximum, in place of a search.
 //!
-//! Where the active nodes have run out nothing remains on a half-arc that leads into that tree from outside, so that
-//! the nodes outside are the source side of a minimum cut. Nothing is claimed of the trees, so each such half-arc is
-//! looked at. The arcs are read in their order, and few of them cross the border.
+//! When no node is active any more, nothing remains on a half-arc that leads into the tree of the sinks, so all other
+//! nodes are the source side of a minimum cut. The trees are hints, so the pass looks at each such half-arc. Few arcs
+//! cross the border.
 ghost use Rattle.std.specs.Prelude.{◌≡◌, ◌+◌, ◌*◌, ◌<◌, ◌≤◌, IsTrue, length};
 ghost use Rattle.std.specs.List.{All};
 ghost use Rattle.flow_net.specs.Limits.{IsNet};

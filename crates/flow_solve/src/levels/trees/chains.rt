@@ -1,10 +1,9 @@
-//! Paths through two search trees: from a source along a chain of parents, over the half-arc where the trees touch, and
-//! along another chain to a sink.
+//! Augmenting paths through two search trees: from a source along a chain of parents, over the half-arc where the trees
+//! touch, and along another chain to a sink.
 //!
-//! Both chains are gone over twice, from where the trees touch to their roots: once for the least that remains on them,
-//! and once to push that. What is pushed stays under way between the ends of what was gone over so far, until they are
-//! found to be a source and a sink. So nothing has to be known of the trees, not even that a chain comes by no node
-//! twice.
+//! The code goes along both chains twice, from where the trees touch to the roots: once for the least residual
+//! capacity, and once to push that. Until the ends turn out to be a source and a sink, the flow counts as under way
+//! between them. So no proof needs to know anything of the trees, not even that a path is simple.
 ghost use Rattle.std.specs.Prelude.{◌≡◌, ℕ, ◌+◌, ◌*◌, ◌<◌, ◌≤◌, IfSome, IsTrue, length};
 ghost use Rattle.flow_net.specs.Nets.{IsNode};
 ghost use Rattle.flow_net.specs.NodeSets.{one_of};

@@ -1,11 +1,9 @@
-//! Two search trees (Boykov and Kolmogorov 2004): the cells of their nodes, and the queues of active nodes and orphans.
+//! The cells of two search trees (Boykov and Kolmogorov 2004), and the queues of active nodes and orphans.
 //!
-//! What these cells hold is a hint: nothing is claimed of it, and what a path needs is tested as flow is pushed along
-//! it. A cell that doesn't exist reads as 0, and a write to it is dropped. Nodes count from 1.
-//!
-//! In the first `4·n` of the `5·n` cells of a stage, with `n` nodes, each node's four stand side by side: its *label*,
-//! the half-arc to its parent, its *stamp*, which is counted in augmentations, and its parent, so that a walk reads no
-//! arc. Behind them stands for each node the next active one.
+//! These cells are hints; what a path needs is tested when flow is pushed along it. A cell that does not exist reads as
+//! 0, and a write to it is dropped. With `n` nodes the first `4·n` of a stage's `5·n` cells have four for each node,
+//! numbered from 1: its *label*, the half-arc to its parent, its *stamp*, which counts augmentations, and its parent.
+//! The last `n` have the next active node for each.
 ghost use Rattle.std.specs.Prelude.{◌≡◌, ◌-◌, ◌*◌, ◌≤◌, IsTrue, IsFalse, length, slice_index};
 ghost use Rattle.flow_solve.specs.levels.Trees.{HaveCells, HaveMarked};
 

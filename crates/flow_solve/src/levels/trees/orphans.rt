@@ -1,5 +1,5 @@
-//! Orphans: nodes of two search trees whose half-arc to their parent was filled, and their adoption by the nearest node
-//! whose own parents lead to a root (Boykov and Kolmogorov 2004, and so are the stamps).
+//! Orphans, the nodes of a tree whose half-arc to their parent was filled, and their adoption by the nearest node that
+//! leads to a root. Stamps are those of Boykov and Kolmogorov (2004).
 ghost use Rattle.std.specs.Prelude.{◌≡◌, ◌+◌, ◌<◌, ◌≤◌, ◌*◌, IsTrue, length};
 ghost use Rattle.flow_net.specs.Nets.{IsNode};
 ghost use Rattle.flow_net.specs.Flows.{Fits};
@@ -121,8 +121,7 @@ fn ask(
     Some(Offer { half, distance })
 }
 
-/// How much farther from its root an adoption may bring an orphan. One that would be moved by more comes free: the tree
-/// mostly comes back to it by a shorter way, and the paths through it stay short.
+/// How much farther from its root an adoption may move an orphan: beyond that, a free node finds a shorter path.
 const MOST_DETOUR: u32 = 4;
 
 /// Gives an orphan the nearest parent in its tree that leads to a root and isn't too far from it. Answers whether that,

@@ -1,5 +1,5 @@
-//! Discharging a node: it sends its excess on to the next nearer level, and is lifted as often as it is stuck (Goldberg
-//! and Tarjan 1988).
+//! Discharging a node: it pushes its excess to the next nearer level, and is lifted each time it is stuck (Goldberg and
+//! Tarjan 1988).
 ghost use Rattle.std.specs.Prelude.{◌≡◌, ◌+◌, ◌*◌, ◌<◌, ◌≤◌, length};
 ghost use Rattle.flow_net.specs.Nets.{IsNode};
 ghost use Rattle.flow_net.specs.Flows.{Fits};

@@ -1,14 +1,9 @@
-//! What waves go by: levels, the nodes with excess on each level, and their excess.
+//! The cells of waves: levels, lists of nodes with excess by level, and the excess itself.
 //!
-//! Nodes count from 1, and 0 stands for none; levels count from 0, and are fewer than nodes. With `n` nodes the `5·n`
-//! cells of a stage are, in this order:
-//!
-//! | Cells | What they hold |
-//! |---|---|
-//! | `n` | each node's level, and [`LEVELS`] times its current place, in blocks if it has [`PLACES`] half-arcs |
-//! | `n` | the search's queue; then for each node the next one with excess on its level |
-//! | `n` | for each level its first node with excess |
-//! | `2·n` | each node's excess, in two cells |
+//! Nodes are numbered from 1, and 0 stands for none. Levels count from 0 and are fewer than nodes. With `n` nodes the
+//! `5·n` cells of a stage are, in this order: `n` for each node's level plus [`LEVELS`] times its current place, which
+//! counts blocks if it has [`PLACES`] half-arcs or more; `n` for the search's queue, and then for each node the next
+//! one with excess on its level; `n` for the first node with excess of each level; and two for each node's excess.
 ghost use Rattle.std.specs.Prelude.{◌≡◌, ◌+◌, ◌-◌, ◌*◌, ◌≤◌, length};
 ghost use Rattle.std.specs.List.{All};
 ghost use Rattle.flow_solve.specs.levels.Waves.{HasCells, OnlyMarks};

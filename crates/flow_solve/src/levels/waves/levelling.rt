@@ -1,4 +1,5 @@
-//! The search that gives the nodes their levels: backwards from the roots, no farther than excess may be lifted.
+//! The search that gives the nodes their levels: backwards from the terminals that take the excess, no farther than
+//! nodes may be lifted.
 ghost use Rattle.std.specs.Prelude.{◌≡◌, ◌+◌, ◌*◌, ◌<◌, ◌≤◌, true, length};
 ghost use Rattle.std.specs.List.{All};
 ghost use Rattle.flow_net.specs.Limits.{IsNet};
@@ -15,8 +16,7 @@ use crate::residual::packing::Packed;
 use crate::task::Task;
 use flow_net::{FlowTable, Network};
 
-/// How many times the number of arcs a wave may take before the next search: some times what a search does, since in a
-/// wave that goes on for long most nodes are lifted where nothing leads on.
+/// How many times the number of arcs a wave may take before a new search: later, most nodes are lifted in dead ends.
 const FUEL: u64 = 16;
 
 /// How many nodes have excess.

@@ -1,4 +1,4 @@
-//! Passing the half-arcs of a node, from the first to the last or from the last to the first.
+//! Going through the half-arcs of a node, forwards or backwards.
 ghost use Rattle.std.specs.Prelude.{◌+◌, ◌-◌, ◌*◌, ◌<◌, ◌≤◌, IfSome, length};
 ghost use Rattle.flow_net.specs.Nets.{IsNode};
 ghost use Rattle.flow_solve.specs.residual.Packs.{IsPacked};

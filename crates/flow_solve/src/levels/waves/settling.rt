@@ -1,8 +1,8 @@
-//! The test at the end of waves: whether a table carries a feasible flow, and of which value.
+//! The test at the end of waves: whether the table holds a feasible flow, and of which value.
 //!
-//! It goes over the arcs once, in their order. Each node that is no terminal has a *balance* in two cells, what enters
-//! it less what leaves it, counted from [`EVEN`]; a balance that is too great for 64 bits fails the test, and so does a
-//! self-loop with flow. With `n` nodes the first `2·n` cells have the balances, and the next `n` each node's role.
+//! It goes over the arcs once. Each node that is no terminal has a *balance* in two cells: what enters minus what
+//! leaves, counted from [`EVEN`]. A balance beyond 64 bits fails the test, and so does a self-loop with flow. With `n`
+//! nodes the first `2·n` cells have the balances, and the next `n` each node's role.
 ghost use Rattle.std.specs.Prelude.{◌≡◌, ◌≢◌, ℕ, ◌+◌, ◌-◌, ◌*◌, ◌<◌, ◌≤◌, ◌==◌, if◌then◌else◌};
 ghost use Rattle.std.specs.Prelude.{true, false, IfSome, length, slice_index};
 ghost use Rattle.std.specs.List.{All};

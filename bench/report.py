@@ -93,7 +93,8 @@ class Report:
                 if ratios:
                     worst = max(ratios, key=lambda ratio: ratio.factor)
                     label = [title, *([] if in_all else [f'{size:,}' if size > 1 else '', order])]
-                    rows.append([*label, told(mean(ratios)), f'{sum(ratio.is_behind() for ratio in ratios)} of {len(ratios)}',
+                    behind = sum(ratio.is_behind() for ratio in ratios)
+                    rows.append([*label, told(mean(ratios)), f'{behind} of {len(ratios)}',
                                  f'{worst.row["family"]} {worst.cell().strip("*")}'])
         return table(['Problems', *([] if in_all else ['Arcs or nodes', 'Order']), 'flow over the fastest other',
                       'Behind on', 'Worst'], rows, 0)

@@ -95,14 +95,17 @@ def runner(flow, folder):
         told, status = said(*words, 'rope', '--alone', '--also', name, command)
         tests.append((f'a {name} solver is told', status == (name == 'wrong') and wanted in told))
     row = {'collection': 'own', 'family': 'any', 'size': 1, 'order': 'generated', 'flow': '2.000', 'one': '1.000'}
+    pictures = [{**row, 'collection': 'real', 'family': f'photograph-{name}-4', 'flow': took}
+                for name, took in (('a', '0.500'), ('b', '2.000'))]
     (folder / 'docs').mkdir()
     (folder / 'bench').mkdir()
     for name in ('README.md', 'docs/BENCHMARKS.md'):
         (folder / name).write_text(f'before\n{report.BEGIN}\nold\n{report.END}\nafter\n')
-    report.Report('today', [row], []).write(folder)
+    report.Report('today', [row, *pictures], []).write(folder)
     page, raw = ((folder / name).read_text() for name in ('docs/BENCHMARKS.md', 'bench/results/flows.csv'))
     tests.append(('the tables are put between their markers', page.startswith('before') and page.endswith('after\n')
-                  and '| any | **2.0 one** |' in page and 'old' not in page and 'own,any,1,generated,2.000' in raw))
+                  and '| any | **2.0 one** |' in page and '| photographs-4 | 1.0 one |' in page
+                  and 'old' not in page and 'own,any,1,generated,2.000' in raw))
 
 
 def main():

@@ -11,8 +11,8 @@
 //! 4. **Phases** (`phases`, `walking`) are Dinic's algorithm (Dinitz 1970). They start from any feasible flow, and
 //!    their last search shows that the flow is maximum.
 //!
-//! The first three stages promise a feasible flow and a bound on steps. That the flow is maximum is shown by the test at
-//! the end of the trees, or by the phases. The stages before the phases take at most `n²·m` steps together, and the
+//! The first three stages promise a feasible flow and a bound on steps. That the flow is maximum is shown by the test
+//! at the end of the trees, or by the phases. The stages before the phases take at most `n²·m` steps together, and the
 //! phases at most `3·n²·m`. Near sends and trees use rows of *entries* (`rows`, `entries`), in which an arc and its
 //! opposite may share one entry. The later stages need each half-arc in its row, and pack anew.
 ghost use Rattle.std.specs.Prelude.{◌≡◌, ◌+◌, ◌*◌, ◌≤◌, IsFalse, IsTrue, drop, length};

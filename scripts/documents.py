@@ -11,7 +11,8 @@ scratch folder of its own, with a copy of examples/ and with FLOW on the PATH as
 command before. In a block fenced as ```console checkout, they run in the repository itself, where standard output
 alone is compared, with the repository's path shown as /path/to/flow, and they must leave no file behind that git would
 take. Links to files of the repository must lead somewhere, and each file of the crates must stand on the page that
-tells what stands where, by its path. Each check that fails is told; the last line counts them.
+tells what stands where, by its path. Figures of speed stand on the pages that the benchmarks write, and in no other's
+prose. Each check that fails is printed; the last line counts them.
 """
 import difflib
 import os
@@ -26,6 +27,13 @@ REPOSITORY = pathlib.Path(__file__).resolve().parent.parent
 SECONDS = 600
 LIBRARY_PLACES = ("C_INCLUDE_PATH", "CPLUS_INCLUDE_PATH", "LIBRARY_PATH", "LD_LIBRARY_PATH")
 LAST_LINES = 40  # Of the errors of a command of the checkout that didn't print what is shown.
+PAGES_OF_FIGURES = "README.md", "docs/BENCHMARKS.md"
+NUMBER = (r"(?:\d[\d,.]*[\s-]*|(?:one|two|three|four|five|six|seven|eight|nine|ten|twelve|fifteen|twenty|thirty|forty|"
+          r"fifty|sixty|hundred|thousand|few|several|half an?)[\s-]+)")
+SPEED = re.compile(rf"\b{NUMBER}(?:CPU[\s-])?(?:[mµ]?s|(?:milli|micro)?seconds?|minutes?|hours?|times|%|per ?cent)(?!\w)"
+                   r"|\b(?:twice|thrice|half) as (?:long|fast|slow|quick)", re.I)
+CODE = re.compile(r"^```.*?^```$|^    .*?$|`[^`\n]+`", re.M | re.S)
+NO_SPEED = re.compile("times the greatest capacity")
 counts = {True: 0, False: 0}
 
 
@@ -131,6 +139,18 @@ def sections(document):
     return {heading.strip("`"): text for heading, text in (part.split("\n", 1) for part in parts)}
 
 
+def check_speed():
+    """Looks for figures of speed in the prose of pages that no benchmark writes."""
+    for page in sorted(page for kind in ("*.md", "docs/*.md", "examples/**/*.md") for page in REPOSITORY.glob(kind)):
+        name = str(page.relative_to(REPOSITORY))
+        if name not in PAGES_OF_FIGURES:
+            blank = CODE.sub(lambda code: re.sub(r"[^\n]", "_", code.group()), page.read_text())
+            prose = NO_SPEED.sub(lambda words: "_" * len(words.group()), blank)
+            found = [f"line {prose.count(chr(10), 0, figure.start()) + 1}: {figure.group()}"
+                     for figure in SPEED.finditer(prose)]
+            check(not found, f"{name} has figures of speed in its prose:", *found)
+
+
 def declares_alone(file):
     """Whether a file has nothing but the names of the files in its folder."""
     return all(re.match(r"(pub )?mod \w+$|$", line) for line in file.read_text().splitlines())
@@ -171,6 +191,7 @@ def main():
         check_links(document)
     if not named:
         check_names()
+        check_speed()
     print(f"documents: {counts[True]} passed, {counts[False]} failed")
     return 1 if counts[False] else 0
 

@@ -128,13 +128,14 @@ def guide_scripts(checks, scratch):
 
 
 def from_python(checks, _):
-    """Each page of the guide tells its answer from Python, in one line."""
+    """The lines of the guide for Python answer what they say. Each section has one, but that on lower limits."""
     import provedflow
     with open(os.path.join(ROOT, "docs", "GUIDE.md"), encoding="utf-8") as file:
-        pages = file.read().split("\n## ")[1:]
-    for page in pages:
-        line, answer = (re.findall(r"From Python, `(.*?)` is `(.*?)`", page) or [("None", page[:30])])[0]
-        checks.equal(f"guide: {line}", str(eval(line, {"provedflow": provedflow})), answer)
+        sections = file.read().split("\n## ")[1:]
+    for section in sections:
+        for line, answer in re.findall(r"From Python, `(.*?)` is `(.*?)`", section) or [("None", section[:30])]:
+            if not section.startswith("6. Lower limits"):
+                checks.equal(f"guide: {line}", str(eval(line, {"provedflow": provedflow})), answer)
 
 
 def endings(checks, scratch):

@@ -19,8 +19,8 @@
  *   - No call is made from a signal handler, nor in a forked child of a process with threads.
  * Everything else is tested before it is used: the number of nodes, the ends of arcs, the terminals.
  *
- * Each function answers a status. Where it isn't PROVEDFLOW_OK, nothing was written. Lists that keep the limits are
- * refused for want of memory alone.
+ * Each function returns a status. If it isn't PROVEDFLOW_OK, nothing was written. Valid lists are refused only if memory
+ * is refused.
  *
  * Link with -lprovedflow; the library needs the C library alone.
  */
@@ -48,7 +48,7 @@ enum {
     PROVEDFLOW_MEMORY = 5     /* memory was refused */
 };
 
-/* What provedflow_check says of a flow. */
+/* What provedflow_check finds. */
 enum {
     PROVEDFLOW_GREATEST = 0,  /* it is feasible, and no feasible flow has a greater value */
     PROVEDFLOW_FEASIBLE = 1,  /* it is feasible, and another has a greater value */
@@ -144,12 +144,12 @@ static inline uint32_t provedflow_cut(uint32_t nodes, size_t arcs, const uint32_
     return status;
 }
 
-/* Finds the edge connectivity: how many arcs have to go before some node is cut off from another. It is the least
+/* Finds the edge connectivity: how many arcs must fail before some node is cut off from another. It is the least
  * number of arcs that leave a set of nodes that is neither empty nor all.
  *
  * Where undirected isn't 0, arcs have no direction: those count that have exactly one end in the set. Where pair isn't
- * 0, only sets count that have all sources inside and all sinks outside; else no terminals are wanted, and their lists
- * are left aside. links gets the number. */
+ * 0, only sets count that have all sources inside and all sinks outside; else the lists of terminals are ignored. links
+ * gets the number. */
 static inline uint32_t provedflow_links(uint32_t nodes, size_t arcs, const uint32_t *src, const uint32_t *dst,
                                         size_t n_sources, const uint32_t *sources, size_t n_sinks,
                                         const uint32_t *sinks, uint32_t undirected, uint32_t pair, uint64_t *links) {
@@ -158,7 +158,7 @@ static inline uint32_t provedflow_links(uint32_t nodes, size_t arcs, const uint3
                                   links);
 }
 
-/* Says of a flow, wherever it comes from, whether it is one of the greatest value.
+/* Checks whether a flow, wherever it comes from, has the greatest value.
  *
  * verdict gets the first of these that applies: PROVEDFLOW_OVER, PROVEDFLOW_UNBALANCED, PROVEDFLOW_FEASIBLE,
  * PROVEDFLOW_GREATEST. high and low get two words, and each may be NULL: with PROVEDFLOW_OVER the first such arc, with

@@ -144,7 +144,7 @@ Cut minimum_cut(std::uint32_t nodes, const Src &src, const Dst &dst, const Cap &
     return found;
 }
 
-/* Finds the edge connectivity: how many arcs have to go before some node is cut off from another. */
+/* Finds the edge connectivity: how many arcs must fail before some node is cut off from another. */
 template <class Src, class Dst>
 std::uint64_t edge_connectivity(std::uint32_t nodes, const Src &src, const Dst &dst, bool undirected) {
     const std::vector<std::uint32_t> none;
@@ -156,7 +156,7 @@ std::uint64_t edge_connectivity(std::uint32_t nodes, const Src &src, const Dst &
     return links;
 }
 
-/* Finds how many arcs have to go before every sink is cut off from every source. */
+/* Finds how many arcs must fail before every sink is cut off from every source. */
 template <class Src, class Dst, class Sources, class Sinks>
 std::uint64_t edge_connectivity(std::uint32_t nodes, const Src &src, const Dst &dst, bool undirected,
                                 const Sources &sources, const Sinks &sinks) {
@@ -168,7 +168,7 @@ std::uint64_t edge_connectivity(std::uint32_t nodes, const Src &src, const Dst &
     return links;
 }
 
-/* Says of a flow, wherever it comes from, whether it is one of the greatest value. */
+/* Checks whether a flow, wherever it comes from, has the greatest value. */
 template <class Src, class Dst, class Cap, class Sources, class Sinks, class Flows>
 Verdict check(std::uint32_t nodes, const Src &src, const Dst &dst, const Cap &cap, const Sources &sources,
               const Sinks &sinks, const Flows &flow) {
@@ -214,7 +214,7 @@ public:
         const auto most = std::numeric_limits<std::uint64_t>::max();
         std::uint64_t &source = sources_.at(pixel), &sink = sinks_.at(pixel);
         if (most - source < to_source || most - sink < to_sink) {
-            throw std::overflow_error("a pixel's weights to a terminal come to more than 64 bits");
+            throw std::overflow_error("a pixel's weights to a terminal add up to more than 64 bits");
         }
         source += to_source;
         sink += to_sink;

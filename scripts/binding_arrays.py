@@ -117,7 +117,7 @@ def refusals(checks):
     for kind, words, call in (
         (error, "src has 1 elements and flows has 0", lambda: provedflow.check([0], [1], [1], 0, 1, [])),
         (ValueError, "nearest has to be", lambda: provedflow.minimum_cut([0], [1], [1], 0, 1, nearest="middle")),
-        (ValueError, "have to be named both", lambda: provedflow.edge_connectivity([0], [1], sources=0)),
+        (ValueError, "give both sources and sinks", lambda: provedflow.edge_connectivity([0], [1], sources=0)),
     ):
         checks.raises(f"refused: {words}", kind, words, call)
 

@@ -4,8 +4,8 @@
 LIBRARY is the shared library that scripts/library.sh makes. Calls over arrays are held against the definitions, by
 trial of all sets of nodes; those for SciPy and NetworkX against these libraries, and grids by trial of all masks. Every
 example of a docstring is run, and every block of Python of the pages below, which has to print what the block `text`
-after it shows. NumPy, SciPy and NetworkX are used where they are installed; what is left out for want of one is told in
-a line that begins with SKIPPED. The last line is 'bindings: N passed, M failed'.
+after it shows. NumPy, SciPy and NetworkX are used where they are installed; a line that begins with SKIPPED names what
+is left out because one is missing. The last line is 'bindings: N passed, M failed'.
 """
 
 import importlib
@@ -67,7 +67,7 @@ def types(checks):
 
 
 def breaking_off(checks):
-    """Ctrl-C is heard while a foreign call runs, and a long call of the library is made in that way."""
+    """Ctrl-C works while a foreign call runs, and a long call of the library is made in that way."""
     code = """if True:
         import ctypes, os, signal, threading, time
         import provedflow

@@ -98,8 +98,8 @@ TABLES = (
     ("from,to,capacity\nA,B,1\nB,C\n", "table.py T A B",
      "T: row 3, column capacity: the row ends before it: it has 2 of 3 columns"),
     ("from,to\nA,B\n", "table.py T A B", "T: row 1: the column capacity isn't among from, to"),
-    (f"from,to,capacity\nA,B,{2 ** 64 - 1}\nA,B,inf\n", "table.py T A B", f"T: the capacities make {2 ** 64 - 1} "
-     f"together, which leaves none for inf, since the greatest is {2 ** 64 - 1}"),
+    (f"from,to,capacity\nA,B,{2 ** 64 - 1}\nA,B,inf\n", "table.py T A B", f"T: the capacities add up to "
+     f"{2 ** 64 - 1}, so none is left for inf: the greatest is {2 ** 64 - 1}"),
     ("", "table.py none.csv A B", "there is no file none.csv"),
     ("from,to,low,high\nA,B,3,2\n", "lower.py T A B", "T: row 2, column low: 3 is greater than high, which is 2"),
 )

@@ -255,9 +255,9 @@ def kinds_of_rosters(checks, scratch):
     for people, shifts_, expected in (
             (three, shifts, "  Ida: Tue b\n  Jon: Tue a\n  Kim: Mon a\nwishes granted: 2 of 3\n"),
             ("person,most,can,lest\nIda,1,Mon a,\n", shifts,
-             "the column lest isn't known and plays no part; known are person, most, can, least, wishes\n"),
+             "the column lest is unknown and ignored; known are person, most, can, least, wishes\n"),
             ("person,most,can\nIda,2,Mon b\n", shifts, "row 2, column can: 'Mon b' isn't in the table of shifts\n"),
-            ("person,most,can\nIda,2,Mon a\nIda,1,\n", shifts, "row 3, column person: 'Ida' stands in row 2 already\n"),
+            ("person,most,can\nIda,2,Mon a\nIda,1,\n", shifts, "row 3, column person: 'Ida' is already in row 2\n"),
             ("person,most,can,least\nIda,2,Mon a,3\n", shifts, "row 2, column least: '3' isn't between 0 and 2\n"),
             ("person,most,can,least\nIda,2,Mon a;Tue a,2\nJon,2,Mon a;Tue a,1\nKim,1,Tue b,\n", shifts,
              "no roster keeps the least: Ida, Jon have to work 3 shifts together, and can work 2\n"),

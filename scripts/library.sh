@@ -1,8 +1,8 @@
 #!/usr/bin/env bash
 # Makes the library for C and C++ and puts it into a folder with its header: library.sh DIR [ARCHIVE]
 # DIR gets libprovedflow.so.0 with the link libprovedflow.so, libprovedflow.a, the headers for C and C++, and a file by
-# which CMake finds them. ARCHIVE is what was built of the crate flow_c; where none is handed in, scripts/build.sh proves
-# and builds it.
+# which CMake finds them. ARCHIVE is what was built of the crate flow_c; without it scripts/build.sh proves and
+# builds the crate.
 # To its code comes the kit's heap, which calls malloc, realloc and free, and nothing else: there is no C of ours in the
 # library. It needs the C library alone, its code may lie anywhere in memory, and of its names only provedflow_* can be
 # seen from outside. Progress goes to standard error. The one line of standard output is the path of the shared library.

@@ -18,12 +18,12 @@ try:
     import matplotlib.pyplot as plt
     import networkx as nx
     import numpy as np
-    import provedflow  # Loaded so that it is told here where it isn't installed.
+    import provedflow  # Loaded so that the error below names it where it isn't installed.
     from matplotlib.collections import LineCollection
     from scipy.sparse import coo_matrix, csgraph
     plt.rcParams["text.parse_math"] = False
 except ModuleNotFoundError as failure:
-    sys.exit(f"{os.path.basename(sys.argv[0])}: there is no Python module {failure.name}; README.md tells what the "
+    sys.exit(f"{os.path.basename(sys.argv[0])}: there is no Python module {failure.name}; README.md lists what the "
              "examples need")
 
 PREFIXES = {"k": 10 ** 3, "K": 10 ** 3, "M": 10 ** 6, "G": 10 ** 9, "T": 10 ** 12}

@@ -17,8 +17,8 @@ def given(description):
     for column in ("from", "to", "capacity"):
         words.add_argument(f"--{column}", metavar="COLUMN", help=f"what the column {column} is called")
     words.add_argument("table", help="a CSV file with the columns from, to and capacity")
-    words.add_argument("sources", help="the names of the sources, parted by commas")
-    words.add_argument("sinks", help="the names of the sinks, parted by commas")
+    words.add_argument("sources", help="the names of the sources, separated by commas")
+    words.add_argument("sinks", help="the names of the sinks, separated by commas")
     return words.parse_args()
 
 
@@ -61,8 +61,8 @@ class Links:
                   for row in self.rows]
         infinite = 1 + sum(filter(None, finite)) + sum(self.limits.values())
         if None in finite and infinite > tables.GREATEST:
-            raise Refused(f"{self.words.table}: the capacities make {infinite - 1} together, which leaves none for "
-                          f"inf, since the greatest is {tables.GREATEST}")
+            raise Refused(f"{self.words.table}: the capacities add up to {infinite - 1}, so none is left for inf: "
+                          f"the greatest is {tables.GREATEST}")
         return [infinite if capacity is None else capacity for capacity in finite]
 
     def _read_sites(self):

@@ -1,4 +1,4 @@
-"""The frame of a script: what is wrong is told in a line, and an interrupt or a closed pipe ends it without a word."""
+"""The frame of a script: an error is one line on standard error, and an interrupt or a closed pipe prints nothing."""
 
 import os
 import signal
@@ -6,7 +6,7 @@ import sys
 
 
 class Refused(Exception):
-    """What the data or the command line has that a script can't take; the text tells it."""
+    """An error in the data or on the command line; the text says which."""
 
 
 def run(main):
@@ -36,7 +36,7 @@ def in_words(failure):
 
 
 def note(words):
-    """Tells on standard error what the user should know."""
+    """Prints a note for the user on standard error."""
     print(f"{os.path.basename(sys.argv[0])}: {words}", file=sys.stderr, flush=True)
 
 

@@ -1,9 +1,9 @@
-"""Tables as spreadsheets save them: a row of column names, then rows of texts, parted by commas, semicolons or tabs.
+"""Tables as spreadsheets save them: a row of column names, then rows of texts, separated by commas, semicolons or tabs.
 
     for row in read_table("roads.csv", "from", "to", "capacity"):
         print(row.name("from"), row.name("to"), row.whole("capacity"))
 
-Rows are counted as a spreadsheet counts them: the column names are row 1. What is wrong is a `Refused` with its row
+Rows are counted as a spreadsheet counts them: the column names are row 1. An error is a `Refused` with its row
 and column. Texts are brought into one form of Unicode (NFC), so that names that look alike are the same.
 """
 
@@ -35,12 +35,12 @@ class Row:
         return self.texts.get(column, "")
 
     def refuse(self, column, words):
-        """Raises what is wrong with this row's text in a column."""
+        """Raises an error about this row's text in a column."""
         raise Refused(f"{self.path}: row {self.number}, column {column}: {words}")
 
     def name(self, column):
         """The text, which has to be there."""
-        return self[column] or self.refuse(column, "nothing stands here")
+        return self[column] or self.refuse(column, "it is empty")
 
     def known(self, column, names, where):
         """The text, which has to be one of these names."""
@@ -48,7 +48,7 @@ class Row:
         return name if name in names else self.refuse(column, f"'{name}' isn't in {where}")
 
     def exact(self, column):
-        """The number from 0, exactly. A comma is a decimal comma where it parts no columns."""
+        """The number from 0, exactly. A comma is a decimal comma where it separates no columns."""
         text = self.name(column)
         if not (text.isascii() and NUMBER.fullmatch(text)) or self.mark == "," in text:
             self.refuse(column, f"'{text}' isn't a number from 0, as 52 or 52.5")
@@ -67,16 +67,16 @@ class Row:
 
 
 def read_table(path, *columns, names=(), known=None):
-    """The rows of a table with these columns. `names` tells what some are called in this table; columns that aren't
-    among the `known` ones are told on standard error."""
+    """The rows of a table with these columns. `names` says what some are called in this table; a note on standard error
+    names columns that aren't among the `known` ones."""
     mark, rows = _fields(path)
     if not rows:
-        raise Refused(f"{path}: row 1 has to name the columns {', '.join(columns)}, and the file is empty")
+        raise Refused(f"{path}: row 1 must name the columns {', '.join(columns)}, but the file is empty")
     (_, header), *rows = rows
     keys = _keys(path, header, columns, dict(names))
     strange = [name for name, key in zip(header, keys) if name and key not in (*columns, *(known or keys))]
     if strange:
-        note(f"{path}: the column {', '.join(strange)} isn't known and plays no part; known are "
+        note(f"{path}: the column {', '.join(strange)} is unknown and ignored; known are "
              f"{', '.join([*columns, *known])}")
     return [_row(path, number, fields, keys, columns, mark) for number, fields in rows]
 
@@ -87,7 +87,7 @@ def once(rows, column):
     for row in rows:
         name = row.name(column)
         if name in found:
-            row.refuse(column, f"'{name}' stands in row {found[name].number} already")
+            row.refuse(column, f"'{name}' is already in row {found[name].number}")
         found[name] = row
     return found
 
@@ -113,18 +113,18 @@ def _row(path, number, fields, keys, columns, mark):
     for column in set(columns) - set(row.texts):
         row.refuse(column, f"the row ends before it: it has {len(fields)} of {len(keys)} columns")
     if any(fields[len(keys):]):
-        raise Refused(f"{path}: row {number} has {len(fields)} columns where row 1 has {len(keys)}; a text with the "
-                      "mark that parts columns wants quotes around it")
+        raise Refused(f"{path}: row {number} has {len(fields)} columns where row 1 has {len(keys)}; put quotes around "
+                      "a text that contains the separator of columns")
     return row
 
 
 def _fields(path):
-    """What parts columns, and the number and the texts of each row that isn't empty. Excel's line `sep=;` tells it,
-    else the first row's marks outside quotes; Excel doesn't count that line as a row."""
+    """The separator of columns, and the number and the texts of each row that isn't empty. Excel's line `sep=;` names
+    the separator, and Excel doesn't count it as a row; else it is the first row's most frequent one outside quotes."""
     text, number = _text(path), 0
-    told = re.match(r"sep=(.)\r?\n", text)
-    text = text[told.end():] if told else text
-    mark = told.group(1) if told else max(",;\t", key="".join(text.split("\n", 1)[0].split('"')[::2]).count)
+    named = re.match(r"sep=(.)\r?\n", text)
+    text = text[named.end():] if named else text
+    mark = named.group(1) if named else max(",;\t", key="".join(text.split("\n", 1)[0].split('"')[::2]).count)
     lines, rows = csv.reader(io.StringIO(text, newline=""), delimiter=mark, skipinitialspace=True, strict=True), []
     try:
         for number, fields in enumerate(lines, start=1):
@@ -148,7 +148,7 @@ def _text(path):
 
 
 def listed(words, names, where):
-    """The names in a list that is parted by commas, each of which has to be one of these; a name with a comma stands
+    """The names in a list that is separated by commas, each of which has to be one of these; a name with a comma stands
     in double quotes."""
     fields = next(csv.reader([unicodedata.normalize("NFC", words)], skipinitialspace=True), [])
     found = [" ".join(field.split()) for field in fields]

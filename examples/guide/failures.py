@@ -1,5 +1,5 @@
 #!/usr/bin/env python3
-"""Tells what gets through where one link of a table fails, or one site.
+"""Prints how much gets through if one link of a table fails, or one site.
 
 Usage: failures.py [OPTIONS] TABLE SOURCE[,SOURCE ..] SINK[,SINK ..]
 

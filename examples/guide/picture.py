@@ -5,7 +5,7 @@ Usage: picture.py problem PICTURE OBJECT BACKGROUND > PROBLEM
        picture.py mask PICTURE < CUT
 
 OBJECT and BACKGROUND are places that are known to lie inside and outside, as COLUMN,ROW COLUMN,ROW .. in one word
-parted by blanks, counted from 0 at the upper left. The first form writes the problem: each pixel is a node, and two
+separated by blanks, counted from 0 at the upper left. The first form writes the problem: each pixel is a node, and two
 neighbours are joined both ways, the more strongly the more alike they are. The second turns what `flow cut` prints into
 rows of # for the object and . for the background.
 """

@@ -24,7 +24,7 @@ from scipy.spatial import cKDTree
 from script import count
 
 SHOWN = 12
-"""How many spots are told, and have their names in the picture."""
+"""How many spots are printed, and have their names in the picture."""
 NEAR = 8
 """Among how many of the nearest places the other end of a new link is looked for first."""
 
@@ -108,7 +108,7 @@ def new_link(network, spots):
 def tell(network, weak, new):
     """The weakest spots in words."""
     print(f"{count(len(network.names), 'place')}, {count(network.ends.shape[1], 'link')}; the loss of "
-          f"{count(weak.least, 'link')} can split the network, of fewer never")
+          f"{count(weak.least, 'link')} can split the network, that of fewer can't")
     inside = [[network.names[end] for end in network.ends[:, link]] for link in weak.links]
     print(f"weakest spots: {len(weak.spots):,}, with {count(len(inside), 'link')} whose loss can be to blame")
     for spot in weak.spots[:SHOWN]:

@@ -127,7 +127,7 @@ def draw(roads, path):
 def main():
     parser = argparse.ArgumentParser(description="Finds the bottleneck of a road network.")
     graphs.add_options(parser)
-    parser.add_argument("--sources", metavar="NAMES", help="where the way starts, parted by commas")
+    parser.add_argument("--sources", metavar="NAMES", help="where the way starts, separated by commas")
     parser.add_argument("--sinks", metavar="NAMES", help="where it ends")
     parser.add_argument("--unit", metavar="WORDS", help="what the capacities count")
     parser.add_argument("--more", metavar="NUMBER", type=Fraction, default=Fraction(500),

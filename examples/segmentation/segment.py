@@ -22,7 +22,7 @@ try:
     from provedflow.pixels import Grid
     from scipy import ndimage
 except ModuleNotFoundError as failure:
-    sys.exit(f"segment.py: there is no Python module {failure.name}; README.md tells what the examples need")
+    sys.exit(f"segment.py: there is no Python module {failure.name}; README.md lists what the examples need")
 
 Image.MAX_IMAGE_PIXELS = None
 PAINTS, NEAR = {"object": (255, 0, 0), "background": (0, 0, 255)}, 60

@@ -14,12 +14,12 @@ sequence of ints. Answers are NumPy arrays where one of the arrays is, and else 
 ends and of 64 bits for capacities and flows is read where it lies, with no copy; other kinds of integers are converted,
 and nothing is ever rounded or wrapped around. While a call runs, no other thread may write its arrays; calls on
 different arrays may run at once, and other Python threads go on meanwhile. Ctrl-C raises KeyboardInterrupt at once; a
-call of 20,000 arcs or more then goes on to its end in a thread of its own, and you leave its arrays alone meanwhile.
+call of 20,000 arcs or more then goes on to its end in a thread of its own, so don't change its arrays.
 
 `provedflow.scipy`, `provedflow.networkx` and `provedflow.pixels` take sparse matrices, graphs and pictures. The work is
 done by the C library libprovedflow.so.0, which is looked for where the environment variable PROVEDFLOW_LIBRARY says,
-then beside this package, then where the system looks for libraries. What is proved of its answers, and what isn't,
-stands in the project's README.
+then beside this package, then where the system looks for libraries. The project's README says what is proved of its
+answers, and what isn't.
 """
 
 from provedflow.calls import Cut, Flow, Verdict, check, edge_connectivity, maximum_flow, minimum_cut

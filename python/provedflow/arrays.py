@@ -1,6 +1,6 @@
 """Arrays of machine integers, as the C library reads and writes them, out of what Python has.
 
-NumPy is never imported here: an array of it can be handed in only where it is loaded.
+NumPy is never imported here: only where it is loaded can there be an array of it.
 """
 
 import array
@@ -28,9 +28,9 @@ def plain(number):
     return number.item() if numpy and isinstance(number, numpy.generic) else number
 
 
-class Lent:
-    """A list that the library reads or writes: its address, its length, and what keeps the memory in being. A view
-    keeps it where it is: an array of Python that is lent can't grow."""
+class Buffer:
+    """A list that the library reads or writes: its address, its length, and what keeps the memory alive. The view keeps
+    it in its place, since an array of Python that has a view can't grow."""
 
     __slots__ = ("address", "length", "keeper", "view")
 
@@ -53,22 +53,22 @@ def read(thing, kind, name):
     """
     numpy = sys.modules.get("numpy")
     if numpy and isinstance(thing, numpy.ndarray):
-        return Lent(read_numpy(numpy, thing, kind, name))
+        return Buffer(read_numpy(numpy, thing, kind, name))
     if isinstance(thing, (str, bytes, bytearray)):
         raise TypeError(f"{name} has to be an array or a sequence of whole numbers, and is {type(thing).__name__}")
     if isinstance(thing, array.array) and thing.typecode == kind:
-        return Lent(thing)
+        return Buffer(thing)
     if isinstance(thing, (memoryview, array.array)):
         thing = thing.tolist()
     try:
-        return Lent(array.array(kind, thing))
+        return Buffer(array.array(kind, thing))
     except (TypeError, OverflowError, ValueError):
         complain(thing, kind, name)
         raise
 
 
 def complain(thing, kind, name):
-    """Tells the first element that can't be taken."""
+    """Raises an error about the first element that is no number for the library."""
     try:
         elements = enumerate(thing)
     except TypeError:
@@ -89,7 +89,8 @@ def out_of_range(place, number, kind):
 
 
 def read_numpy(numpy, thing, kind, name):
-    """The same of a NumPy array: itself where its elements lie as the library reads them, else a converted copy."""
+    """The same for a NumPy array: the array itself if its elements lie as the library reads them, else a converted
+    copy."""
     refuse_masked(numpy, thing, name)
     if thing.ndim != 1:
         raise FlowError(f"{name} has to have one axis, and has the shape {thing.shape}")
@@ -110,21 +111,21 @@ def read_numpy(numpy, thing, kind, name):
 
 
 def refuse_masked(numpy, thing, name):
-    """Sees that no element of an array is masked: what lies below a mask is no number of the caller's."""
+    """Checks that no element of an array is masked: what lies below a mask is no number of the caller's."""
     if type(thing) is not numpy.ndarray and numpy.ma.is_masked(thing):
         raise TypeError(f"{name} has masked elements, which are no numbers")
 
 
 def room(numpy, kind, length):
-    """A list for the library to write: a NumPy array where there is that module, else an array of Python."""
+    """A list for the library to write: a NumPy array if that module is given, else an array of Python."""
     if numpy:
-        return Lent(numpy.empty(length, TYPES[kind]))
-    return Lent(array.array(kind, bytes(length * array.array(kind).itemsize)))
+        return Buffer(numpy.empty(length, TYPES[kind]))
+    return Buffer(array.array(kind, bytes(length * array.array(kind).itemsize)))
 
 
-def answer(lent):
+def answer(buffer):
     """What the library has written, as an answer to the caller."""
-    return lent.keeper.tolist() if isinstance(lent.keeper, array.array) else lent.keeper
+    return buffer.keeper.tolist() if isinstance(buffer.keeper, array.array) else buffer.keeper
 
 
 def terminals(thing, name):

@@ -7,7 +7,7 @@ import operator
 import threading
 from typing import TYPE_CHECKING, Any, NamedTuple, Optional, Union
 
-from provedflow.arrays import AMOUNT, NODE, Lent, answer, numpy_of, read, room, terminals
+from provedflow.arrays import AMOUNT, NODE, Buffer, answer, numpy_of, read, room, terminals
 from provedflow.library import (
     ARC, MEMORY, MOST_ARCS, MOST_LINKS, MOST_NODES, OK, TERMINALS, FlowError, library)
 
@@ -40,9 +40,8 @@ class Cut(NamedTuple):
 
 
 class Verdict(NamedTuple):
-    """What is to be said of a flow: 'greatest', 'feasible', 'over' or 'unbalanced'; the value of a feasible flow,
-    negative where more comes into the sources than leaves them; the first arc that carries too much, or the first node
-    that is unbalanced."""
+    """The verdict on a flow: 'greatest', 'feasible', 'over' or 'unbalanced'; the value of a feasible flow, negative if
+    more enters the sources than leaves them; the first arc that carries too much, or the first unbalanced node."""
 
     word: str
     value: Optional[int]
@@ -54,7 +53,7 @@ WORDS = ("greatest", "feasible", "over", "unbalanced")
 NEAREST = {"source": 0, "sources": 0, "sink": 1, "sinks": 1}
 """The terminals that a cut may be nearest, each with the library's flag for it."""
 LONG = 20_000
-"""How many arcs a call has at least that is made in a thread of its own, which takes a tenth of a millisecond."""
+"""The fewest arcs of a call that is made in a thread of its own. Starting one costs too much for smaller calls."""
 
 
 def maximum_flow(src: Numbers, dst: Numbers, capacities: Numbers, sources: Nodes, sinks: Nodes,
@@ -64,11 +63,11 @@ def maximum_flow(src: Numbers, dst: Numbers, capacities: Numbers, sources: Nodes
     - src, dst: the two ends of each arc, nodes from 0; arrays of one length, the number of arcs.
     - capacities: how much each arc may carry, from 0 to 2^64 - 1, in any unit; an array of the same length.
     - sources, sinks: a node, or an array of different nodes; no node is both.
-    - nodes: how many nodes there are; else one more than the greatest that is named, and at least 2.
+    - nodes: how many nodes there are; by default one more than the greatest named, and at least 2.
 
-    Answers Flow(value, flows). Takes some 100 bytes for each arc while it runs.
+    Returns Flow(value, flows). Takes some 100 bytes for each arc while it runs.
 
-    Raises FlowError (a ValueError) where that is no network with its terminals, TypeError where something isn't a whole
+    Raises FlowError (a ValueError) if that is no network with its terminals, TypeError if something isn't a whole
     number, MemoryError, and LibraryNotFound.
 
     >>> maximum_flow([0, 0, 1], [1, 1, 2], [2 ** 64 - 1, 5, 2 ** 63], 0, 2)
@@ -84,10 +83,10 @@ def minimum_cut(src: Numbers, dst: Numbers, capacities: Numbers, sources: Nodes,
                 nodes: Optional[int] = None, *, nearest: str = "sources") -> Cut:
     """Finds a minimum cut between the sources and the sinks: the parameters are those of `maximum_flow`.
 
-    Where there are several, it is the one nearest the sources, whose source side lies within that of each other; with
-    nearest="sinks" the one nearest the sinks ("source" and "sink" say the same).
+    Of several minimum cuts it is the one nearest the sources, whose source side lies within that of each other; with
+    nearest="sinks" the one nearest the sinks ("source" and "sink" mean the same).
 
-    Answers Cut(value, side, flows). Raises what `maximum_flow` raises.
+    Returns Cut(value, side, flows). Raises what `maximum_flow` raises.
 
     >>> minimum_cut([0, 1, 2], [1, 2, 3], [4, 1, 1], 0, 3)
     Cut(value=1, side=[True, True, False, False], flows=[1, 1, 1])
@@ -106,17 +105,17 @@ def minimum_cut(src: Numbers, dst: Numbers, capacities: Numbers, sources: Nodes,
 
 def edge_connectivity(src: Numbers, dst: Numbers, nodes: Optional[int] = None, *, sources: Optional[Nodes] = None,
                       sinks: Optional[Nodes] = None, directed: bool = True) -> int:
-    """Finds how many arcs have to go before some node is cut off from another.
+    """Finds how many arcs must fail before some node is cut off from another.
 
     It is the least number of arcs that leave a set of nodes that is neither empty nor all. With sources and sinks it is
-    how many have to go before every sink is cut off from every source: only sets count that have all sources inside and
+    how many must fail before every sink is cut off from every source: only sets count that have all sources inside and
     all sinks outside. With directed=False arcs have no direction: those count that have exactly one end in the set.
 
     - src, dst, nodes: as of `maximum_flow`; there are no capacities, each of parallel arcs counts, and there are
       at most 4,000,000 arcs.
     - sources, sinks: a node or an array of nodes each, or both left out.
 
-    Answers an int. Raises what `maximum_flow` raises.
+    Returns an int. Raises what `maximum_flow` raises.
 
     >>> edge_connectivity([0, 1, 2, 0], [1, 2, 0, 1])
     1
@@ -127,7 +126,7 @@ def edge_connectivity(src: Numbers, dst: Numbers, nodes: Optional[int] = None, *
     """
     pair = sources is not None or sinks is not None
     if pair and (sources is None or sinks is None):
-        raise ValueError("sources and sinks have to be named both, or neither")
+        raise ValueError("give both sources and sinks, or neither")
     given = Network(src, dst, sources if pair else (), sinks if pair else (), nodes)
     links = ctypes.c_uint64()
     given.ask("provedflow_links_lists", *given.lists(), int(not directed), int(pair), ctypes.byref(links))
@@ -136,15 +135,15 @@ def edge_connectivity(src: Numbers, dst: Numbers, nodes: Optional[int] = None, *
 
 def check(src: Numbers, dst: Numbers, capacities: Numbers, sources: Nodes, sinks: Nodes, flows: Numbers,
           nodes: Optional[int] = None) -> Verdict:
-    """Says of a flow, wherever it comes from, whether it is one of the greatest value.
+    """Checks whether a flow, wherever it comes from, has the greatest value.
 
     - flows: what each arc carries, whole numbers from 0 to 2^64 - 1; an array as long as src.
     - the others: as of `maximum_flow`.
 
-    Answers Verdict(word, value, place). Its word is the first of these that applies: 'over' where an arc carries more
-    than its capacity, 'unbalanced' where what comes into a node that is no terminal isn't what leaves it, 'feasible'
-    where another flow has a greater value, 'greatest'. The place of the first two is an arc and a node. Raises what
-    `maximum_flow` raises.
+    Returns Verdict(word, value, place). Its word is the first of these that applies: 'over' if an arc carries more than
+    its capacity, 'unbalanced' if what enters a node that is no terminal isn't what leaves it, 'feasible' if another
+    flow has a greater value, 'greatest'. The place of the first two is an arc and a node. Raises what `maximum_flow`
+    raises.
 
     >>> check([0, 1], [1, 2], [4, 3], 0, 2, [3, 3])
     Verdict(word='greatest', value=3, place=None)
@@ -203,7 +202,7 @@ class Network:
         return max([2] + [1 + int(max_of(ends)) for ends in (self.src, self.dst, self.sources, self.sinks)])
 
     def check_lengths(self):
-        """Sees that the lists fit each other and the limits, so that what the library is told is so."""
+        """Checks that the lists fit each other and the limits, as the library's exports require."""
         lengths = {"dst": self.dst.length}
         if self.capacities is not None:
             lengths["capacities"] = self.capacities.length
@@ -211,7 +210,7 @@ class Network:
             lengths["flows"] = self.flows.length
         for name, length in lengths.items():
             if length != self.arcs:
-                raise FlowError(f"src has {self.arcs} elements and {name} has {length}; both have one for each arc")
+                raise FlowError(f"src has {self.arcs} elements and {name} has {length}; both need one for each arc")
         most = MOST_LINKS if self.capacities is None else MOST_ARCS
         if self.arcs > most:
             raise FlowError(f"there are {self.arcs} arcs, and at most {most} are taken")
@@ -219,10 +218,10 @@ class Network:
             raise FlowError(f"there are {self.nodes} nodes, and 2 to {MOST_NODES} are taken")
 
     def ask(self, name, *words):
-        """Calls the library, and raises what it refuses."""
+        """Calls the library, and raises an error if it refuses the lists."""
         flat = []
         for word in words:
-            flat += [word.address, word.length] if isinstance(word, Lent) else [word]
+            flat += [word.address, word.length] if isinstance(word, Buffer) else [word]
         export = getattr(library(), name)
         status = interruptible(export, flat, (self, words)) if self.arcs >= LONG else export(*flat)
         if status == MEMORY:
@@ -245,21 +244,21 @@ class Network:
     def bad_terminal(self):
         """What is wrong with the first terminal that can't be taken."""
         seen = {}
-        for name, lent in (("sources", self.sources), ("sinks", self.sinks)):
-            if not lent.length:
+        for name, buffer in (("sources", self.sources), ("sinks", self.sinks)):
+            if not buffer.length:
                 return f"there are no {name}"
-            for place, node in enumerate(lent.keeper.tolist()):
+            for place, node in enumerate(buffer.keeper.tolist()):
                 if node >= self.nodes:
                     return f"{name}[{place}] is {node}, and the nodes are 0 to {self.nodes - 1}"
                 if node in seen:
-                    return f"{name}[{place}] is {node}, and so is {seen[node]}; no node may stand there twice"
+                    return f"{name}[{place}] is {node}, and so is {seen[node]}; all terminals must differ"
                 seen[node] = f"{name}[{place}]"
         return "a source or a sink can't be taken"
 
 
 def interruptible(export, words, kept):
-    """Makes a call of the library so that Ctrl-C is heard while it runs: in another thread, which then goes on to the
-    end of the call. That thread keeps the lists in being. Only the main thread hears Ctrl-C, so others just call."""
+    """Makes a call of the library that Ctrl-C can interrupt: in another thread, which then goes on to the end of the
+    call and keeps the lists alive. Only the main thread receives Ctrl-C, so others call directly."""
     if threading.current_thread() is not threading.main_thread():
         return export(*words)
     status = []
@@ -272,8 +271,8 @@ def interruptible(export, words, kept):
     return status[0]
 
 
-def max_of(lent):
+def max_of(buffer):
     """The greatest element of a list, or 0."""
-    if not lent.length:
+    if not buffer.length:
         return 0
-    return lent.keeper.max() if hasattr(lent.keeper, "max") else max(lent.keeper)
+    return buffer.keeper.max() if hasattr(buffer.keeper, "max") else max(buffer.keeper)

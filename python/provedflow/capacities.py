@@ -19,7 +19,7 @@ class TooMuch(nx.NetworkXError, NotImplementedError):
 
 
 def edges_of(G, capacity):
-    """The edges that can carry something, each with its capacity. Sees that each capacity is a number."""
+    """The edges that can carry something, each with its capacity. Checks that each capacity is a number."""
     edges = list(G.edges(data=capacity, default=INFINITE))
     if any(type(amount) is not int for _, _, amount in edges):
         edges = [(u, v, number_of(amount)) for u, v, amount in edges]
@@ -30,7 +30,7 @@ def edges_of(G, capacity):
 
 
 def number_of(amount):
-    """A capacity as a number of Python, which no sum of it can pass: NumPy's are converted, and whole ones are ints."""
+    """A capacity as a number of Python, whose sums can't overflow: NumPy's are converted, and whole ones are ints."""
     amount = plain(amount)
     return int(amount) if isinstance(amount, Integral) else amount
 
@@ -97,7 +97,7 @@ def split(srcs, dsts, amounts, scale):
         return (array("I", srcs), array("I", dsts), array("Q", amounts)), None
     parts = [max(1, -(-amount // GREATEST_CAPACITY)) for amount in amounts]
     if sum(parts) > MOST_ARCS:
-        raise TooMuch("the capacities are too great or too different to be counted exactly; they fit where each is "
+        raise TooMuch("the capacities are too great or too different to be counted exactly; they fit if each is "
                       f"rounded to {rounding(Fraction(max(amounts), scale))}")
     pieces = [piece for amount, count in zip(amounts, parts)
               for piece in [GREATEST_CAPACITY] * (count - 1) + [amount - (count - 1) * GREATEST_CAPACITY]]

@@ -51,7 +51,7 @@ class Problem:
         return [most if amount == INFINITE else units for amount, units in zip(given, amounts)], scale
 
     def lists(self, s, t):
-        """What a call takes that asks about two nodes. Sees that no path of infinite edges leads from s to t."""
+        """The arguments of a call about two nodes. Checks that no path of infinite edges leads from s to t."""
         check_ends(self.G, s, t)
         check_bounded(s, t, self.endless)
         return (*self.arcs, self.numbers[s], self.numbers[t], len(self.numbers))
@@ -69,7 +69,7 @@ class Problem:
         return units if self.kind is int and self.scale == 1 else in_kind(Fraction(units, self.scale), self.kind)
 
     def flow_dict(self, G, flows):
-        """The flow of each edge, as NetworkX tells it: of two ways against each other only what one carries more."""
+        """The flow of each edge as in NetworkX: of two opposite arcs only the one that carries more has its surplus."""
         rows = {u: dict.fromkeys(row, 0) for u, row in G.adjacency()}
         ways = self.edges + ([(v, u, most) for u, v, most in self.edges] if self.both_ways else [])
         for (u, v, _), units in zip(ways, joined(flows, self.parts)):
@@ -148,7 +148,7 @@ class NodeUnits(EdgeUnits):
 
 
 def residual_rows(G, capacity):
-    """The edges of the residual network of a graph, as NetworkX's `build_residual_network` tells them, with no flow:
+    """The edges of the residual network of a graph, as NetworkX's `build_residual_network` makes them, with no flow:
     a dict of attributes for each, in a dict of dicts; and the number that stands for an infinite capacity there."""
     check_kind(G)
     edges = edges_of(G, capacity)
@@ -213,7 +213,7 @@ def set_in_kind(rows, arcs, amounts, scale, kind):
 
 
 def check_ends(G, s, t):
-    """Sees that s and t are two nodes of the graph."""
+    """Checks that s and t are two nodes of the graph."""
     for node in (s, t):
         if node not in G:
             raise nx.NetworkXError(f"node {node} not in graph")
@@ -222,13 +222,13 @@ def check_ends(G, s, t):
 
 
 def check_kind(G):
-    """Sees that a graph has no parallel edges."""
+    """Checks that a graph has no parallel edges."""
     if G.is_multigraph():
         raise nx.NetworkXError("MultiGraph and MultiDiGraph not supported (yet).")
 
 
 def check_bounded(s, t, rows):
-    """Sees that no path leads from s to t by edges of infinite capacity: the nodes that these lead to from each."""
+    """Checks that no path of infinite edges leads from s to t; `rows` has the nodes that these lead to from each."""
     seen, waiting = {s}, [s]
     while waiting:
         new = [v for v in rows.get(waiting.pop(), ()) if v not in seen]
@@ -239,6 +239,6 @@ def check_bounded(s, t, rows):
 
 
 def check_size(nodes, arcs, most=MOST_ARCS):
-    """Sees that a graph keeps the limits."""
+    """Checks that a graph keeps the limits."""
     if nodes > MOST_NODES or arcs > most:
         raise TooMuch(f"there are {nodes} nodes and {arcs} arcs, and at most {MOST_NODES} and {most} fit")

@@ -19,7 +19,7 @@ OK, NODES, LENGTHS, ARC, TERMINALS, MEMORY = range(6)
 
 
 class FlowError(ValueError):
-    """The arrays are no network with its terminals. The text tells what is wrong, and where."""
+    """The arrays are no network with its terminals. The text says what is wrong, and where."""
 
 
 class LibraryNotFound(OSError):
@@ -62,5 +62,5 @@ def load(candidates):
     except OSError as failure:
         raise LibraryNotFound(
             f"the C library {NAME} can't be loaded ({failure}); install the package libprovedflow0, put the library "
-            "where the system looks for libraries, or name its path by the environment variable PROVEDFLOW_LIBRARY"
+            "where the system looks for libraries, or set the environment variable PROVEDFLOW_LIBRARY to its path"
         ) from None

@@ -9,9 +9,9 @@
     value, flows = nx.maximum_flow(G, s, t, backend="provedflow")    # NetworkX 3.2 and newer
     value, flows = nx.maximum_flow(G, s, t, flow_func=flow_func)     # each NetworkX
 
-The functions of `ALGORITHMS` have the parameters of NetworkX's functions of the same names and answer what these
-answer; of several maximum flows or minimum cuts of a whole graph it is one, and not always NetworkX's. `flow_func`,
-`auxiliary` and `residual` are accepted and play no part. NetworkX finds them as the backend `provedflow`: by
+The functions of `ALGORITHMS` have the parameters and the results of NetworkX's functions of the same names; of several
+maximum flows or minimum cuts of a whole graph the result is one, and not always NetworkX's. `flow_func`, `auxiliary`
+and `residual` are accepted and ignored. NetworkX finds them as the backend `provedflow`: by
 `backend="provedflow"`, or wherever `nx.config.backend_priority` names it. `flow_func`, the function, takes the place of
 NetworkX's own in whatever takes one; the residual network that it has to make takes most of its time.
 
@@ -23,7 +23,7 @@ NetworkXError, but for `edge_connectivity`, where each of several parallel edges
 Capacities may be ints of any size, floats, Fractions and Decimals. They are brought to a common denominator first,
 exactly, so that the problem that is solved is the one given. Where all are whole, so are all answers; where one is a
 float, each answer is the nearest float; else it is a Fraction. A capacity of 2^64 or more becomes several arcs; where
-that makes too many, the NetworkXError tells how to round.
+that makes too many, the NetworkXError says how to round.
 
 Raised, beside what is said above: NetworkXError where s or t isn't in the graph, where they are the same, where a
 capacity is None, a text, nan or no number at all (with the edge), and beyond the limits of 1,000,000 nodes and
@@ -53,7 +53,7 @@ from provedflow.library import MOST_LINKS
 
 @contextlib.contextmanager
 def collector_paused() -> Iterator[None]:
-    """Pauses the collector of garbage, which would go through all lists again and again while they grow."""
+    """Pauses the garbage collector, which would go through all lists again and again while they grow."""
     was_running = gc.isenabled()
     gc.disable()
     try:
@@ -148,11 +148,11 @@ def gomory_hu_tree(G: Any, capacity: str = "capacity", flow_func: Any = None) ->
 
 @collector_paused()
 def edge_connectivity(G: Any, s: Any = None, t: Any = None, flow_func: Any = None, cutoff: Any = None) -> int:
-    """Finds how many edges have to go before the graph falls apart, or before t can't be reached from s; no more than
-    the cutoff.
+    """Finds how many edges must fail before the graph falls apart, or before t can't be reached from s; at most the
+    cutoff.
 
-    For a directed graph it is how many have to go before some node can't be reached from another. A graph of one node
-    has the connectivity 0. Capacities play no part. Raises NetworkXPointlessConcept for a graph without nodes.
+    For a directed graph it is how many must fail before some node can't be reached from another. A graph of one node
+    has the connectivity 0. Capacities are ignored. Raises NetworkXPointlessConcept for a graph without nodes.
 
     >>> edge_connectivity(nx.complete_graph(5)), edge_connectivity(nx.path_graph(4), 0, 3)
     (4, 1)
@@ -171,7 +171,7 @@ def edge_connectivity(G: Any, s: Any = None, t: Any = None, flow_func: Any = Non
 @collector_paused()
 def local_edge_connectivity(G: Any, s: Any, t: Any, flow_func: Any = None, auxiliary: Any = None, residual: Any = None,
                             cutoff: Any = None) -> int:
-    """Finds how many edges have to go before t can't be reached from s; no more than the cutoff."""
+    """Finds how many edges must fail before t can't be reached from s; at most the cutoff."""
     return edge_connectivity(G, s, t, cutoff=cutoff)
 
 
@@ -208,9 +208,9 @@ def minimum_st_edge_cut(G: Any, s: Any, t: Any, flow_func: Any = None, auxiliary
 
 @collector_paused()
 def node_connectivity(G: Any, s: Any = None, t: Any = None, flow_func: Any = None) -> int:
-    """Finds how many nodes have to go before the graph falls apart or one is left, or before t can't be reached from s.
+    """Finds how many nodes must fail before the graph falls apart or one is left, or before t can't be reached from s.
 
-    An edge from s to t counts as one more. A directed graph has to be asked about two nodes.
+    An edge from s to t counts as one more. For a directed graph, name two nodes.
 
     >>> node_connectivity(nx.petersen_graph()), node_connectivity(nx.star_graph(4))
     (3, 1)
@@ -224,7 +224,7 @@ def node_connectivity(G: Any, s: Any = None, t: Any = None, flow_func: Any = Non
 @collector_paused()
 def local_node_connectivity(G: Any, s: Any, t: Any, flow_func: Any = None, auxiliary: Any = None, residual: Any = None,
                             cutoff: Any = None) -> int:
-    """Finds how many paths from s to t there are at most that share no other node; no more than the cutoff."""
+    """Finds how many paths from s to t there are at most that share no other node; at most the cutoff."""
     return limited(NodeUnits(G).count(s, t), cutoff)
 
 
@@ -232,8 +232,8 @@ def local_node_connectivity(G: Any, s: Any, t: Any, flow_func: Any = None, auxil
 def minimum_node_cut(G: Any, s: Any = None, t: Any = None, flow_func: Any = None) -> set[Any]:
     """Finds a least set of nodes whose removal cuts t off from s, or the graph into parts, or leaves one node.
 
-    It is empty where an edge joins s and t. A directed graph has to be asked about two nodes. Raises NetworkXError
-    where the graph isn't connected.
+    It is empty if an edge joins s and t. For a directed graph, name two nodes. Raises NetworkXError if the graph isn't
+    connected.
     """
     if names_pair(G, s, t):
         return minimum_st_node_cut(G, s, t)
@@ -272,13 +272,13 @@ def average_node_connectivity(G: Any, flow_func: Any = None) -> float:
 @collector_paused()
 def flow_func(G: Any, s: Any, t: Any, capacity: str = "capacity", residual: Any = None, value_only: bool = False,
               cutoff: Any = None) -> Any:
-    """Finds a maximum flow, and answers the residual network that NetworkX's functions read.
+    """Finds a maximum flow, and returns the residual network that NetworkX's functions read.
 
     The parameters are those of `networkx.algorithms.flow.edmonds_karp`, whose conventions the residual network follows:
     `R[u][v]["capacity"]`, `R[u][v]["flow"]`, `R.graph["flow_value"]`, `R.graph["inf"]`, `R.graph["algorithm"]`.
 
     - residual: a residual network of the same graph to be used again; its old flow is lost.
-    - value_only: plays no part, since a minimum cut needs the flow.
+    - value_only: ignored, since a minimum cut needs the flow.
     - cutoff: the flow need be no greater than this; then the residual network need not show a minimum cut.
     """
     check_ends(G, s, t)
@@ -308,7 +308,7 @@ def names_pair(G, s, t):
 
 
 def check_connected(G):
-    """Sees that a graph is connected."""
+    """Checks that a graph is connected."""
     if not (nx.is_weakly_connected if G.is_directed() else nx.is_connected)(G):
         raise nx.NetworkXError("Input graph is not connected")
 
@@ -322,7 +322,7 @@ def parted_pairs(G):
     """Pairs of nodes that no edge joins, one of which at least is parted by a minimum node cut: a node of few
     neighbours and each other node, and, where the cut has that node itself, two of its neighbours."""
     if G.is_directed():
-        raise nx.NetworkXNotImplemented("a directed graph has to be asked about two nodes")
+        raise nx.NetworkXNotImplemented("for a directed graph, name two nodes")
     node = min(G, key=lambda each: len(set(G[each]) - {each}))
     near = set(G[node]) - {node}
     yield from ((node, other) for other in G if other != node and other not in near)
@@ -336,9 +336,9 @@ ALGORITHMS = {function.__name__: function for function in (
 """The functions that NetworkX finds here."""
 FLOW_FUNCS = (None, flow_func, theirs.boykov_kolmogorov, theirs.dinitz, theirs.edmonds_karp, theirs.preflow_push,
               theirs.shortest_augmenting_path)
-"""The functions that all find a maximum flow, so that it is all the same which of them a call names."""
+"""The functions that all find a maximum flow, so it doesn't matter which of them a call names."""
 ONE_PAIR = {"node_connectivity", "minimum_node_cut"}
-"""What is told of a directed graph for two nodes only."""
+"""The functions that need two nodes of a directed graph."""
 
 
 def can_run(name, args, kwargs):

@@ -60,8 +60,8 @@ def steps(axes: int, neighbours: int) -> list[tuple[int, ...]]:
     [(0, 1), (1, -1), (1, 0), (1, 1)]
     """
     if (axes, neighbours) not in NEIGHBOURS:
-        known = ", ".join(str(number) for count, number in NEIGHBOURS if count == axes) or "none"
-        raise ValueError(f"a grid of {axes} axes with {neighbours} neighbours isn't known here ({known})")
+        known = ", ".join(str(number) for count, number in NEIGHBOURS if count == axes) or "no fixed number of"
+        raise ValueError(f"a grid of {axes} axes has {known} neighbours, not {neighbours}")
     all_steps = [step for step in product((-1, 0, 1), repeat=axes) if step > (0,) * axes]
     return [step for step in all_steps if sum(abs(part) for part in step) <= NEIGHBOURS[axes, neighbours]]
 
@@ -85,8 +85,8 @@ class Grid:
     - neighbours: how many neighbours a pixel has: 2 in a row, 4 or 8 in a picture, 6, 18 or 26 in a volume; else edges
       are joined step by step.
 
-    Raises ValueError where a grid of this shape with so many neighbours has more nodes or arcs than fit; this is told
-    before anything is made.
+    Raises ValueError if a grid of this shape with so many neighbours has more nodes or arcs than fit, before anything
+    is made.
 
     >>> grid = Grid((4,))
     >>> grid.join_step((1,), np.array([5, 2, 7]))
@@ -114,10 +114,10 @@ class Grid:
           and answers the weights of these edges, an array of the same shape or a number; or a pair of numbers or such
           functions, for the ways there and back.
         - of: the picture that `here` and `there` are parts of, an array whose first axes are those of the grid. Whole
-          numbers are handed on in 64 bits (int64), so that no difference of those of a photograph wraps.
+          numbers are passed on in 64 bits (int64), so that no difference of those of a photograph wraps.
         """
         if not self.steps:
-            raise ValueError("this grid was made without a number of neighbours: name it, or join step by step")
+            raise ValueError("this grid was made without a number of neighbours: give it one, or use join_step")
         picture = as_picture(of)
         there_and_back = weights if isinstance(weights, tuple) else (weights,)
         for step in self.steps:
@@ -159,16 +159,16 @@ class Grid:
         more = as_weights(sources, self.shape, "sources"), as_weights(sinks, self.shape, "sinks")
         sums = [before + weights for before, weights in zip(self.terminals, more)]
         if any((both < weights).any() for both, weights in zip(sums, more)):
-            raise ValueError(f"a pixel's weights to a terminal come to more than {GREATEST_CAPACITY}")
+            raise ValueError(f"a pixel's weights to a terminal add up to more than {GREATEST_CAPACITY}")
         self.terminals = sums
 
     def cut(self, nearest: str = "source") -> Cut:
         """Finds a minimum cut.
 
-        - nearest: where several cuts cost the least, "source" tells the one with the fewest pixels on the source's
-          side, and "sink" the one with the fewest on the sink's; "sources" and "sinks" say the same.
+        - nearest: if several cuts cost the least, "source" chooses the one with the fewest pixels on the source's side,
+          and "sink" the one with the fewest on the sink's; "sources" and "sinks" mean the same.
 
-        Answers Cut(value, mask). Raises MemoryError, and provedflow.LibraryNotFound where the C library isn't there.
+        Returns Cut(value, mask). Raises MemoryError, and provedflow.LibraryNotFound if the C library isn't there.
         """
         pixels = prod(self.shape)
         lesser = np.minimum(*self.terminals)
@@ -237,7 +237,7 @@ def fits(shape, all_steps):
 
 
 def check_room(shape, all_steps, neighbours):
-    """Sees that a grid's nodes and arcs fit, and tells in pixels what would."""
+    """Checks that a grid's nodes and arcs fit; the error says in pixels what would fit."""
     if not shape or min(shape) < 1:
         raise ValueError(f"a grid has one pixel or more along each axis, and this shape is {shape}")
     if fits(shape, all_steps):

@@ -33,17 +33,17 @@ def maximum_flow(csgraph: Any, source: int, sink: int, *, method: str = "dinic")
     """Finds a flow of the greatest value from a source to a sink.
 
     - csgraph: a sparse matrix of any format and of any kind of integers, of shape (nodes, nodes). Its element in row i
-      and column j is the capacity of the arc from i to j, from 0 to 2^64 - 1; an element that stands there twice is
-      two arcs, whose capacities are never added up in the matrix's own kind.
+      and column j is the capacity of the arc from i to j, from 0 to 2^64 - 1; duplicate elements are parallel arcs,
+      whose capacities are never added up in the matrix's own kind.
     - source, sink: two different nodes, from 0.
     - method: accepted, and without effect; there is one method.
 
-    Answers MaximumFlowResult(flow_value, flow). The flow is its own negative turned over, and has elements where
-    something flows. Where several flows have the greatest value, it is one of them, and not always SciPy's.
+    Returns MaximumFlowResult(flow_value, flow). The flow is antisymmetric, and has elements where something flows. If
+    several flows have the greatest value, it is one of them, and not always SciPy's.
 
     Raises TypeError where csgraph is no sparse matrix, ValueError where it isn't square or not of whole numbers from 0,
     where a node isn't one, and beyond the limits of 1,000,000 nodes and 8,000,000 arcs; OverflowError where from one
-    node to another flow 2^63 or more, which int64 can't tell; MemoryError.
+    node to another flow 2^63 or more, beyond int64; MemoryError.
 
     >>> from scipy.sparse import csr_matrix
     >>> capacities = csr_matrix([[0, 3, 2, 0], [0, 0, 1, 2], [0, 0, 0, 3], [0, 0, 0, 0]])
@@ -64,7 +64,7 @@ def net_flow(matrix, flows):
                     for half in ((flows >> np.uint64(32)).view(np.int64), (flows & HALF).view(np.int64)))
     upper.data += lower.data >> 32
     if upper.nnz and upper.data.max() >= 2 ** 31:
-        raise OverflowError("from one node to another flow 2^63 or more, which the flow's int64 can't tell")
+        raise OverflowError("the flow from one node to another is 2^63 or more, beyond the int64 of the result")
     upper.data = (upper.data << 32) + (lower.data & 0xffffffff)
     upper.eliminate_zeros()
     return upper

@@ -10,7 +10,7 @@
  * begin or to end. Calls on different arrays may run at once, in as many threads as you like. A call takes memory by
  * malloc, and gives it back before it returns.
  *
- * What you owe, since no call can test it:
+ * What you must ensure, since no call can test it:
  *   - Each pointer leads to as many elements as its count says, aligned as C aligns them. Where the count is 0, it may
  *     be NULL.
  *   - What a call writes (flow, side, high, low, links, verdict) overlaps nothing else that is passed to it.
@@ -43,7 +43,7 @@ enum {
     PROVEDFLOW_OK = 0,        /* the answer was written */
     PROVEDFLOW_NODES = 1,     /* fewer than 2 nodes, or more than 1,000,000 */
     PROVEDFLOW_LENGTHS = 2,   /* too many arcs, lists whose lengths don't fit each other, or no room for the sides */
-    PROVEDFLOW_ARC = 3,       /* an end of an arc is no node; provedflow_bad_arc tells which arc */
+    PROVEDFLOW_ARC = 3,       /* an end of an arc is no node; provedflow_bad_arc finds it */
     PROVEDFLOW_TERMINALS = 4, /* no source or no sink, one that is no node, or a node that stands there twice */
     PROVEDFLOW_MEMORY = 5     /* memory was refused */
 };

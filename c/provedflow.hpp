@@ -2,7 +2,7 @@
  *
  * Lists are read from anything with data() and size(), as std::vector, std::array and std::span. Answers own their
  * memory. A list that cannot be taken throws Refused, and refused memory std::bad_alloc; nothing was written then. What
- * provedflow.h says of networks, limits and what the caller owes holds here too.
+ * provedflow.h says of networks, limits and what the caller must ensure holds here too.
  */
 #ifndef PROVEDFLOW_HPP
 #define PROVEDFLOW_HPP

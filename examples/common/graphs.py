@@ -38,7 +38,7 @@ AROUND = [(0, 1, "center", "bottom"), (0, -1, "center", "top"), (1, 0, "left", "
 
 
 def add_options(parser, capacity=True):
-    """The options that tell where the network is."""
+    """The options that say where the network is."""
     parser.add_argument("network", nargs="?", help="a table of links (CSV), or a GraphML file; else the example's own")
     parser.add_argument("--places", metavar="TABLE", help="a table of the places, with the column place, and x and y")
     for column in ["from", "to"] + ["capacity"] * capacity:

@@ -124,7 +124,7 @@ def sites_of(given):
 
 
 def main():
-    given = links.Links(links.given("Tells what gets through where a link or a site fails."))
+    given = links.Links(links.given("Prints what gets through if a link or a site fails."))
     value, units = Flow().solve(given.problem)
     spare, sites = Spare(given.problem, units), sites_of(given)
     names = [f"link {row['from']}, {row['to']}" for row in given.rows] + [f"site {name}" for name in sites]

@@ -1,7 +1,7 @@
 #!/usr/bin/env python3
 """Writes a maximum flow problem from a table of links whose ends have names.
 
-Usage: table.py [OPTIONS] TABLE SOURCE[,SOURCE ..] SINK[,SINK ..] > PROBLEM; table.py --help tells the options.
+Usage: table.py [OPTIONS] TABLE SOURCE[,SOURCE ..] SINK[,SINK ..] > PROBLEM; table.py --help lists the options.
 
 TABLE is a CSV file with the columns from, to and capacity, or source, target and weight. A capacity is a number from 0,
 and whole once it is multiplied with the scale, or it is `inf`: one more than all the others together, which no cut pays

@@ -3,7 +3,7 @@
 
     python3 examples/roads/roads.py [ROADS] [--places TABLE] [--sources NAMES] [--sinks NAMES]
 
-README.md tells the model, and --help all options.
+README.md describes the model, and --help lists the options.
 """
 
 import argparse

@@ -3,7 +3,7 @@
 
     python3 examples/scheduling/schedule.py [PEOPLE SHIFTS]
 
-README.md tells the model and the columns of both tables.
+README.md describes the model and the columns of both tables.
 """
 
 import argparse
@@ -146,7 +146,7 @@ def shifts_of(row, column, shifts):
 
 
 def explain(week):
-    """Tells why places stay empty. The shifts outside the source side of the cut nearest the sink are those that some
+    """Prints why places stay empty. The shifts outside the source side of the cut nearest the sink are those that some
     best roster leaves short, and what can come to them is the capacity of the arcs there. A new arc fills one place
     more where it leads there from the source side of the cut nearest the source, as one unit more on such an arc."""
     near, far = week.cut(week.high), week.cut(week.high, "sinks")

@@ -3,7 +3,7 @@
 
     python3 examples/segmentation/segment.py [PICTURE STROKES]
 
-README.md tells the model, and --help all options.
+README.md describes the model, and --help lists the options.
 """
 
 import argparse

@@ -9,9 +9,9 @@ use Rattle.flow_net.specs.Nets.{Net, IsNode, arc_at}
 use Rattle.flow_net.specs.Arcs.{no_arc, enters}
 use Rattle.flow_net.specs.NodeSets.{just}
 use Rattle.flow_net.specs.Flows.{out_of, into, IsFeasible}
-use Rattle.flow_net.specs.Connectivity.{leaving, IsProper}
+use Rattle.flow_net.specs.Connectivity.{leaving, crossing, IsProper}
 use Rattle.flow_net.specs.Cuts.{IsCut}
-use Rattle.flow_net.specs.Forests.{entering, AreEntered, HasSpread, turned}
+use Rattle.flow_net.specs.Forests.{entering, AreEntered, HasSpread, IsEven, turned}
 use Rattle.flow_net.specs.Limits.{IsNet, IsArcWithin}
 use Rattle.flow_net.specs.Residual.{Table, residual}
 use Rattle.flow_solve.specs.declared.forests.Ground.{Ground}
@@ -40,6 +40,17 @@ AreLeaving net counts = (i : ℕ) → i < net.nodes → slice_index counts i ≡
 pub record AreDegrees (net : Net) (out into : List ℕ) : Type 0 where
   pub leaving : AreLeaving net out
   pub entering : (i : ℕ) → i < net.nodes → slice_index into i ≡ entering net (just (i + 1))
+
+-- Its arcs are those of some network and these turned round: as many leave a set as cross it there.
+pub record IsBothWays (net : Net) : Type 0 where
+  pub one_way : Net
+  pub limits : IsNet one_way
+  pub nodes : one_way.nodes ≡ net.nodes
+  pub crossed : (X : ℕ → Bool) → leaving net X ≡ crossing one_way X
+
+-- an even number of arcs leaves each set
+abbrev pub AreEven : Net → Type 0
+AreEven net = (X : ℕ → Bool) → IsEven (leaving net X)
 
 -- Where searches go backwards, forests grow along the arcs, and where they go forwards, along the arcs turned round.
 abbrev pub facing : Direction → Net → Net
@@ -130,6 +141,7 @@ at_stage ground ready = record {
   first = ground.first;
   parts = ground.parts;
   paired = ground.paired;
+  even = ground.even;
   numbered = ready && not ground.paired;
   dense = ground.dense;
   scarce = ground.scarce;

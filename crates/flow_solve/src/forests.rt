@@ -8,6 +8,9 @@
 //! left by the arcs that enter the other nodes: the forests grow in the network with each arc turned round as well,
 //! unless as many arcs leave each node as enter it.
 //!
+//! Where each arc has its opposite and an even number of arcs leaves each node, an even number leaves each set. Then one
+//! forest less is enough: the number is even, and a set that is entered by so many arcs less one is entered by as many.
+//!
 //! As long as forests come to all nodes by themselves no flow is wanted, and the rows of the nodes do. Where the first
 //! node has to be joined, the numbers of the arcs are put down for the searches.
 //!
@@ -26,7 +29,7 @@
 //! | `n` | marks of the nodes that the forest has come to, and of those that a search has seen, as [`marks`] says |
 //! | `n + 1` | where the row of each node begins |
 //! | `m + 4·n + 1` | hints: what searches look at, as [`rows`] says, and four numbers for each node |
-ghost use Rattle.std.specs.Prelude.{◌≡◌, ℕ, ◌+◌, ◌*◌, ◌≤◌, ◌<◌, ◌-◌, IfSome, IsTrue, true, false};
+ghost use Rattle.std.specs.Prelude.{◌≡◌, ℕ, ◌+◌, ◌*◌, ◌≤◌, ◌<◌, ◌-◌, IfSome, IsTrue, true, false, if◌then◌else◌};
 ghost use Rattle.std.specs.Prelude.{List, length};
 ghost use Rattle.std.specs.List.{All};
 ghost use Rattle.flow_net.specs.Nets.{IsNode};
@@ -34,7 +37,7 @@ ghost use Rattle.flow_net.specs.Flows.{Fits};
 ghost use Rattle.flow_net.specs.LeastCuts.{IsConnectivity};
 ghost use Rattle.flow_net.specs.Limits.{IsNet};
 ghost use Rattle.flow_solve.specs.Bounds.{work_cells};
-ghost use Rattle.flow_solve.specs.Forests.{AreAbove, HasFallen, IsForest, IsGrove, IsReached, IsStand};
+ghost use Rattle.flow_solve.specs.Forests.{AreAbove, AreEven, HasFallen, IsForest, IsGrove, IsReached, IsStand};
 ghost use Rattle.flow_solve.specs.Forests.{PaysIfAny, at_stage, marked_in};
 
 pub(crate) mod degrees;
@@ -44,7 +47,7 @@ mod marks;
 mod rows;
 
 use crate::residual::half_arcs::Direction;
-use degrees::{are_balanced, are_opposite, least_degree};
+use degrees::{are_balanced, are_even, are_opposite, least_degree};
 use flow_net::{FlowTable, Network};
 use growing::{Front, begin, choice_of, grow, grow_from, is_whole, next_node, set_places_back};
 use joining::{Budgeted, raise};
@@ -67,12 +70,14 @@ pub(crate) struct Ground<'a> {
     pub parts: Parts,
     /// Whether each arc is there both ways, its opposite half of the arcs away.
     pub paired: bool,
+    /// Whether an even number of arcs leaves each set of nodes.
+    pub even: bool,
     /// Whether rows have the numbers of arcs in place of nodes, as [`rows`] says.
     pub numbered: bool,
     /// Whether forests go on in a row one behind the other: nodes have many arcs, or few forests need nearly all of
     /// the arcs one way.
     pub dense: bool,
-    /// Whether each arc is there both ways, and few forests need nearly all.
+    /// Whether each arc is there both ways, and few forests need nearly all: not so where one forest less is enough.
     pub scarce: bool,
 }
 
@@ -163,6 +168,13 @@ fn complete(
     Some(least)
 }
 
+/// How many forests show that a number is the least: one less where each set has an even number.
+fn forests_for(least: u64, even: bool) -> u64
+    ensures { result ≡ least - (if even then 1 else 0) }
+{
+    least.saturating_sub(u64::from(even))
+}
+
 /// The cells in parts: marks of nodes, where the row of each node begins, and hints.
 fn parted<'a>(net: &Network, cells: &'a mut [u32]) -> (&'a mut [u32], &'a mut [u32], &'a mut [u32])
     requires { 6 * net.now.nodes + length net.now.arcs + 2 ≤ length cells.old }
@@ -191,6 +203,7 @@ fn grow_forests(
     requires fits { Fits ground.net.now flow.old.flows }
     requires unit { All (λ a. a.cap ≡ 1) ground.net.now.arcs }
     requires stand { IsStand ground done.old }
+    requires even { IsTrue ground.even → AreEven ground.net.now }
     requires reached { IsReached ground.net.now known.value }
     requires grove { IsGrove (at_stage ground false) known.value 0 rows.old }
     ensures fits { Fits ground.entry.net.now flow.new.flows }
@@ -202,7 +215,7 @@ fn grow_forests(
     let mut ready = false;
     let mut least = known;
     let mut count = 0;
-    while count < least.value {
+    while count < forests_for(least.value, ground.even) {
         let front = begin_forest(ground, ready, rows, done, hints, count, least.value);
         if !is_whole(nodes, done) {
             least = complete(
@@ -231,6 +244,7 @@ fn run_pass(
     requires root { IsNode ground.net.now ground.root }
     requires cells { 6 * ground.net.now.nodes + length ground.net.now.arcs + 2 ≤ length cells.old }
     requires rows { length rows.old ≡ length ground.net.now.arcs }
+    requires even { IsTrue ground.even → AreEven ground.net.now }
     requires reached { IsReached ground.net.now known.value }
     ensures fits { Fits ground.entry.net.now flow.new.flows }
     ensures above { IfSome result (λ r. AreAbove ground.entry r.value) }
@@ -287,6 +301,7 @@ pub fn connectivity_by_forests(
     }
     let is_balanced = are_balanced(net, cells);
     let paired = are_opposite(net);
+    let even = are_even(net, cells, paired);
     let is_tight = !has_more_arcs(net, least);
     let dense = has_more_arcs(net, u64::from(net.nodes()).isqrt()) | (is_tight & !paired);
     let mut ground = Ground {
@@ -296,9 +311,10 @@ pub fn connectivity_by_forests(
         first: &[],
         parts: parts_of(net),
         paired,
+        even,
         numbered: false,
         dense,
-        scarce: is_tight & !dense & (least <= MOST_FRESH),
+        scarce: is_tight & !dense & !even & (least <= MOST_FRESH),
     };
     let start = Budgeted {
         value: least,

@@ -1,12 +1,13 @@
--- How many arcs leave and enter each node, and what that says of the set of one node and of all others.
-use Rattle.std.proofs.Common.{◌≡◌, ◌≢◌, ℕ, ◌+◌, ◌-◌, ◌≤◌, ◌<◌, Bool, true, false, not, ◌&&◌, eqb}
-use Rattle.std.proofs.Common.{List, length, take, set, get_or, refl, ◌∙◌, sym, ap, inl, inr, eq-eqb}
-use Rattle.std.proofs.Common.{get_or-set_same, get_or-set_other, arith}
+-- How many arcs leave and enter each node, and what that says of sets of nodes.
+use Rattle.std.proofs.Common.{◌≡◌, ◌≢◌, ℕ, ◌+◌, ◌-◌, ◌*◌, ◌≤◌, ◌<◌, Bool, true, false, cond, not, ◌&&◌, eqb}
+use Rattle.std.proofs.Common.{List, length, take, drop, set, get_or, refl, ◌∙◌, sym, ap, inl, inr, eq-eqb}
+use Rattle.std.proofs.Common.{get_or-set_same, get_or-set_other, length-take, length-drop, arith}
 use Rattle.std.specs.Prelude.{slice_index}
 use Rattle.std.specs.List.{count_by}
 use Rattle.std.proofs.lemmas.Bool.{cases_eq, ne_eqb}
-use Rattle.std.proofs.lemmas.List.Sums.{count_by_more_no}
-use Rattle.std.proofs.lemmas.List.Sums.{count_by_more_yes}
+use Rattle.std.proofs.lemmas.List.{take_all}
+use Rattle.std.proofs.lemmas.List.Elements.{All-take}
+use Rattle.std.proofs.lemmas.List.Sums.{count_by_more_no, count_by_more_yes, sum_by_more, sum_by-take-drop}
 use Rattle.flow_net.specs.declared.networks.Arc.{Arc}
 use Rattle.flow_net.specs.Nets.{Net, IsNode}
 use Rattle.flow_net.specs.Arcs.{no_arc, enters}
@@ -14,10 +15,11 @@ use Rattle.flow_net.specs.Limits.{IsNet, IsArcWithin}
 use Rattle.flow_net.specs.NodeSets.{just}
 use Rattle.flow_net.specs.Cuts.{leaves}
 use Rattle.flow_net.specs.Connectivity.{leaving, IsProper}
-use Rattle.flow_net.specs.Forests.{entering}
-use Rattle.flow_net.proofs.Complements.{count_by_agree, leaves_others}
+use Rattle.flow_net.specs.Forests.{entering, IsEven}
+use Rattle.flow_net.proofs.Complements.{count_by_agree, leaves_others, crossing_sum}
 use Rattle.flow_net.proofs.Connections.{just_self}
-use Rattle.flow_solve.specs.Forests.{AreDegrees}
+use Rattle.flow_net.proofs.NodeCounts.{even_sets}
+use Rattle.flow_solve.specs.Forests.{AreDegrees, AreEven, IsBothWays}
 
 -- ---- degrees
 
@@ -137,3 +139,52 @@ degree_into net v out into at d =
     let low = at.0 in
     let high = at.1 in
     d.entering (v - 1) (omega arith) ∙ ap (λ w. entering net (just w)) (omega arith)
+
+-- ---- networks both ways
+
+-- so many arcs and the next one more are opposite to so many others
+pub opposite_more : (X : ℕ → Bool) (arcs others : List Arc) (i : ℕ) → i < length arcs → i < length others
+    → (get_or arcs i no_arc).src ≡ (get_or others i no_arc).dst
+    → (get_or arcs i no_arc).dst ≡ (get_or others i no_arc).src
+    → count_by (leaves X) (take i others) ≡ count_by (enters X) (take i arcs)
+    → count_by (leaves X) (take (i + 1) others) ≡ count_by (enters X) (take (i + 1) arcs)
+opposite_more X arcs others i l m e f h =
+    omega (
+      arith,
+      h,
+      sum_by_more (λ a. cond (leaves X a) 1 0) others i no_arc m,
+      sum_by_more (λ a. cond (enters X a) 1 0) arcs i no_arc l,
+      ap {B = ℕ} (λ (b : Bool). cond b 1 0) (same (ap X e) (ap X f)),
+    )
+  where
+    same : {p q r s : Bool} → p ≡ s → q ≡ r → (r && not s) ≡ (q && not p)
+    same e f = cc
+
+-- the arcs are a half and those opposite to it
+pub both_ways : (net : Net) (h : ℕ) → IsNet net → length net.arcs ≡ 2 * h
+    → ((X : ℕ → Bool) → count_by (leaves X) (take h (drop h net.arcs)) ≡ count_by (enters X) (take h net.arcs))
+    → IsBothWays net
+both_ways net h n even opposite = record {
+  one_way = record { nodes = net.nodes; arcs = take h net.arcs };
+  limits = record {
+    nodes_least = n.nodes_least;
+    nodes_most = n.nodes_most;
+    arcs_most = omega (arith, n.arcs_most, length-take h net.arcs);
+    arcs_within = All-take (IsArcWithin net.nodes) h net.arcs n.arcs_within;
+  };
+  nodes = refl;
+  crossed = λ X. omega (
+    arith,
+    sum_by-take-drop (λ a. cond (leaves X a) 1 0) net.arcs h,
+    ap (count_by (leaves X)) (take_all h (drop h net.arcs) (omega (arith, even, length-drop h net.arcs))),
+    opposite X,
+    crossing_sum X (take h net.arcs),
+  );
+}
+
+-- an even number leaves each set if an even number leaves each node
+pub both_even : (net : Net) → IsBothWays net → ((v : ℕ) → IsNode net v → IsEven (leaving net (just v))) → AreEven net
+both_even net both even X =
+    let sets = even_sets both.one_way both.limits
+    (λ v at. (let d = even v (at.0, omega (arith, at.1, both.nodes)) in (d.0, sym (both.crossed (just v)) ∙ d.1))) X in
+    (sets.0, both.crossed X ∙ sets.1)

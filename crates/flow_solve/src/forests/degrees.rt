@@ -7,7 +7,7 @@ ghost use Rattle.flow_net.specs.Nets.{IsNode};
 ghost use Rattle.flow_net.specs.NodeSets.{just};
 ghost use Rattle.flow_net.specs.Connectivity.{leaving, IsProper};
 ghost use Rattle.flow_net.specs.Forests.{IsEitherWay, entering};
-ghost use Rattle.flow_solve.specs.Forests.{AreDegrees, AreLeaving, facing};
+ghost use Rattle.flow_solve.specs.Forests.{AreDegrees, AreEven, AreLeaving, IsBothWays, facing};
 
 use crate::forests::rows::ends_of;
 use crate::residual::half_arcs::Direction;
@@ -84,7 +84,9 @@ pub fn are_balanced(net: &Network, degrees: &[u32]) -> bool
 }
 
 /// Whether the second half of the arcs are those of the first turned round, in their order.
-pub(crate) fn are_opposite(net: &Network) -> bool {
+pub(crate) fn are_opposite(net: &Network) -> bool
+    ensures { IsTrue result → IsBothWays net.now }
+{
     // Brings the network's limits, `IsNet`, into the proof.
     let _ = net.nodes();
     let half = net.len() / 2;
@@ -96,4 +98,23 @@ pub(crate) fn are_opposite(net: &Network) -> bool {
         }
     }
     net.len() % 2 == 0
+}
+
+/// Whether an even number of arcs leaves each set of nodes: the network is paired, each arc with its opposite, and an
+/// even number leaves each node.
+pub(crate) fn are_even(net: &Network, degrees: &[u32], is_paired: bool) -> bool
+    requires both { IsTrue is_paired → IsBothWays net.now }
+    requires cells { net.now.nodes ≤ length degrees.now }
+    requires degrees { AreDegrees net.now degrees.now (drop net.now.nodes degrees.now) }
+    ensures { IsTrue result → AreEven net.now }
+{
+    if !is_paired {
+        return false;
+    }
+    for node in 0..net.nodes() {
+        if degrees[node as usize] % 2 == 1 {
+            return false;
+        }
+    }
+    true
 }

@@ -1,6 +1,6 @@
 -- `grow_forests`: a forest that comes to all nodes by itself is done, and any other is completed.
 use Rattle.std.proofs.Common.{arith}
-use Rattle.flow_solve.proofs.ForestLemmas.Taken.{facing_limits, facing_nodes, grove_above, grove_more}
+use Rattle.flow_solve.proofs.ForestLemmas.Taken.{above_enough, facing_limits, facing_nodes, grove_more}
 use Rattle.flow_solve.proofs.Payments.{paid_then}
 use Rattle.flow_solve.proofs.forests.grow_forests.Goals.{then-not-is_whole+in_ok-least}
 use Rattle.flow_solve.proofs.forests.grow_forests.Goals.{else-not-is_whole}
@@ -62,9 +62,8 @@ loop-count-preserved c =
 pub returns-clause-above : goal.returns-clause-above
 returns-clause-above c =
     let j = c.loop-count.invariant in
-    let k = c.loop-count.least.value in
-    grove_above c.args.ground _ _ k c.loop-count.count k c.loop-count.rows j.grove (omega arith)
-    (omega (arith, c.loop-count-test.false))
+    above_enough c.args.ground _ _ c.loop-count.least.value c.loop-count.count c.args.ground.even c.loop-count.rows
+    c.requires.even j.least.reached j.grove (omega (arith, c.forests_for.ensures))
 
 pub complete-requires-clause-fits : goal.complete-requires-clause-fits
 complete-requires-clause-fits c = c.loop-count.invariant.fits

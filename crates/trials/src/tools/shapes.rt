@@ -107,25 +107,55 @@ fn links_round_a_ring(rt: HostRuntime) {
     }
 }
 
-/// The connectivity of a ring by forests alone, within some steps for each node.
+/// The connectivity by forests alone, with `both` that of the network both ways, within some steps for each node.
 #[tactic(auto, using(crate::proofs::Units::unit_capacities))]
-fn ring_within(alloc: Global, nodes: u32, both: bool, steps: u64) -> Option<u64>
-    requires least { FEWEST_NODES ≤ nodes }
-    requires most { nodes ≤ MOST_NODES }
-{
-    let mut net = ring_with(alloc, nodes, &[1])?;
+fn grown_early(alloc: Global, net: Option<Network>, both: bool, steps: u64) -> Option<u64> {
+    let mut net = net?;
     if both && (net.len() > MOST_ARCS || net.both_ways().is_err()) {
         return None;
     }
     let net = net.unit();
-    grown_within(alloc, &net, steps.saturating_mul(u64::from(nodes)))
+    grown_within(alloc, &net, steps.saturating_mul(u64::from(net.nodes())))
 }
 
 #[test]
 fn forests_go_round_a_ring_one_way(rt: HostRuntime) {
-    let one_way = ring_within(rt.alloc(), 3000, false, 40);
-    let both_ways = ring_within(rt.alloc(), 3000, true, 40);
+    let alloc = rt.alloc();
+    let one_way = grown_early(alloc, ring_with(alloc, 3000, &[1]), false, 40);
+    let both_ways = grown_early(alloc, ring_with(alloc, 3000, &[1]), true, 40);
     assert!(rt; one_way == Some(1) && both_ways == Some(2));
+}
+
+/// The node at a place of a torus of three dimensions, twelve nodes along each.
+fn node_at(x: u32, y: u32, z: u32) -> u32 {
+    1 + x % 12 * 144 + y % 12 * 12 + z % 12
+}
+
+/// A torus of three dimensions, each of its links one way.
+fn torus(alloc: Global) -> Option<Network> {
+    let mut net = Network::new(alloc, 1728);
+    for i in 0..1728u32 {
+        let (x, y, z) = (i / 144, i / 12 % 12, i % 12);
+        for next in [
+            node_at(x + 1, y, z),
+            node_at(x, y + 1, z),
+            node_at(x, y, z + 1),
+        ] {
+            if !add(&mut net, 1 + i, next) {
+                return None;
+            }
+        }
+    }
+    Some(net)
+}
+
+/// It takes five steps for each node or more where forests grow alike, or one grows that isn't needed.
+#[test]
+fn forests_fill_a_torus(rt: HostRuntime) {
+    let alloc = rt.alloc();
+    let one_way = grown_early(alloc, torus(alloc), false, 1);
+    let both_ways = grown_early(alloc, torus(alloc), true, 1);
+    assert!(rt; one_way == Some(3) && both_ways == Some(6));
 }
 
 /// Arcs one way: a ring, steps of several lengths, parallel arcs.

@@ -50,7 +50,7 @@ use crate::residual::half_arcs::Direction;
 use degrees::{are_balanced, are_even, are_opposite, least_degree};
 use flow_net::{FlowTable, Network};
 use growing::{Front, begin, choice_of, grow, grow_from, is_whole, next_node, set_places_back};
-use joining::{Budgeted, raise};
+use joining::{Budgeted, at_rest, raise};
 use marks::unmark_all;
 use rows::{Parts, fill_rows, number_arcs, parts_of};
 
@@ -79,6 +79,17 @@ pub(crate) struct Ground<'a> {
     pub dense: bool,
     /// Whether each arc is there both ways, and few forests need nearly all: not so where one forest less is enough.
     pub scarce: bool,
+}
+
+/// A forest as a search finds it.
+#[derive(Clone, Copy)]
+pub(crate) struct Forest<'a> {
+    /// Where it grows.
+    pub ground: Ground<'a>,
+    /// The rows, which tell of the arcs that are taken.
+    pub rows: &'a [u32],
+    /// Marks of the nodes that it has come to.
+    pub done: &'a [u32],
 }
 
 /// Begins a forest after `count` others, of `all` that there will be, and lets it grow as far as it comes by itself.
@@ -155,12 +166,14 @@ fn complete(
     let choice = choice_of(ground, count, known.value);
     flow.clear();
     set_places_back(ground, hints);
+    let mut joining = at_rest(seen, hints);
     let mut front = begun;
     let mut least = known;
     while front.count < nodes && least.value > count {
-        front = next_node(ground, rows, done, hints, front);
-        least = raise(ground, rows, done, seen, hints, flow, front.node, least)?;
-        front = grow_from(ground, rows, done, hints, front, choice);
+        front = next_node(ground, rows, done, joining.hints, front);
+        let forest = Forest { ground, rows, done };
+        least = raise(forest, &mut joining, flow, front.node, least)?;
+        front = grow_from(ground, rows, done, joining.hints, front, choice);
     }
     if !is_done(nodes, done, count, least.value) {
         return None;

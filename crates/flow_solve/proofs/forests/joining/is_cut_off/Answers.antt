@@ -9,14 +9,14 @@ pub loop-half-preserved : goal.loop-half-preserved
 loop-half-preserved c =
     let j = c.loop-half.invariant in
     let now = c.in_ok-left.ensures in
-    let X = seen_in c.args.done.now c.args.seen.now in
+    let X = seen_in c.args.forest.done.now c.args.seen.now in
     record {
       fits = looked_fits _ _ _ _ _ now.looks j.fits;
       end = j.end;
       passed = λ h l. elim (cases_eq h c.loop-half.half) [
         | inl e ↦
-            subst (λ z. IsPassed c.args.ground c.args.flow.now.flows X z) (sym e)
-            (subst (λ (z : List ℕ). IsPassed c.args.ground z X c.loop-half.half) j.looks.flows now.passed)
+            subst (λ z. IsPassed c.args.forest.ground c.args.flow.now.flows X z) (sym e)
+            (subst (λ (z : List ℕ). IsPassed c.args.forest.ground z X c.loop-half.half) j.looks.flows now.passed)
         | inr d ↦ j.passed h (omega (arith, l, d))
       ];
       looks = looks_then _ _ _ _ _ _ j.looks now.looks;

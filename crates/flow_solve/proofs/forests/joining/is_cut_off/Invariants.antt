@@ -7,8 +7,8 @@ use Rattle.flow_solve.proofs.forests.joining.is_cut_off.Given as goal
 
 abbrev pub invariant-loop-half : goal.invariant-loop-half
 invariant-loop-half l = record {
-  fits : Fits l.ground.net.now l.flow.flows;
-  end : l.half-end ≡ 2 * length l.ground.net.now.arcs;
-  passed : (h : ℕ) → h < l.half → IsPassed l.ground l.fn.flow.flows (seen_in l.done l.seen) h;
+  fits : Fits l.forest.ground.net.now l.flow.flows;
+  end : l.half-end ≡ 2 * length l.forest.ground.net.now.arcs;
+  passed : (h : ℕ) → h < l.half → IsPassed l.forest.ground l.fn.flow.flows (seen_in l.forest.done.now l.seen) h;
   looks : PaysLooks l.fn.flow l.fn.left l.flow l.left;
 }

@@ -7,10 +7,10 @@ use Rattle.flow_solve.proofs.forests.joining.raise.Given as goal
 
 abbrev pub invariant-loop-value : goal.invariant-loop-value
 invariant-loop-value l = record {
-  fits : Fits l.ground.net.now l.flow.flows;
-  raised : IsRaised l.ground.direction l.ground.net.now l.node (marked_in l.done) l.flow.flows l.value;
+  fits : Fits l.forest.ground.net.now l.flow.flows;
+  raised : IsRaised l.forest.ground.direction l.forest.ground.net.now l.node (marked_in l.forest.done.now) l.flow.flows l.value;
   below : l.value ≤ l.wanted.value;
-  paid : PaysSteps l.fn.flow l.wanted.left l.flow l.search.left;
+  paid : PaysSteps l.fn.flow l.wanted.left l.flow l.joining.left;
 }
 
 abbrev pub decreases-loop-value : goal.decreases-loop-value

@@ -6,9 +6,9 @@ use Rattle.flow_solve.proofs.forests.joining.search_behind.Given as goal
 
 abbrev pub invariant-queue : goal.invariant-queue
 invariant-queue l = record {
-  fits : Fits l.ground.net.now l.flow.flows;
-  looks : PaysLooks l.fn.flow l.fn.search.left l.flow l.next.left;
+  fits : Fits l.forest.ground.net.now l.flow.flows;
+  looks : PaysLooks l.fn.flow l.fn.joining.left l.flow l.joining.left;
 }
 
 abbrev pub decreases-queue : goal.decreases-queue
-decreases-queue l = l.nodes - l.next.at
+decreases-queue l = l.nodes - l.joining.at

@@ -6,7 +6,7 @@ use Rattle.flow_solve.proofs.forests.joining.search_from.Given as goal
 
 abbrev pub invariant-loop-place : goal.invariant-loop-place
 invariant-loop-place l = record {
-  fits : Fits l.ground.net.now l.flow.flows;
-  next : l.next.at ≡ l.fn.search.at + 1;
-  looks : PaysLooks l.fn.flow l.fn.search.left l.flow l.next.left;
+  fits : Fits l.forest.ground.net.now l.flow.flows;
+  next : l.joining.at ≡ l.fn.joining.at + 1;
+  looks : PaysLooks l.fn.flow l.fn.joining.left l.flow l.joining.left;
 }

@@ -5,6 +5,6 @@ use Rattle.flow_solve.proofs.forests.joining.search_out.Given as goal
 
 abbrev pub invariant-loop-place : goal.invariant-loop-place
 invariant-loop-place l = record {
-  fits : Fits l.ground.net.now l.flow.flows;
-  looks : PaysLooks l.fn.flow l.fn.search.left l.flow l.next.left;
+  fits : Fits l.forest.ground.net.now l.flow.flows;
+  looks : PaysLooks l.fn.flow l.fn.joining.left l.flow l.joining.left;
 }

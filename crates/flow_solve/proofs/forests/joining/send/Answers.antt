@@ -11,16 +11,16 @@ pub loop-at-init : goal.loop-at-init
 loop-at-init c = record {
   fits = c.requires.fits;
   at_node = c.far-at.ensures.node;
-  under_way = λ f. way_begins _ _ _ _ _ c.args.ground.direction f;
+  under_way = λ f. way_begins _ _ _ _ _ c.args.forest.ground.direction f;
   paid = record { never_lowered = omega arith; left = omega arith; steps = omega arith };
 }
 
 pub loop-at-preserved : goal.loop-at-preserved
 loop-at-preserved c =
-    let net = c.args.ground.net.now in
-    let dir = c.args.ground.direction in
+    let net = c.args.forest.ground.net.now in
+    let dir = c.args.forest.ground.direction in
     let s = just c.args.node in
-    let t = marked_in c.args.done.now in
+    let t = marked_in c.args.forest.done.now in
     let xs = c.args.flow.now.flows in
     let x = c.far-at.result in
     let half = c.loop-at.half in
@@ -47,9 +47,9 @@ loop-at-preserved c =
 
 pub returns-clause-raised : goal.returns-clause-raised
 returns-clause-raised c = λ value r.
-    let net = c.args.ground.net.now in
-    let dir = c.args.ground.direction in
-    let t = marked_in c.args.done.now in
+    let net = c.args.forest.ground.net.now in
+    let dir = c.args.forest.ground.direction in
+    let t = marked_in c.args.forest.done.now in
     let xs = c.args.flow.now.flows in
     let x = c.far-at.result in
     way_ends dir net c.args.node x t xs c.loop-at.flow.flows value c.requires.apart

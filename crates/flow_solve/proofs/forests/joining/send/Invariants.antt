@@ -9,12 +9,12 @@ use Rattle.flow_solve.proofs.forests.joining.send.Given as goal
 
 abbrev pub invariant-loop-at : goal.invariant-loop-at
 invariant-loop-at l = record {
-  fits : Fits l.ground.net.now l.flow.flows;
-  at_node : IsNode l.ground.net.now l.at;
-  under_way : IsFeasible l.ground.net.now (just l.node) (marked_in l.done) l.fn.flow.flows
-      → IsUnderWay l.ground.direction l.ground.net.now (just l.node) (marked_in l.done) l.fn.flow.flows l.at
+  fits : Fits l.forest.ground.net.now l.flow.flows;
+  at_node : IsNode l.forest.ground.net.now l.at;
+  under_way : IsFeasible l.forest.ground.net.now (just l.node) (marked_in l.forest.done.now) l.fn.flow.flows
+      → IsUnderWay l.forest.ground.direction l.forest.ground.net.now (just l.node) (marked_in l.forest.done.now) l.fn.flow.flows l.at
       l.initial.at l.flow.flows;
-  paid : PaysSteps l.fn.flow l.fn.left l.flow l.left;
+  paid : PaysSteps l.fn.flow l.fn.joining.left l.flow l.left;
 }
 
 abbrev pub decreases-loop-at : goal.decreases-loop-at

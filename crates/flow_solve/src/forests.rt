@@ -111,8 +111,8 @@ fn begin_forest(
 {
     let mut now = ground;
     now.numbered = ready & !ground.paired;
-    let front = begin(now, done, hints);
-    grow(now, rows, done, hints, front, choice_of(ground, count, all))
+    let front = begin(now, done, hints, choice_of(ground, count, all));
+    grow(now, rows, done, hints, front)
 }
 
 /// Puts down what searches need, unless it is there already. Answers false where the rows tell of no arcs any more.
@@ -163,17 +163,16 @@ fn complete(
     let mut ground = ground;
     ground.numbered = !ground.paired;
     let nodes = ground.net.nodes();
-    let choice = choice_of(ground, count, known.value);
     flow.clear();
     set_places_back(ground, hints);
     let mut joining = at_rest(seen, hints);
     let mut front = begun;
     let mut least = known;
     while front.count < nodes && least.value > count {
-        front = next_node(ground, rows, done, joining.hints, front);
         let forest = Forest { ground, rows, done };
+        front = next_node(forest, joining.hints, front);
         least = raise(forest, &mut joining, flow, front.node, least)?;
-        front = grow_from(ground, rows, done, joining.hints, front, choice);
+        front = grow_from(ground, rows, done, joining.hints, front);
     }
     if !is_done(nodes, done, count, least.value) {
         return None;

@@ -12,9 +12,9 @@ ghost use Rattle.std.specs.Prelude.{◌≡◌, ℕ, ◌+◌, ◌*◌, ◌<◌, �
 ghost use Rattle.flow_net.specs.Nets.{IsNode};
 ghost use Rattle.flow_solve.specs.Forests.{HasGrown, HasMarked, IsLead, IsStand, marked_in};
 
-use crate::forests::Ground;
 use crate::forests::marks::{is_left, is_marked, mark, unmark_all};
 use crate::forests::rows::{TAKEN, near_at, next_at, node_in, place_at, queue_at};
+use crate::forests::{Forest, Ground};
 use crate::residual::cells::{get, put};
 
 /// How far a forest has come.
@@ -28,6 +28,8 @@ pub(crate) struct Front {
     pub node: u32,
     /// The cell from which it goes on in that node's row, or one before the row.
     pub place: u32,
+    /// How it chooses among arcs.
+    pub choice: Choice,
 }
 
 /// How a forest chooses among the arcs that lead on from a node.
@@ -61,24 +63,17 @@ pub(crate) struct Lead {
 /// The first of some cells whose arc leads on to a node that the forest hasn't come to, if there is one: of all where
 /// `all` is true, and else of those that aren't taken.
 #[inline(always)]
-fn next_lead(
-    ground: Ground<'_>,
-    rows: &[u32],
-    done: &[u32],
-    from: u32,
-    end: u32,
-    all: bool,
-) -> Option<Lead>
-    ensures { IfSome result (IsLead ground.entry rows.now done.now from end all) }
+fn next_lead(forest: Forest<'_>, from: u32, end: u32, all: bool) -> Option<Lead>
+    ensures { IfSome result (IsLead forest.entry.ground forest.entry.rows.now forest.entry.done.now from end all) }
 {
-    if end as usize > rows.len() {
+    if end as usize > forest.rows.len() {
         return None;
     }
     for cell in from..end {
-        let number = rows[cell as usize];
+        let number = forest.rows[cell as usize];
         if all || number < TAKEN {
-            let behind = node_in(ground, number % TAKEN);
-            if is_left(done, behind) {
+            let behind = node_in(forest.ground, number % TAKEN);
+            if is_left(forest.done, behind) {
                 return Some(Lead { cell, behind });
             }
         }
@@ -88,20 +83,13 @@ fn next_lead(
 
 /// The first cell of a node's row whose arc isn't taken and leads on, and whose opposite no forest has taken; where the
 /// opposite of each such arc is taken, the first of all, if there is one.
-fn fresh_lead(
-    ground: Ground<'_>,
-    rows: &[u32],
-    done: &[u32],
-    hints: &[u32],
-    begin: u32,
-    end: u32,
-) -> Option<Lead>
-    ensures { IfSome result (IsLead ground.entry rows.now done.now begin end false) }
+fn fresh_lead(forest: Forest<'_>, hints: &[u32], begin: u32, end: u32) -> Option<Lead>
+    ensures { IfSome result (IsLead forest.entry.ground forest.entry.rows.now forest.entry.done.now begin end false) }
 {
-    let first = next_lead(ground, rows, done, begin, end, false)?;
+    let first = next_lead(forest, begin, end, false)?;
     let mut lead = first;
     'leads: while get(hints, lead.cell as usize) != 0 {
-        match next_lead(ground, rows, done, lead.cell + 1, end, false) {
+        match next_lead(forest, lead.cell + 1, end, false) {
             Some(next) => lead = next,
             None => return Some(first),
         }
@@ -109,54 +97,21 @@ fn fresh_lead(
     Some(lead)
 }
 
-/// Notes that a forest has taken an arc from a node to another, at a cell of the other's row whose arc leads back, if
+/// Notes that a forest has taken an arc from its node to another, at a cell of the other's row whose arc leads back, if
 /// it is one that takes notes.
-fn note_opposite(
-    ground: Ground<'_>,
-    rows: &[u32],
-    hints: &mut [u32],
-    choice: Choice,
-    node: u32,
-    to: u32,
-) {
-    if !choice.takes_notes {
+fn note_opposite(ground: Ground<'_>, rows: &[u32], hints: &mut [u32], front: Front, to: u32) {
+    if !front.choice.takes_notes {
         return;
     }
     let begin = get(ground.first, (to as usize).wrapping_sub(1));
     let end = get(ground.first, to as usize);
     for cell in begin..end {
         let place = cell as usize;
-        if get(rows, place) % TAKEN == node && get(hints, place) == 0 {
+        if get(rows, place) % TAKEN == front.node && get(hints, place) == 0 {
             put(hints, place, 1);
             return;
         }
     }
-}
-
-/// The next cell of a node's row whose arc isn't taken and leads on, if there is one: from a place on, and where the
-/// network is dense from the beginning too. Of a choosy forest it may be any.
-#[inline(always)]
-fn lead_from(
-    ground: Ground<'_>,
-    rows: &[u32],
-    done: &[u32],
-    hints: &[u32],
-    is_choosy: bool,
-    begin: u32,
-    from: u32,
-    end: u32,
-) -> Option<Lead>
-    requires { begin ≤ from }
-    ensures { IfSome result (IsLead ground.entry rows.now done.now begin end false) }
-{
-    if is_choosy {
-        return fresh_lead(ground, rows, done, hints, begin, end);
-    }
-    let lead = next_lead(ground, rows, done, from, end, false);
-    if lead.is_some() || !ground.dense {
-        return lead;
-    }
-    next_lead(ground, rows, done, begin, end, false)
 }
 
 /// Where a forest goes on in a node's row, as a hint: in a dense network behind the arc that the one before has taken.
@@ -165,6 +120,23 @@ fn place_to_go_on(ground: Ground<'_>, hints: &[u32], front: Front) -> u32 {
         return get(hints, next_at(ground.net, front.node));
     }
     front.place
+}
+
+/// The next cell of the row of a forest's node whose arc isn't taken and leads on, if there is one: from where the
+/// forest goes on, and where the network is dense from the beginning too. Of a choosy forest it may be any.
+#[inline(always)]
+fn lead_from(forest: Forest<'_>, hints: &[u32], front: Front, begin: u32, end: u32) -> Option<Lead>
+    ensures { IfSome result (IsLead forest.entry.ground forest.entry.rows.now forest.entry.done.now begin end false) }
+{
+    if front.choice.is_choosy {
+        return fresh_lead(forest, hints, begin, end);
+    }
+    let from = place_to_go_on(forest.ground, hints, front).max(begin);
+    let lead = next_lead(forest, from, end, false);
+    if lead.is_some() || !forest.ground.dense {
+        return lead;
+    }
+    next_lead(forest, begin, end, false)
 }
 
 /// Keeps in a dense network the place behind the arc that has been taken in a node's row, for the next forest.
@@ -183,7 +155,6 @@ fn go_on(
     done: &mut [u32],
     hints: &mut [u32],
     front: Front,
-    choice: Choice,
 ) -> Option<Lead>
     requires stand { IsStand ground done.old }
     ensures { HasGrown ground.entry rows.old done.old rows.new done.new }
@@ -194,24 +165,15 @@ fn go_on(
     }
     let begin = ground.first[node as usize - 1];
     let end = ground.first[node as usize];
-    let from = place_to_go_on(ground, hints, front).max(begin);
-    let lead = lead_from(
-        ground,
-        rows,
-        done,
-        hints,
-        choice.is_choosy,
-        begin,
-        from,
-        end,
-    )?;
+    let forest = Forest { ground, rows, done };
+    let lead = lead_from(forest, hints, front, begin, end)?;
     if lead.behind == 0 {
         return None;
     }
     rows[lead.cell as usize] += TAKEN;
     mark(done, lead.behind);
     keep_place(ground, hints, node, lead.cell.wrapping_add(1));
-    note_opposite(ground, rows, hints, choice, node, lead.behind);
+    note_opposite(ground, rows, hints, front, lead.behind);
     Some(lead)
 }
 
@@ -229,28 +191,22 @@ fn come_to(ground: Ground<'_>, hints: &mut [u32], front: Front, node: u32) -> Fr
         near: front.near.saturating_add(1),
         node,
         place: 0,
+        choice: front.choice,
     }
 }
 
 /// The front back at the node from which the forest came to the one at a depth above `depth`: at `root` where there is
 /// none before it, and else behind the arc over which the forest came to it.
-fn go_back(
-    ground: Ground<'_>,
-    rows: &[u32],
-    hints: &[u32],
-    front: Front,
-    root: u32,
-    depth: u32,
-) -> Front
+fn go_back(forest: Forest<'_>, hints: &[u32], front: Front, root: u32, depth: u32) -> Front
     ensures { result.count ≡ front.count }
 {
     let mut back = front;
-    back.place = get(hints, queue_at(ground, depth)).wrapping_add(1);
+    back.place = get(hints, queue_at(forest.ground, depth)).wrapping_add(1);
     back.node = if depth == 0 {
         root
     } else {
-        let cell = get(hints, queue_at(ground, depth - 1));
-        node_in(ground, get(rows, cell as usize) % TAKEN)
+        let cell = get(hints, queue_at(forest.ground, depth - 1));
+        node_in(forest.ground, get(forest.rows, cell as usize) % TAKEN)
     };
     back
 }
@@ -262,7 +218,6 @@ pub(crate) fn grow(
     done: &mut [u32],
     hints: &mut [u32],
     front: Front,
-    choice: Choice,
 ) -> Front
     requires stand { IsStand ground done.old }
     ensures grown { HasGrown ground.entry rows.old done.old rows.new done.new }
@@ -273,13 +228,14 @@ pub(crate) fn grow(
     let mut front = front;
     let mut depth = 0u32;
     while front.count < nodes {
-        if let Some(lead) = go_on(ground, rows, done, hints, front, choice) {
+        if let Some(lead) = go_on(ground, rows, done, hints, front) {
             put(hints, queue_at(ground, depth), lead.cell);
             depth += 1;
             front = come_to(ground, hints, front, lead.behind);
         } else if depth > 0 {
             depth -= 1;
-            front = go_back(ground, rows, hints, front, root, depth);
+            let forest = Forest { ground, rows, done };
+            front = go_back(forest, hints, front, root, depth);
         } else {
             return front;
         }
@@ -288,7 +244,12 @@ pub(crate) fn grow(
 }
 
 /// A forest that has come to its root.
-pub(crate) fn begin(ground: Ground<'_>, done: &mut [u32], hints: &mut [u32]) -> Front
+pub(crate) fn begin(
+    ground: Ground<'_>,
+    done: &mut [u32],
+    hints: &mut [u32],
+    choice: Choice,
+) -> Front
     requires size { ground.net.now.nodes ≤ 32 * length done.old }
     requires root { IsNode ground.net.now ground.root }
     ensures root { IsTrue (marked_in done.new ground.entry.root) }
@@ -301,6 +262,7 @@ pub(crate) fn begin(ground: Ground<'_>, done: &mut [u32], hints: &mut [u32]) -> 
         near: 0,
         node: 0,
         place: 0,
+        choice,
     };
     come_to(ground, hints, nowhere, ground.root)
 }
@@ -312,7 +274,6 @@ pub(crate) fn grow_from(
     done: &mut [u32],
     hints: &mut [u32],
     front: Front,
-    choice: Choice,
 ) -> Front
     requires stand { IsStand ground done.old }
     requires node { IsNode ground.net.now front.node }
@@ -323,7 +284,7 @@ pub(crate) fn grow_from(
 {
     mark(done, front.node);
     let reached = come_to(ground, hints, front, front.node);
-    grow(ground, rows, done, hints, reached, choice)
+    grow(ground, rows, done, hints, reached)
 }
 
 /// Sets the places back from which the rows of nodes are looked at for the next node to be joined.
@@ -334,18 +295,13 @@ pub(crate) fn set_places_back(ground: Ground<'_>, hints: &mut [u32]) {
 }
 
 /// The next node that an arc of a node leads to and that the forest hasn't come to, if there is one.
-fn neighbour(
-    ground: Ground<'_>,
-    rows: &[u32],
-    done: &[u32],
-    hints: &mut [u32],
-    node: u32,
-) -> Option<u32> {
+fn neighbour(forest: Forest<'_>, hints: &mut [u32], node: u32) -> Option<u32> {
+    let ground = forest.ground;
     let place = place_at(ground, node);
     let begin = get(ground.first, (node as usize).wrapping_sub(1));
     let from = begin.max(get(hints, place));
     let end = get(ground.first, node as usize);
-    let lead = next_lead(ground, rows, done, from, end, true)?;
+    let lead = next_lead(forest, from, end, true)?;
     put(hints, place, lead.cell);
     Some(lead.behind)
 }
@@ -365,25 +321,19 @@ fn first_left(nodes: u32, done: &[u32]) -> u32
 
 /// The front at a node that the forest hasn't come to: one that an arc leads to from a node it has come to late, if
 /// there is one.
-pub(crate) fn next_node(
-    ground: Ground<'_>,
-    rows: &[u32],
-    done: &[u32],
-    hints: &mut [u32],
-    front: Front,
-) -> Front
+pub(crate) fn next_node(forest: Forest<'_>, hints: &mut [u32], front: Front) -> Front
     ensures { result.count ≡ front.count }
 {
     let mut next = front;
     while next.near > 0 {
-        let last = get(hints, near_at(ground, next.near - 1));
-        if let Some(node) = neighbour(ground, rows, done, hints, last) {
+        let last = get(hints, near_at(forest.ground, next.near - 1));
+        if let Some(node) = neighbour(forest, hints, last) {
             next.node = node;
             return next;
         }
         next.near -= 1;
     }
-    next.node = first_left(ground.net.nodes(), done);
+    next.node = first_left(forest.ground.net.nodes(), forest.done);
     next
 }
 

@@ -4,7 +4,7 @@ use Rattle.flow_solve.specs.Forests.{IsLead}
 use Rattle.flow_solve.proofs.forests.growing.fresh_lead.Given as goal
 
 abbrev pub invariant-leads : goal.invariant-leads
-invariant-leads l = IsLead l.ground l.rows l.done l.begin l.end false l.lead
+invariant-leads l = IsLead l.forest.ground l.forest.rows.now l.forest.done.now l.begin l.end false l.lead
 
 -- the cells behind it
 abbrev pub decreases-leads : goal.decreases-leads

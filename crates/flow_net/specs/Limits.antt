@@ -2,8 +2,8 @@
 use Rattle.std.specs.Prelude.{◌≢◌, ℕ, ◌<◌, ◌≤◌, List, ◌++◌, length, slice_index}
 use Rattle.std.specs.List.{All}
 use Rattle.flow_net.specs.declared.networks.Arc.{Arc}
-use Rattle.flow_net.specs.declared.limits.TheConstants.{FEWEST_NODES, MOST_NODES, MOST_ARCS, MOST_ARCS_BOTH_WAYS}
-use Rattle.flow_net.specs.declared.limits.TheConstants.{GREATEST_CAPACITY}
+use Rattle.flow_net.specs.declared.limits.TheConstants.{FEWEST_NODES, MOST_NODES, MOST_ARCS_BOTH_WAYS}
+use Rattle.flow_net.specs.declared.limits.TheConstants.{MOST_PROBLEM_NODES, MOST_PROBLEM_ARCS, GREATEST_CAPACITY}
 use Rattle.flow_net.specs.Nets.{Net, IsNode, Instance}
 
 -- both ends of an arc are nodes, and its capacity has 64 bits
@@ -33,7 +33,8 @@ pub record AreTerminals (net : Net) (sources sinks : List ℕ) : Type 0 where
   pub sinks_within : All (IsNode net) sinks
   pub distinct : AreDistinct (sources ++ sinks)
 
--- what every problem keeps
+-- what every problem keeps: the limits of files
 pub record IsProblem (p : Instance) : Type 0 where
-  pub arcs_most : length p.net.arcs ≤ MOST_ARCS
+  pub nodes_most : p.net.nodes ≤ MOST_PROBLEM_NODES
+  pub arcs_most : length p.net.arcs ≤ MOST_PROBLEM_ARCS
   pub terminals : AreTerminals p.net p.sources p.sinks

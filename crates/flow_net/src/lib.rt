@@ -18,7 +18,10 @@ mod problems;
 mod tables;
 
 pub use arranging::{arrange, name_in_order};
-pub use limits::{FEWEST_NODES, GREATEST_CAPACITY, MOST_ARCS, MOST_ARCS_BOTH_WAYS, MOST_NODES};
+pub use limits::{
+    FEWEST_NODES, GREATEST_CAPACITY, MOST_ARCS, MOST_ARCS_BOTH_WAYS, MOST_NODES, MOST_PROBLEM_ARCS,
+    MOST_PROBLEM_NODES,
+};
 pub use naming::{is_scattered, name_nodes};
 pub use networks::{Arc, Network, OutOfMemory};
 pub use problems::Problem;

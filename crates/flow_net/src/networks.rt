@@ -27,7 +27,7 @@ pub struct OutOfMemory;
 /// Nodes 1 to `nodes()`, and a list of arcs between them, which may be parallel, opposite or self-loops.
 ///
 /// A network has [`FEWEST_NODES`] to [`MOST_NODES`] nodes and at most [`MOST_ARCS_BOTH_WAYS`] arcs. So a sum of
-/// capacities is below 2^87.
+/// capacities is below 2^94.
 #[derive(Drop)]
 pub struct Network {
     nodes: u32,

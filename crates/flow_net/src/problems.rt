@@ -6,7 +6,9 @@ use crate::networks::Network;
 use std::marker::Model;
 
 /// A maximum flow problem of the DIMACS format (1990): a network of at most
-/// [`MOST_ARCS`](super::limits::MOST_ARCS) arcs with one or more sources and one or more sinks, all different.
+/// [`MOST_PROBLEM_NODES`](super::limits::MOST_PROBLEM_NODES) nodes and
+/// [`MOST_PROBLEM_ARCS`](super::limits::MOST_PROBLEM_ARCS) arcs with one or more sources and one or more sinks, all
+/// different.
 #[derive(Drop)]
 pub struct Problem {
     net: Network,

@@ -9,7 +9,7 @@ use Rattle.std.proofs.lemmas.Bool.{cases_Bool}
 use Rattle.std.proofs.lemmas.Grind.{common_steps}
 use Rattle.std.proofs.lemmas.List.Elements.{All-append, All-cons}
 use Rattle.flow_net.specs.declared.networks.Arc.{Arc}
-use Rattle.flow_net.specs.declared.limits.TheConstants.{FEWEST_NODES, MOST_NODES, MOST_ARCS}
+use Rattle.flow_net.specs.declared.limits.TheConstants.{FEWEST_NODES, MOST_PROBLEM_NODES, MOST_PROBLEM_ARCS}
 use Rattle.flow_net.specs.Nets.{Instance}
 use Rattle.flow_net.specs.Limits.{IsNet, IsProblem, IsArcWithin, AreDistinct}
 use Rattle.flow_text.specs.Lines.{lines}
@@ -56,8 +56,8 @@ InNodes n v = (1 ≤ v) × (v ≤ n)
 -- the limits of what is known from a problem line on
 pub record Inside (nodes declared : ℕ) (marks : Marks) (arcs : List Arc) : Type 0 where
   pub nodes_least : FEWEST_NODES ≤ nodes
-  pub nodes_most : nodes ≤ MOST_NODES
-  pub declared_most : declared ≤ MOST_ARCS
+  pub nodes_most : nodes ≤ MOST_PROBLEM_NODES
+  pub declared_most : declared ≤ MOST_PROBLEM_ARCS
   pub arcs_most : length arcs ≤ declared
   pub arcs_within : All (IsArcWithin nodes) arcs
   pub sources_within : All (InNodes nodes) marks.sources
@@ -87,9 +87,9 @@ sized k fields h p =
     let empty : InsideFrom None (marks_of k) k.arcs = subst (λ o. InsideFrom o (marks_of k) k.arcs) none p in
     let count = passed (not (length fields == 4)) WrongFields _ first.1 in
     let max = passed (not (bytes_eq (field_at fields 1) (codes "max"))) NotMax _ count.1 in
-    let n = number-passed (field_at fields 2) FEWEST_NODES MOST_NODES NodesOutOfRange
-    (number_tests (field_at fields 3) 0 MOST_ARCS ArcsOutOfRange) max.1 in
-    let m = number-passed (field_at fields 3) 0 MOST_ARCS ArcsOutOfRange [] n.others in
+    let n = number-passed (field_at fields 2) FEWEST_NODES MOST_PROBLEM_NODES NodesOutOfRange
+    (number_tests (field_at fields 3) 0 MOST_PROBLEM_ARCS ArcsOutOfRange) max.1 in
+    let m = number-passed (field_at fields 3) 0 MOST_PROBLEM_ARCS ArcsOutOfRange [] n.others in
     let n_from = n.from in let n_to = n.to in let m_to = m.to in
     rw (empty.0, empty.1) (record {
       nodes_least = omega arith;
@@ -222,14 +222,15 @@ closed (Some size) marks arcs h p =
     let terminals = passed (lacks_one marks) TerminalsMissing
     (if nat_lt (length arcs) size.1 then Some TooFewArcs else None) h in
     let lacks = terminals.0 in
-    let declared = p.declared_most in let most = p.arcs_most in (
+    let nodes = p.nodes_most in let declared = p.declared_most in let most = p.arcs_most in (
       record {
         nodes_least = p.nodes_least;
-        nodes_most = p.nodes_most;
+        nodes_most = omega arith;
         arcs_most = omega arith;
         arcs_within = p.arcs_within;
       },
       record {
+        nodes_most = p.nodes_most;
         arcs_most = omega arith;
         terminals = record {
           some_source = grind (arith, common_steps, lacks);

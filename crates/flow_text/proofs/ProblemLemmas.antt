@@ -36,6 +36,7 @@ pub IsKept-mark : (net : Net) (declared : ℕ) (marks : Marks) (node : ℕ) (is_
     → KeepsDeclared net declared marks
     → IsNode net node → KeepsDeclared net declared (with_mark marks node is_source)
 IsKept-mark net declared marks node true k is = record {
+  nodes_most = k.nodes_most;
   declared_most = k.declared_most;
   arcs_most = k.arcs_most;
   sources_within =
@@ -44,6 +45,7 @@ IsKept-mark net declared marks node true k is = record {
   sinks_within = k.sinks_within;
 }
 IsKept-mark net declared marks node false k is = record {
+  nodes_most = k.nodes_most;
   declared_most = k.declared_most;
   arcs_most = k.arcs_most;
   sources_within = k.sources_within;

@@ -18,7 +18,7 @@ use Rattle.flow_text.specs.declared.faults.FaultCode.TheVariants.{ProblemLineMis
 use Rattle.flow_text.specs.declared.faults.FaultCode.TheVariants.{ArcsOutOfRange, NodeOutOfRange, NodeLineAfterArcLine}
 use Rattle.flow_text.specs.declared.faults.FaultCode.TheVariants.{NotTerminal, TerminalsMissing, AlreadyTerminal}
 use Rattle.flow_text.specs.declared.faults.FaultCode.TheVariants.{TooManyArcs, CapacityOutOfRange, TooFewArcs}
-use Rattle.flow_net.specs.declared.limits.TheConstants.{MOST_ARCS, MOST_NODES, FEWEST_NODES}
+use Rattle.flow_net.specs.declared.limits.TheConstants.{MOST_PROBLEM_ARCS, MOST_PROBLEM_NODES, FEWEST_NODES}
 
 -- the fields of a node line with this letter in the third
 abbrev pub is_terminal : List ℕ → List (List ℕ) → Bool
@@ -58,8 +58,8 @@ unfoldable pub size_tests : List (List ℕ) → List (Bool × FaultCode)
 size_tests fields =
     (not (length fields == 4), WrongFields)
     ∷ (not (bytes_eq (field_at fields 1) (codes "max")), NotMax)
-    ∷ number_tests (field_at fields 2) FEWEST_NODES MOST_NODES NodesOutOfRange
-    ++ number_tests (field_at fields 3) 0 MOST_ARCS ArcsOutOfRange
+    ∷ number_tests (field_at fields 2) FEWEST_NODES MOST_PROBLEM_NODES NodesOutOfRange
+    ++ number_tests (field_at fields 3) 0 MOST_PROBLEM_ARCS ArcsOutOfRange
 
 -- the tests of a node line
 abbrev pub node_tests : Known → List (List ℕ) → List (Bool × FaultCode)

@@ -18,7 +18,7 @@ use Rattle.flow_text.specs.declared.faults.FaultCode.{FaultCode}
 use Rattle.flow_text.specs.declared.faults.ReadFault.{ReadFault}
 use Rattle.flow_text.specs.declared.machine.Refusal.{Refusal}
 use Rattle.flow_text.specs.declared.machine.Refusal.TheVariants.{Memory}
-use Rattle.flow_net.specs.declared.limits.TheConstants.{MOST_ARCS}
+use Rattle.flow_net.specs.declared.limits.TheConstants.{MOST_PROBLEM_NODES, MOST_PROBLEM_ARCS}
 
 -- NODES and ARCS of `p max NODES ARCS`
 abbrev pub size_of : List (List ℕ) → ℕ × ℕ
@@ -102,9 +102,11 @@ KeepsArc old arc (Ok true) new =
 KeepsArc old arc (Ok false) new = new ≡ old
 KeepsArc old arc (Err refusal) new = refusal ≡ Memory
 
--- what a problem line declares is kept: at most as many arcs, at most 4,000,000, and terminals that are nodes
+-- what a problem line declares is kept: nodes and at most as many arcs, both within the limits, and terminals that are
+-- nodes
 pub record KeepsDeclared (net : Net) (declared : ℕ) (marks : Marks) : Type 0 where
-  pub declared_most : declared ≤ MOST_ARCS
+  pub nodes_most : net.nodes ≤ MOST_PROBLEM_NODES
+  pub declared_most : declared ≤ MOST_PROBLEM_ARCS
   pub arcs_most : length net.arcs ≤ declared
   pub sources_within : All (IsNode net) marks.sources
   pub sinks_within : All (IsNode net) marks.sinks

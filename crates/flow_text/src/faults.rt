@@ -25,9 +25,9 @@ pub enum FaultCode {
     ProblemLineMissing,
     /// The second field of a `p` line isn't `max`.
     NotMax,
-    /// A `p` line declares fewer nodes than `FEWEST_NODES`, or more than `MOST_NODES`.
+    /// A `p` line declares fewer nodes than `FEWEST_NODES`, or more than `MOST_PROBLEM_NODES`.
     NodesOutOfRange,
-    /// A `p` line declares more arcs than `MOST_ARCS`.
+    /// A `p` line declares more arcs than `MOST_PROBLEM_ARCS`.
     ArcsOutOfRange,
     /// A node line stands after an arc line.
     NodeLineAfterArcLine,

@@ -16,7 +16,7 @@ use crate::machine::{Judge, Refusal};
 use crate::records::{ends_in, is_word, number_in, three, two};
 use crate::terminals::Terminals;
 use crate::usual_lines::usual_line;
-use flow_net::{Arc, FEWEST_NODES, MOST_ARCS, MOST_NODES, Network, Problem};
+use flow_net::{Arc, FEWEST_NODES, MOST_PROBLEM_ARCS, MOST_PROBLEM_NODES, Network, Problem};
 use std::alloc::Global;
 use std::marker::Model;
 
@@ -27,8 +27,8 @@ fn size_in(others: Fields<'_>) -> Result<(u32, u32), FaultCode>
         (λ size. (first_failed (size_tests (kind ∷ others.entry)) ≡ None) × (size ≡ size_of (kind ∷ others.entry)))
         (λ e. first_failed (size_tests (kind ∷ others.entry)) ≡ Some e) }
     ensures nodes_least { IfOk result (λ size. FEWEST_NODES ≤ size.0) }
-    ensures nodes_most { IfOk result (λ size. size.0 ≤ MOST_NODES) }
-    ensures arcs_most { IfOk result (λ size. size.1 ≤ MOST_ARCS) }
+    ensures nodes_most { IfOk result (λ size. size.0 ≤ MOST_PROBLEM_NODES) }
+    ensures arcs_most { IfOk result (λ size. size.1 ≤ MOST_PROBLEM_ARCS) }
 {
     let Some((max, nodes, arcs)) = three(others) else {
         return Err(FaultCode::WrongFields);
@@ -39,10 +39,15 @@ fn size_in(others: Fields<'_>) -> Result<(u32, u32), FaultCode>
     let nodes = number_in(
         nodes,
         FEWEST_NODES as u128,
-        MOST_NODES as u128,
+        MOST_PROBLEM_NODES as u128,
         FaultCode::NodesOutOfRange,
     );
-    let arcs = number_in(arcs, 0, MOST_ARCS as u128, FaultCode::ArcsOutOfRange);
+    let arcs = number_in(
+        arcs,
+        0,
+        MOST_PROBLEM_ARCS as u128,
+        FaultCode::ArcsOutOfRange,
+    );
     match (nodes, arcs) {
         (Ok(nodes), Ok(arcs)) => Ok((nodes as u32, arcs as u32)),
         (Err(code), _) => Err(code),
@@ -98,8 +103,8 @@ impl Declared {
     /// What a problem line with these numbers declares: no terminal and no arc yet.
     fn new(alloc: Global, nodes: u32, arcs: u32) -> Declared
         requires nodes_least { FEWEST_NODES ≤ nodes }
-        requires nodes_most { nodes ≤ MOST_NODES }
-        requires arcs_most { arcs ≤ MOST_ARCS }
+        requires nodes_most { nodes ≤ MOST_PROBLEM_NODES }
+        requires arcs_most { arcs ≤ MOST_PROBLEM_ARCS }
         ensures { result ≡
             record { nodes = nodes; declared = arcs; marks = record { sources = []; sinks = [] }; arcs = [] } }
     {
@@ -113,7 +118,8 @@ impl Declared {
     /// The arcs so far.
     fn net(&self) -> &Network
         ensures known { known_net (known_with self.now) ≡ Some result.now }
-        ensures most { length result.now.arcs ≤ MOST_ARCS }
+        ensures most { length result.now.arcs ≤ MOST_PROBLEM_ARCS }
+        ensures nodes_most { result.now.nodes ≤ MOST_PROBLEM_NODES }
     {
         &self.net
     }
@@ -276,7 +282,8 @@ impl ProblemLines {
     /// The network so far, if a problem line has ended.
     pub(crate) fn net(&self) -> Option<&Network>
         ensures known { MatchOption result (known_net self.now ≡ None) (λ net. known_net self.now ≡ Some net.now) }
-        ensures most { IfSome result (λ net. length net.now.arcs ≤ MOST_ARCS) }
+        ensures most { IfSome result (λ net. length net.now.arcs ≤ MOST_PROBLEM_ARCS) }
+        ensures nodes_most { IfSome result (λ net. net.now.nodes ≤ MOST_PROBLEM_NODES) }
     {
         match &self.declared {
             None => None,

@@ -9,7 +9,7 @@ ghost use Rattle.flow_text.specs.declared.faults.ReadFault.{ReadFault};
 use crate::faults::ReadFault;
 use crate::machine::Machine;
 use crate::problem_lines::ProblemLines;
-use flow_net::{MOST_ARCS, Network, Problem};
+use flow_net::{MOST_PROBLEM_ARCS, MOST_PROBLEM_NODES, Network, Problem};
 use std::alloc::Global;
 use std::marker::Model;
 
@@ -71,11 +71,12 @@ impl ProblemReader {
     }
 
     /// The network so far: the nodes that the problem line declares, and the arcs of the arc lines that have ended.
-    /// There is none before a problem line has ended, and none after an error. It has at most `MOST_ARCS` arcs, and
-    /// takes no memory.
+    /// There is none before a problem line has ended, and none after an error. It has at most `MOST_PROBLEM_NODES` nodes
+    /// and `MOST_PROBLEM_ARCS` arcs, and takes no memory.
     pub fn net(&self) -> Option<&Network>
         ensures lent { MatchOption result (lent_net self.now ≡ None) (λ net. lent_net self.now ≡ Some net.now) }
-        ensures most { IfSome result (λ net. length net.now.arcs ≤ MOST_ARCS) }
+        ensures most { IfSome result (λ net. length net.now.arcs ≤ MOST_PROBLEM_ARCS) }
+        ensures nodes_most { IfSome result (λ net. net.now.nodes ≤ MOST_PROBLEM_NODES) }
         ensures ended { (b : List ℕ) → Reads self.now b → MatchOption result (known_net (known_of (ended b)) ≡ None)
             (λ net. known_net (known_of (ended b)) ≡ Some net.now) }
     {

@@ -3,7 +3,7 @@ use Rattle.std.proofs.Common.{◌≡◌, ◌∙◌, ℕ, true, List, [], ◌∷�
 use Rattle.std.specs.Option.{option_or}
 use Rattle.std.specs.Prelude.{codes}
 use Rattle.std.specs.Str.{bytes_eq}
-use Rattle.flow_net.specs.declared.limits.TheConstants.{FEWEST_NODES, MOST_NODES, MOST_ARCS}
+use Rattle.flow_net.specs.declared.limits.TheConstants.{FEWEST_NODES, MOST_PROBLEM_NODES, MOST_PROBLEM_ARCS}
 use Rattle.flow_text.specs.Tests.{first_failed, number_tests}
 use Rattle.flow_text.specs.Problem.{size_tests}
 use Rattle.flow_text.specs.declared.faults.FaultCode.TheVariants.{NodesOutOfRange, ArcsOutOfRange}
@@ -12,12 +12,12 @@ use Rattle.flow_text.proofs.problem_lines.size_in.Goals as goal
 
 by_number : (kind max nodes arcs : List ℕ) (others : List (List ℕ)) → others ≡ max ∷ nodes ∷ arcs ∷ []
     → true ≡ bytes_eq max (codes "max") → first_failed (size_tests (kind ∷ others))
-    ≡ option_or (first_failed (number_tests nodes FEWEST_NODES MOST_NODES NodesOutOfRange))
-    (first_failed (number_tests arcs 0 MOST_ARCS ArcsOutOfRange))
+    ≡ option_or (first_failed (number_tests nodes FEWEST_NODES MOST_PROBLEM_NODES NodesOutOfRange))
+    (first_failed (number_tests arcs 0 MOST_PROBLEM_ARCS ArcsOutOfRange))
 unfolding size_tests
 by_number kind max nodes arcs others is word =
-    rw (is, ← word) (two_parts (number_tests nodes FEWEST_NODES MOST_NODES NodesOutOfRange)
-    (number_tests arcs 0 MOST_ARCS ArcsOutOfRange))
+    rw (is, ← word) (two_parts (number_tests nodes FEWEST_NODES MOST_PROBLEM_NODES NodesOutOfRange)
+    (number_tests arcs 0 MOST_PROBLEM_ARCS ArcsOutOfRange))
 
 pub returns-in_default-clause-tests : goal.returns-in_default-clause-tests
 unfolding size_tests

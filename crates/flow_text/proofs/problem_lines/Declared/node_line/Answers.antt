@@ -11,6 +11,7 @@ invariant_of-self c = elim c.match-add.branch [
       (IsKept-mark c.self.inside.net c.self.inside.arcs c.self.inside.terminals _ _ c.self.invariant
       (c.in-Ok.ensures.least, rw (c.nodes.ensures.nodes) at c.in-Ok.ensures.most))
   | in-Err-add w ↦ rw w.in-Err-add.ensures.err (record {
+    nodes_most = c.self.invariant.nodes_most;
     declared_most = c.self.invariant.declared_most;
     arcs_most = c.self.invariant.arcs_most;
     sources_within = search rules;

@@ -26,7 +26,7 @@ use Rattle.flow_solve.specs.residual.Trails.{trail_from}
 use Rattle.flow_solve.proofs.ResidualLemmas.Routes.{nearness, searched_trails, trail_is, sink_at, sink_no_source}
 use Rattle.flow_solve.proofs.SideLemmas.Outcomes.{backward_tight}
 
--- a cut's capacity is at most the sum of all, and that is below 2^87
+-- a cut's capacity is at most the sum of all, and that is below 2^94
 some_of : (b : Bool) (x m k : ℕ) → m ≤ k → cond b x 0 + m ≤ x + k
 some_of b x m k l = grind arith
 

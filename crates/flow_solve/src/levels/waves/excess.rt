@@ -10,7 +10,7 @@ ghost use Rattle.flow_solve.specs.levels.Waves.{HasCells, OnlyMarks};
 
 use crate::residual::cells::{CELL, get, put};
 
-/// So many levels fit the cell of a node, which are more than there are nodes.
+/// So many levels fit the cell of a node. A node that is farther from the roots takes no part.
 const LEVELS: u32 = 1_048_576;
 
 /// Stands for the level of a node that no search has seen, or that was lifted to the ceiling.
@@ -18,6 +18,9 @@ pub(super) const UNSEEN: u32 = LEVELS - 1;
 
 /// Stands for the level of a node that takes no part.
 pub(super) const BARRED: u32 = LEVELS - 2;
+
+/// The farthest level that a node may have.
+pub(super) const FARTHEST: u32 = LEVELS - 3;
 
 /// So many places fit the cell of a node: the half-arcs before its current place lead to no nearer level.
 pub(super) const PLACES: usize = 4096;

@@ -8,7 +8,7 @@ ghost use Rattle.flow_net.specs.Flows.{Fits};
 ghost use Rattle.flow_solve.specs.Steps.{PaysLooks};
 ghost use Rattle.flow_solve.specs.levels.Waves.{HasCells, HasLookedOut, IsWaving, OnlyMarks, StaysIn};
 
-use super::excess::{BARRED, UNSEEN, Wave};
+use super::excess::{BARRED, FARTHEST, UNSEEN, Wave};
 use super::passing::{half_at, row_of};
 use crate::levels::spending::spend;
 use crate::residual::half_arcs::{head, twin};
@@ -63,7 +63,7 @@ fn scan(packed: Packed<'_>, flow: &mut FlowTable, wave: &mut Wave<'_>, node: u32
 {
     let row = row_of(packed, node, false);
     let level = wave.level(node).saturating_add(1);
-    if !spend(&mut wave.left, row.halves.len() as u64) {
+    if level > FARTHEST || !spend(&mut wave.left, row.halves.len() as u64) {
         return;
     }
     for step in 0..row.halves.len() {
@@ -140,7 +140,7 @@ fn set_out(net: &Network, wave: &mut Wave<'_>)
     requires { IsNet net.now }
     ensures { OnlyMarks wave.old wave.new }
 {
-    wave.ceiling = wave.highest().min(net.nodes() - 1);
+    wave.ceiling = wave.highest().min(net.nodes() - 1).min(FARTHEST);
     wave.floor = wave.left.saturating_sub(FUEL * u64::from(net.len()));
     wave.turn ^= 1;
 }

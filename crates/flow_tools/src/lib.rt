@@ -26,7 +26,7 @@ pub use cells::filled;
 pub use checking::node_flows::NodeFlows;
 pub use checking::sharing::fill;
 pub use checking::{check, is_greatest};
-pub use connecting::answers::connect;
+pub use connecting::answers::{connect, edge_connectivity};
 pub use connecting::connectivity;
 pub use laws::{greatest_is_least, printed_cut_is_minimum, solved_is_optimal};
 pub use networks::FlowNetwork;

@@ -1,13 +1,12 @@
 //! Networks with their terminals.
-ghost use Rattle.std.specs.Prelude.{◌≡◌, ◌≤◌, length};
-ghost use Rattle.flow_net.specs.declared.limits.TheConstants.{MOST_ARCS};
+ghost use Rattle.std.specs.Prelude.{◌≡◌};
 ghost use Rattle.flow_net.specs.Limits.{IsProblem, AreTerminals};
 
 use flow_net::{Network, Problem};
 use std::marker::Model;
 
 /// A network with one or more sources and one or more sinks, all different: what has a greatest flow. A [`Problem`] is
-/// one with at most [`MOST_ARCS`](flow_net::MOST_ARCS) arcs.
+/// one within the limits of files.
 #[derive(Drop)]
 pub struct FlowNetwork {
     net: Network,
@@ -50,19 +49,6 @@ impl FlowNetwork {
             sources,
             sinks,
         }
-    }
-
-    /// The problem that it is, of at most [`MOST_ARCS`](flow_net::MOST_ARCS) arcs. It takes no memory.
-    pub fn into_problem(self) -> Problem
-        requires { length self.net.arcs ≤ MOST_ARCS }
-        ensures { result ≡ self }
-    {
-        let FlowNetwork {
-            net,
-            sources,
-            sinks,
-        } = self;
-        Problem::new(net, sources, sinks)
     }
 
     /// The network without its terminals.

@@ -16,7 +16,7 @@ use Rattle.flow_text.specs.Solution.{solution}
 use Rattle.flow_text.specs.declared.verdicts.Verdict.{Verdict}
 use Rattle.flow_text.specs.declared.verdicts.Verdict.TheVariants.{Over, Unbalanced, Value, Feasible, NotMaximal}
 use Rattle.flow_text.specs.declared.verdicts.Verdict.TheVariants.{Optimal}
-use Rattle.flow_net.specs.declared.limits.TheConstants.{MOST_ARCS}
+use Rattle.flow_net.specs.declared.limits.TheConstants.{MOST_PROBLEM_ARCS}
 use Rattle.flow_text.specs.declared.limits.TheConstants.{GREATEST_VALUE}
 use Rattle.flow_text.proofs.AcceptedLemmas.{accepted_problem}
 use Rattle.flow_tools.specs.checking.LineFlows.{line_flow}
@@ -42,7 +42,7 @@ positive : (value a b : ℕ) → a ≡ value + b → pos value ≡ pos a -ℤ po
 positive value a b e = omega (arith, ints, e)
 
 -- the value of a feasible flow of 64 bit capacities
-value_small : (p : Instance) (xs : List ℕ) (value : ℕ) → IsNet p.net → length p.net.arcs ≤ MOST_ARCS
+value_small : (p : Instance) (xs : List ℕ) (value : ℕ) → IsNet p.net → length p.net.arcs ≤ MOST_PROBLEM_ARCS
     → IsFeasible p.net (one_of p.sources) (one_of p.sinks) xs → HasValue p.net (one_of p.sources) xs value
     → value ≤ GREATEST_VALUE
 value_small p xs value n few f v =

@@ -27,7 +27,7 @@ use Rattle.flow_text.specs.SolutionReading.{solution_tests}
 use Rattle.flow_text.specs.SolutionReading.{given_of, flow_of, with_solution_record}
 use Rattle.flow_text.specs.declared.solutions.FlowLine.{FlowLine}
 use Rattle.flow_text.specs.declared.faults.FaultCode.TheVariants.{FlowOutOfRange}
-use Rattle.flow_net.specs.declared.limits.TheConstants.{MOST_NODES, MOST_ARCS}
+use Rattle.flow_net.specs.declared.limits.TheConstants.{MOST_NODES, MOST_PROBLEM_ARCS}
 use Rattle.flow_text.specs.declared.limits.TheConstants.{LONGEST_LINE, MOST_FLOW_LINES, GREATEST_VALUE}
 use Rattle.flow_text.proofs.CutLemmas.{ended-joined}
 use Rattle.flow_text.proofs.FieldLemmas.{fields_of-blank, fields_of-last, fields_of-field}
@@ -282,7 +282,7 @@ whole_read nodes value ls b done e fine says =
     rw (sym (whole-same nodes b) ∙ none, said) refl
 
 -- a printed flow, read as a solution
-pub solved_is_accepted : (net : Net) (value : ℕ) (flows : List ℕ) → IsNet net → length net.arcs ≤ MOST_ARCS
+pub solved_is_accepted : (net : Net) (value : ℕ) (flows : List ℕ) → IsNet net → length net.arcs ≤ MOST_PROBLEM_ARCS
     → value ≤ GREATEST_VALUE → Fits net flows
     → solution (solve_text false net value flows) net.nodes ≡ Ok (value, map carried_line (zip net.arcs flows))
 solved_is_accepted net value flows n few small f =

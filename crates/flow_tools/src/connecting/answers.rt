@@ -1,4 +1,4 @@
-//! The connectivity of a problem's network, as a value.
+//! The connectivity of a network, as a value.
 ghost use Rattle.std.specs.Prelude.{◌≡◌, ◌≤◌, true, false, length, if◌then◌else◌, IfOk};
 ghost use Rattle.std.specs.List.{All};
 ghost use Rattle.flow_net.specs.declared.limits.TheConstants.{MOST_ARCS};
@@ -11,6 +11,7 @@ ghost use Rattle.flow_tools.specs.running.Answers.{IsSeparating};
 
 use crate::cells::work_for;
 use crate::connecting::connectivity;
+use crate::networks::FlowNetwork;
 use flow_net::{FlowTable, Network, OutOfMemory, Problem};
 use flow_solve::Levels;
 use std::alloc::Global;
@@ -47,9 +48,29 @@ fn solve_connectivity(
     Ok(connectivity::<Levels>(net, pair, s, t, &mut table, work.as_mut_slice()))
 }
 
-/// The edge connectivity of a problem's network, by arcs of any capacity: the least number of arcs that leave a set of
-/// nodes which is neither empty nor all, or where `undirected` is true that have exactly one end in it. With `pair`
-/// only the sets count that have every source inside and every sink outside; without it the terminals aren't looked at.
+/// The edge connectivity of a network of at most [`MOST_ARCS`](flow_net::MOST_ARCS) arcs, of any capacity: the least
+/// number of arcs that leave a set of nodes which is neither empty nor all, or where `undirected` is true that have
+/// exactly one end in it. With `pair` only the sets count that have every source inside and every sink outside; without
+/// it the terminals aren't looked at.
+///
+/// # Errors
+///
+/// `OutOfMemory`.
+pub fn edge_connectivity(
+    alloc: Global,
+    network: FlowNetwork,
+    undirected: bool,
+    pair: bool,
+) -> Result<u64, OutOfMemory>
+    requires room { length network.net.arcs ≤ MOST_ARCS }
+    ensures { IfOk result (IsLeastOver (IsSeparating network pair) (counted undirected network.net)) }
+{
+    let (net, sources, sinks) = network.into_parts();
+    let net = counting_network(net, undirected)?;
+    solve_connectivity(alloc, &net, pair, &sources, &sinks)
+}
+
+/// The edge connectivity of a problem's network, as [`edge_connectivity`] has it.
 ///
 /// # Errors
 ///
@@ -62,7 +83,5 @@ pub fn connect(
 ) -> Result<u64, OutOfMemory>
     ensures { IfOk result (IsLeastOver (IsSeparating problem pair) (counted undirected problem.net)) }
 {
-    let (net, sources, sinks) = problem.into_parts();
-    let net = counting_network(net, undirected)?;
-    solve_connectivity(alloc, &net, pair, &sources, &sinks)
+    edge_connectivity(alloc, FlowNetwork::of_problem(problem), undirected, pair)
 }

@@ -1,4 +1,4 @@
--- `connect`: the connectivity of the network with capacities of 1 is by the laws of connectivity that of the
+-- `edge_connectivity`: the connectivity of the network with capacities of 1 is by the laws of connectivity that of the
 -- problem's network.
 use Rattle.std.proofs.Common.{◌≡◌, ℕ, true, false, Bool, Result, Ok, Err, IfOk, ◌∙◌}
 use Rattle.flow_net.specs.NodeSets.{one_of, IsLeastOver}
@@ -6,14 +6,14 @@ use Rattle.flow_net.specs.LeastCuts.{IsConnectivity, IsPairConnectivity}
 use Rattle.flow_tools.specs.connecting.Counts.{counted}
 use Rattle.flow_tools.specs.running.Answers.{IsSeparating}
 use Rattle.flow_tools.proofs.connecting.ConnectAnswers.{unit_capacities, connectivity_of}
-use Rattle.flow_tools.proofs.connecting.answers.connect.Goals as goal
+use Rattle.flow_tools.proofs.connecting.answers.edge_connectivity.Goals as goal
 
 pub solve_connectivity-requires-clause-unit : goal.solve_connectivity-requires-clause-unit
 solve_connectivity-requires-clause-unit c = unit_capacities _ c.in_ok-net.net c.in_ok-net.ensures
 
 pub returns : goal.returns
 returns c =
-    let p = c.args.problem in
+    let p = c.args.network in
     let made = c.in_ok-net.net in
     let pair = c.args.pair in
     let parts = c.into_parts-net.ensures in

@@ -2,9 +2,9 @@
  *
  * A network has the nodes 0 to nodes - 1. Arc i leads from src[i] to dst[i] and may carry up to cap[i] units. Parallel
  * and opposite arcs, self-loops, arcs into a source and out of a sink are all accepted. There are one or more sources
- * and one or more sinks, and no node stands in these lists twice. Limits: 2 to 1,000,000 nodes, at most 8,000,000 arcs,
- * capacities from 0 to 18,446,744,073,709,551,615. A value has 128 bits and comes in two words: it is
- * high * 2^64 + low. provedflow_links takes at most 4,000,000 arcs.
+ * and one or more sinks, and no node stands in these lists twice. Limits: 2 to 268,435,456 nodes, at most 1,073,741,824
+ * arcs, capacities from 0 to 18,446,744,073,709,551,615. A value has 128 bits and comes in two words: it is
+ * high * 2^64 + low. provedflow_links takes at most 536,870,912 arcs.
  *
  * All arrays are the caller's. Nothing of them is kept after a call, no memory is handed over, and there is nothing to
  * begin or to end. Calls on different arrays may run at once, in as many threads as you like. A call takes memory by
@@ -34,6 +34,11 @@
 /* The version of this header. */
 #define PROVEDFLOW_VERSION "0.1.0"
 
+/* The most nodes, the most arcs, and the most arcs where links are counted. */
+#define PROVEDFLOW_MOST_NODES 268435456
+#define PROVEDFLOW_MOST_ARCS 1073741824
+#define PROVEDFLOW_MOST_LINKS 536870912
+
 #ifdef __cplusplus
 extern "C" {
 #endif
@@ -41,7 +46,7 @@ extern "C" {
 /* What a call answers. */
 enum {
     PROVEDFLOW_OK = 0,        /* the answer was written */
-    PROVEDFLOW_NODES = 1,     /* fewer than 2 nodes, or more than 1,000,000 */
+    PROVEDFLOW_NODES = 1,     /* fewer than 2 nodes, or more than 268,435,456 */
     PROVEDFLOW_LENGTHS = 2,   /* too many arcs, lists whose lengths don't fit each other, or no room for the sides */
     PROVEDFLOW_ARC = 3,       /* an end of an arc is no node; provedflow_bad_arc finds it */
     PROVEDFLOW_TERMINALS = 4, /* no source or no sink, one that is no node, or a node that stands there twice */
@@ -89,7 +94,6 @@ static inline void *provedflow_some(const void *list) {
 
 #define PROVEDFLOW_U32(list) ((const uint32_t *)provedflow_some(list))
 #define PROVEDFLOW_U64(list) ((const uint64_t *)provedflow_some(list))
-#define PROVEDFLOW_MOST_ARCS 8000000
 
 /* Room for the flow of each arc, where the caller wants none of it; NULL for too many arcs, or where memory is
  * refused. */
@@ -196,6 +200,5 @@ static inline const char *provedflow_strerror(uint32_t status) {
 
 #undef PROVEDFLOW_U32
 #undef PROVEDFLOW_U64
-#undef PROVEDFLOW_MOST_ARCS
 
 #endif

@@ -130,7 +130,7 @@ Flow maximum_flow(std::uint32_t nodes, const Src &src, const Dst &dst, const Cap
 template <class Src, class Dst, class Cap, class Sources, class Sinks>
 Cut minimum_cut(std::uint32_t nodes, const Src &src, const Dst &dst, const Cap &cap, const Sources &sources,
                 const Sinks &sinks, Nearest nearest = Nearest::sources) {
-    if (nodes >> 28 != 0) { // no network has so many, and there is no need to ask for their memory
+    if (nodes > PROVEDFLOW_MOST_NODES) { // there is no need to ask for their memory
         throw Refused(PROVEDFLOW_NODES);
     }
     std::vector<std::uint64_t> flow(src.size());
@@ -245,7 +245,7 @@ public:
 private:
     static std::size_t pixels_of(std::uint32_t width, std::uint32_t height, std::uint32_t depth) {
         const std::uint64_t slice = std::uint64_t{width} * height;
-        const std::uint64_t most = std::numeric_limits<std::uint32_t>::max() - 2;
+        const std::uint64_t most = PROVEDFLOW_MOST_NODES - 2;
         if (slice == 0 || depth == 0 || slice > most / depth) {
             throw Refused(PROVEDFLOW_NODES);
         }

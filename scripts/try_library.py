@@ -67,7 +67,7 @@ def compile_and_run(count, name, library, options, compiler, folder):
         if status != 0:
             count.add(title, False, errors)
         elif name != "problems":
-            words = ["limits"] if (name, kind, compiler, options) == ("calls", "shared", "gcc", PLAIN) else []
+            words = ["many"] if (name, kind, compiler, options) == ("calls", "shared", "gcc", PLAIN) else []
             status, printed, errors = run(program, *words)
             last = (printed.splitlines() or [""])[-1]
             count.add(title, status == 0 and re.fullmatch(rf"{name}: [1-9]\d* passed, 0 failed", last) and not errors,

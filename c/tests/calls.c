@@ -188,7 +188,7 @@ static void refusals(void) {
     uint8_t side[NODES];
     refused("one node", PROVEDFLOW_NODES, 1, ARCS, SRC, DST, 1, SOURCE, 1, SINK);
     refused("no node", PROVEDFLOW_NODES, 0, ARCS, SRC, DST, 1, SOURCE, 1, SINK);
-    refused("too many nodes", PROVEDFLOW_NODES, 1000001, ARCS, SRC, DST, 1, SOURCE, 1, SINK);
+    refused("too many nodes", PROVEDFLOW_NODES, PROVEDFLOW_MOST_NODES + 1u, ARCS, SRC, DST, 1, SOURCE, 1, SINK);
     refused("too many nodes by far", PROVEDFLOW_NODES, UINT32_MAX, ARCS, SRC, DST, 1, SOURCE, 1, SINK);
     refused("a source of an arc", PROVEDFLOW_ARC, NODES, ARCS, out, DST, 1, SOURCE, 1, SINK);
     refused("an end of an arc", PROVEDFLOW_ARC, NODES, ARCS, SRC, wide, 1, SOURCE, 1, SINK);
@@ -237,29 +237,31 @@ static void words(void) {
     equal("words of the greatest status", strcmp(provedflow_strerror(UINT32_MAX), provedflow_strerror(6)) == 0, 1);
 }
 
-/* 1,000,000 nodes in a ring of 8,000,000 arcs, eight beside each other between neighbours, of which the first 4,000,000
- * are a chain from node 0 to node 500,000. */
-static void at_the_limits(void) {
-    enum { MOST_NODES = 1000000, MOST_ARCS = 8000000, MOST_LINKS = 4000000 };
-    uint32_t *src = (uint32_t *)malloc((MOST_ARCS + 1) * sizeof *src);
-    uint32_t *dst = (uint32_t *)malloc((MOST_ARCS + 1) * sizeof *dst);
-    uint64_t *cap = (uint64_t *)malloc((MOST_ARCS + 1) * sizeof *cap), high = 9, low = 9, links = 9;
-    static const uint32_t sink[] = {500000};
+/* More than a file may have: a ring of 1,250,000 nodes and 10,000,000 arcs, eight beside each other between neighbours.
+ * What is refused is refused by its number, before any list is read. */
+static void many(void) {
+    enum { MANY_NODES = 1250000, MANY_ARCS = 10000000 };
+    uint32_t *src = (uint32_t *)malloc(MANY_ARCS * sizeof *src), *dst = (uint32_t *)malloc(MANY_ARCS * sizeof *dst);
+    uint64_t *cap = (uint64_t *)malloc(MANY_ARCS * sizeof *cap), high = 9, low = 9, links = 9;
+    static const uint32_t sink[] = {MANY_NODES / 2};
     uint32_t i;
-    for (i = 0; src && dst && cap && i <= MOST_ARCS; i++) {
-        src[i] = i / 8 % MOST_NODES;
-        dst[i] = (i / 8 + 1) % MOST_NODES;
+    for (i = 0; src && dst && cap && i < MANY_ARCS; i++) {
+        src[i] = i / 8;
+        dst[i] = (i / 8 + 1) % MANY_NODES;
         cap[i] = 1;
     }
-    equal("limits", provedflow_flow(MOST_NODES, MOST_ARCS, src, dst, cap, 1, SOURCE, 1, sink, NULL, &high, &low), 0);
-    equal("limits, value", low, 8);
-    equal("limits", provedflow_links(MOST_NODES, MOST_LINKS, src, dst, 1, SOURCE, 1, sink, 1, 1, &links), 0);
-    equal("limits, links", links, 8);
-    equal("a link too many", provedflow_links(MOST_NODES, MOST_LINKS + 1, src, dst, 1, SOURCE, 1, sink, 1, 1, &links),
-          PROVEDFLOW_LENGTHS);
-    equal("an arc too many",
-          provedflow_flow(MOST_NODES, MOST_ARCS + 1, src, dst, cap, 1, SOURCE, 1, sink, NULL, &high, &low),
-          PROVEDFLOW_LENGTHS);
+    equal("many", provedflow_flow(MANY_NODES, MANY_ARCS, src, dst, cap, 1, SOURCE, 1, sink, NULL, &high, &low), 0);
+    equal("many, value", low, 8);
+    equal("many", provedflow_links(MANY_NODES, MANY_ARCS, src, dst, 1, SOURCE, 1, sink, 1, 1, &links), 0);
+    equal("many, links", links, 16);
+    equal("a node too many", provedflow_flow(PROVEDFLOW_MOST_NODES + 1u, MANY_ARCS, src, dst, cap, 1, SOURCE, 1, sink,
+                                             cap, &high, &low), PROVEDFLOW_NODES);
+    equal("an arc too many", provedflow_check(MANY_NODES, PROVEDFLOW_MOST_ARCS + 1u, src, dst, cap, 1, SOURCE, 1, sink,
+                                              cap, &i, &high, &low), PROVEDFLOW_LENGTHS);
+    equal("no room for an arc too many", provedflow_flow(MANY_NODES, PROVEDFLOW_MOST_ARCS + 1u, src, dst, cap, 1,
+                                                         SOURCE, 1, sink, NULL, &high, &low), PROVEDFLOW_LENGTHS);
+    equal("a link too many", provedflow_links(MANY_NODES, PROVEDFLOW_MOST_LINKS + 1u, src, dst, 1, SOURCE, 1, sink, 1,
+                                              1, &links), PROVEDFLOW_LENGTHS);
     free(src);
     free(dst);
     free(cap);
@@ -276,8 +278,8 @@ int main(int argc, char **argv) {
     no_arcs();
     refusals();
     words();
-    if (argc > 1 && strcmp(argv[1], "limits") == 0) {
-        at_the_limits();
+    if (argc > 1 && strcmp(argv[1], "many") == 0) {
+        many();
     }
     printf("calls: %d passed, %d failed\n", passed, failed);
     return failed != 0;

@@ -138,6 +138,7 @@ void try_refusals() {
     check(throws<std::out_of_range>([&] { grid.join(0, 4, 1, 1); }), "a pixel outside");
     check(throws<std::out_of_range>([&] { static_cast<void>(grid.at(2, 0)); }), "a place outside");
     check(throws<provedflow::Refused>([] { provedflow::Grid empty(0, 3); }), "a grid without pixels");
+    check(throws<provedflow::Refused>([] { provedflow::Grid large(16384, 16384); }), "a grid with too many pixels");
 }
 
 } // namespace

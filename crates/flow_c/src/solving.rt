@@ -11,7 +11,7 @@ ghost use Rattle.flow_c.specs.Refusals.{IsReasonFor, AreLengthsOf, AreGoodFor};
 use crate::lists::{Lent, read_network};
 use crate::refusals::Refusal;
 use flow_net::MOST_ARCS;
-use flow_tools::{Side, connect, cut, solve};
+use flow_tools::{Side, cut, edge_connectivity, solve};
 use std::alloc::Global;
 
 /// Writes a 1 for each node that is marked, and a 0 for the others.
@@ -93,6 +93,6 @@ pub(crate) fn count_links(
         return Err(Refusal::Lengths);
     }
     let network = read_network(alloc, lent, None)?;
-    let links = connect(alloc, network.into_problem(), undirected, pair)?;
+    let links = edge_connectivity(alloc, network, undirected, pair)?;
     Ok(links)
 }

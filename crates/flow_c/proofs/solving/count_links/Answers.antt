@@ -1,4 +1,4 @@
--- `count_links`: there are no more arcs than a problem has.
+-- `count_links`: there are no more arcs than have room with their reverses.
 use Rattle.std.proofs.Common.{◌≡◌, length, arith}
 use Rattle.std.proofs.lemmas.List.{length-replicate}
 use Rattle.flow_c.specs.Lists.{ones}
@@ -6,8 +6,8 @@ use Rattle.flow_c.proofs.ListLemmas.{arcs_of, passed_on}
 use Rattle.flow_c.proofs.FaultLemmas.{reason_more}
 use Rattle.flow_c.proofs.solving.count_links.Goals as goal
 
-pub into_problem-requires : goal.into_problem-requires
-into_problem-requires c =
+pub edge_connectivity-requires : goal.edge_connectivity-requires
+edge_connectivity-requires c =
     let src = c.args.lent.src.now in
     let count = arcs_of c.in_ok-network.network c.args.lent (ones src) c.in_ok-network.ensures.network in
     let few = c.if-lent.false in omega (arith, count, few)
@@ -21,4 +21,4 @@ returns-in_err-network-clause-refused c =
     c.in_err-network.ensures.refused)
 
 pub returns-clause-ok : goal.returns-clause-ok
-returns-clause-ok c = rw (c.into_problem.ensures, c.in_ok-network.ensures.network) at c.in_ok-links.ensures
+returns-clause-ok c = rw (c.in_ok-network.ensures.network) at c.in_ok-links.ensures

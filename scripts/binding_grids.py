@@ -1,11 +1,13 @@
 """`provedflow.pixels` by hand, and by trial of all masks."""
 
 import functools
+import unittest.mock
 from itertools import product
 
 import numpy as np
 
-from provedflow.pixels import Grid, steps
+from provedflow import pixels
+from provedflow.pixels import Grid, fits, steps
 
 SHAPES = {(8,): 2, (2, 4): 4, (3, 3): 8, (2, 2, 2): 6, (2, 1, 4): 26, (1, 3, 3): 18}
 """Small grids, each with how many neighbours its pixels have."""
@@ -78,18 +80,32 @@ def by_hand(checks):
 
 def limits(checks):
     """Grids that fit and grids that don't, which is told in pixels and before anything is made."""
-    for given in ((1000, 999), 4), ((940, 940), 8), ((99, 99, 99), 6), ((67, 67, 67), 26):
-        checks.equal(f"{given} fits", Grid(*given).shape, given[0])
-    grid = Grid((1000, 900))
-    for step in (*steps(2, 4), (1, 1)):
-        grid.join_step(step, 1)
+    for side, axes, neighbours in (14654, 2, 4), (10923, 2, 8), (535, 3, 6), (342, 3, 26):
+        sides = [fits((size,) * axes, steps(axes, neighbours)) for size in (side, side + 1)]
+        checks.equal(f"{side} pixels along {axes} axes with {neighbours} neighbours fit", sides, [True, False])
     for words, call in (
-        ("1,000,000 pixels, and 999,998 fit surely, as 999 x 999", lambda: Grid((1000, 1000), 4)),
-        ("1,000 x 900 pixels with 8 neighbours doesn't fit: it has 900,000", lambda: Grid((1000, 900), 8)),
+        ("268,435,456 pixels, and 214,748,364 fit surely, as 14,654 x 14,654", lambda: Grid((2 ** 14, 2 ** 14), 4)),
+        ("11,000 x 11,000 pixels with 8 neighbours doesn't fit: it has 121,", lambda: Grid((11000, 11000), 8)),
         ("1,000,000 x 1,000,000 pixels", lambda: Grid((10 ** 6, 10 ** 6), 4)),
-        ("with 4 steps to neighbours doesn't fit", lambda: grid.join_step((1, -1), 1)),
     ):
         checks.raises(f"doesn't fit: {words}", ValueError, words, call)
+    grid = Grid((300, 400))
+    for step in (*steps(2, 4), (1, 1)):
+        grid.join_step(step, 1)
+    with unittest.mock.patch.object(pixels, "MOST_ARCS", 1_000_000):
+        words = "with 4 steps to neighbours doesn't fit"
+        checks.raises(f"doesn't fit: {words}", ValueError, words, lambda: grid.join_step((1, -1), 1))
+
+
+def large(checks):
+    """A photograph of the size of a screen, which is more than a file may have: as many pixels on either side of a line
+    that a cut goes along."""
+    grid = Grid((1080, 1920), 4)
+    grid.join(1)
+    halves = np.arange(1920) < 960
+    grid.add_terminals(np.broadcast_to(9 * halves, grid.shape), np.broadcast_to(9 * ~halves, grid.shape))
+    value, mask = grid.cut()
+    checks.equal("1,080 x 1,920 pixels", (value, (mask == ~halves).all()), (1080, True))
 
 
 def refusals(checks):
@@ -121,5 +137,5 @@ def check_all(checks):
     chance = np.random.default_rng(1989)
     for number in range(60):
         by_trial(checks, chance, number)
-    for part in (by_hand, limits, refusals):
+    for part in (by_hand, limits, large, refusals):
         part(checks)

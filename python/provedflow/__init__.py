@@ -6,8 +6,9 @@
 
 A network is given by arrays: arc i leads from node src[i] to node dst[i] and may carry up to capacities[i] units.
 Nodes are the numbers from 0 on. Parallel and opposite arcs, self-loops, arcs into a source and out of a sink are
-accepted, and so are several sources and sinks. Limits: 2 to 1,000,000 nodes, at most 8,000,000 arcs, or 4,000,000 where
-links are counted, capacities from 0 to 18,446,744,073,709,551,615 (2^64 - 1). A value is an int of any size.
+accepted, and so are several sources and sinks. Limits: 2 to 268,435,456 nodes, at most 1,073,741,824 arcs, or
+536,870,912 where links are counted, capacities from 0 to 18,446,744,073,709,551,615 (2^64 - 1). A value is an int of
+any size.
 
 An array is a NumPy array of integers, another object with a buffer of machine integers (as array.array), or any
 sequence of ints. Answers are NumPy arrays where one of the arrays is, and else lists. A contiguous array of 32 bits for

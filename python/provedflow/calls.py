@@ -112,7 +112,7 @@ def edge_connectivity(src: Numbers, dst: Numbers, nodes: Optional[int] = None, *
     all sinks outside. With directed=False arcs have no direction: those count that have exactly one end in the set.
 
     - src, dst, nodes: as of `maximum_flow`; there are no capacities, each of parallel arcs counts, and there are
-      at most 4,000,000 arcs.
+      at most 536,870,912 arcs.
     - sources, sinks: a node or an array of nodes each, or both left out.
 
     Returns an int. Raises what `maximum_flow` raises.

@@ -9,9 +9,11 @@ from numbers import Integral, Rational, Real
 import networkx as nx
 
 from provedflow.arrays import plain
-from provedflow.library import GREATEST_CAPACITY, MOST_ARCS
+from provedflow.library import GREATEST_CAPACITY
 
 INFINITE = float("inf")
+MOST_PIECES = 8_000_000
+"""The most arcs that great capacities are split into; more would take gigabytes."""
 
 
 class TooMuch(nx.NetworkXError, NotImplementedError):
@@ -96,7 +98,7 @@ def split(srcs, dsts, amounts, scale):
     if max(amounts, default=0) <= GREATEST_CAPACITY:
         return (array("I", srcs), array("I", dsts), array("Q", amounts)), None
     parts = [max(1, -(-amount // GREATEST_CAPACITY)) for amount in amounts]
-    if sum(parts) > MOST_ARCS:
+    if sum(parts) - len(parts) > MOST_PIECES:
         raise TooMuch("the capacities are too great or too different to be counted exactly; they fit if each is "
                       f"rounded to {rounding(Fraction(max(amounts), scale))}")
     pieces = [piece for amount, count in zip(amounts, parts)

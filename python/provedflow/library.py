@@ -4,11 +4,11 @@ import ctypes
 import functools
 import os
 
-MOST_NODES = 1_000_000
+MOST_NODES = 268_435_456
 """The most nodes of a network."""
-MOST_ARCS = 8_000_000
+MOST_ARCS = 1_073_741_824
 """The most arcs of a network."""
-MOST_LINKS = 4_000_000
+MOST_LINKS = 536_870_912
 """The most arcs of a network whose links are counted."""
 GREATEST_CAPACITY = 2 ** 64 - 1
 """The greatest capacity of an arc."""

@@ -26,10 +26,10 @@ float, each answer is the nearest float; else it is a Fraction. A capacity of 2^
 that makes too many, the NetworkXError says how to round.
 
 Raised, beside what is said above: NetworkXError where s or t isn't in the graph, where they are the same, where a
-capacity is None, a text, nan or no number at all (with the edge), and beyond the limits of 1,000,000 nodes and
-8,000,000 arcs, or 4,000,000 edges where links are counted; where nodes are cut or their connectivity is asked for, each
-node is two with an arc between them, and an edge without direction two arcs; MemoryError; provedflow.LibraryNotFound
-where the C library isn't there.
+capacity is None, a text, nan or no number at all (with the edge), and beyond the limits of 268,435,456 nodes and
+1,073,741,824 arcs, or 536,870,912 edges where links are counted; where nodes are cut or their connectivity is asked
+for, each node is two with an arc between them, and an edge without direction two arcs; MemoryError;
+provedflow.LibraryNotFound where the C library isn't there.
 """
 
 from __future__ import annotations

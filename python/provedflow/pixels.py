@@ -14,8 +14,8 @@ for the pixels on the sink's side, as with PyMaxflow. Weights are whole numbers 
 
 A pixel's weights to both terminals cost one arc: the lesser of the two is paid by every cut, so it is added to the
 value, and only what the other is more becomes an arc. So a grid takes one arc for each pixel and two for each pair of
-neighbours: of 8,000,000 arcs and 1,000,000 nodes there is room for 1,000 x 999 pixels with 4 neighbours, 940 x 940 with
-8, 99 x 99 x 99 voxels with 6, and 67 x 67 x 67 with 26.
+neighbours: of 1,073,741,824 arcs and 268,435,456 nodes there is room for 14,654 x 14,654 pixels with 4 neighbours,
+10,923 x 10,923 with 8, 535 x 535 x 535 voxels with 6, and 342 x 342 x 342 with 26.
 """
 
 from __future__ import annotations

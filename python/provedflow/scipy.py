@@ -42,8 +42,8 @@ def maximum_flow(csgraph: Any, source: int, sink: int, *, method: str = "dinic")
     several flows have the greatest value, it is one of them, and not always SciPy's.
 
     Raises TypeError where csgraph is no sparse matrix, ValueError where it isn't square or not of whole numbers from 0,
-    where a node isn't one, and beyond the limits of 1,000,000 nodes and 8,000,000 arcs; OverflowError where from one
-    node to another flow 2^63 or more, beyond int64; MemoryError.
+    where a node isn't one, and beyond the limits of 268,435,456 nodes and 1,073,741,824 arcs; OverflowError where from
+    one node to another flow 2^63 or more, beyond int64; MemoryError.
 
     >>> from scipy.sparse import csr_matrix
     >>> capacities = csr_matrix([[0, 3, 2, 0], [0, 0, 1, 2], [0, 0, 0, 3], [0, 0, 0, 0]])

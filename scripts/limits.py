@@ -10,34 +10,36 @@ from pathlib import Path
 
 ROOT = Path(__file__).resolve().parent.parent
 SENTENCES = {
-    "README.md": ["Limits: 2 to {MOST_NODES:,} nodes, at most {MOST_ARCS:,} arcs",
+    "README.md": ["Limits: 2 to {MOST_PROBLEM_NODES:,} nodes, at most {MOST_PROBLEM_ARCS:,} arcs",
                   "flows of a line up to {GREATEST_CAPACITY:,}, at most {MOST_FLOW_LINES:,} flow lines",
                   "lines of at most {LONGEST_LINE} bytes (comments apart)"],
-    "man/flow.1": ["There are 2 to {MOST_NODES:,} nodes and at most {MOST_ARCS:,} arcs.",
+    "man/flow.1": ["There are 2 to {MOST_PROBLEM_NODES:,} nodes and at most {MOST_PROBLEM_ARCS:,} arcs.",
                    "solution, are 0 to {GREATEST_CAPACITY:,}.", "A line has at most {LONGEST_LINE} bytes"],
     "docs/MESSAGES.md": ["has more than {LONGEST_LINE} bytes, its end not counted",
-                         "declares fewer than 2 nodes or more than {MOST_NODES:,}.",
-                         "declares more than {MOST_ARCS:,} arcs.",
+                         "declares fewer than 2 nodes or more than {MOST_PROBLEM_NODES:,}.",
+                         "declares more than {MOST_PROBLEM_ARCS:,} arcs.",
                          "A line `f` stands after {MOST_FLOW_LINES:,} others.",
                          "is greater than {GREATEST_VALUE:,}, which is {MOST_FLOW_LINES:,} times the greatest"],
     "docs/DEFINITIONS.md": ["at most `LONGEST_LINE` bytes, which are {LONGEST_LINE};",
                             "A line of more than {LONGEST_LINE} bytes is a fault whatever stands behind its first "
                             "{LONGEST_LINE} bytes"],
     "crates/flow_words/src/commands.rt": [
-        "Limits: 2 to {MOST_NODES} nodes, {MOST_ARCS}\narcs, whole capacities up to {GREATEST_CAPACITY}, "
+        "Limits: 2 to {MOST_PROBLEM_NODES} nodes, {MOST_PROBLEM_ARCS}\narcs, whole capacities up to {GREATEST_CAPACITY}, "
         "lines of {LONGEST_LINE} bytes",
         "{GREATEST_CAPACITY}, {MOST_FLOW_LINES} lines f, lines of {LONGEST_LINE} bytes"],
-    "c/provedflow.h": ["Limits: 2 to {MOST_NODES:,} nodes, at most {MOST_ARCS_BOTH_WAYS:,} arcs,",
+    "c/provedflow.h": ["Limits: 2 to {MOST_NODES:,} nodes, at most {MOST_ARCS_BOTH_WAYS:,}\n * arcs,",
                        "capacities from 0 to {GREATEST_CAPACITY:,}.",
                        "fewer than 2 nodes, or more than {MOST_NODES:,} */",
                        "provedflow_links takes at most {MOST_ARCS:,} arcs.",
-                       "#define PROVEDFLOW_MOST_ARCS {MOST_ARCS_BOTH_WAYS}"],
+                       "#define PROVEDFLOW_MOST_NODES {MOST_NODES}\n", "#define PROVEDFLOW_MOST_LINKS {MOST_ARCS}\n",
+                       "#define PROVEDFLOW_MOST_ARCS {MOST_ARCS_BOTH_WAYS}\n"],
     "docs/C.md": ["A network has 2 to {MOST_NODES:,} nodes, counted from 0, and at most {MOST_ARCS_BOTH_WAYS:,} arcs, "
                   "or {MOST_ARCS:,} where links are counted;"],
     "docs/PYTHON.md": ["here a capacity goes up to {GREATEST_CAPACITY:,}, the value"],
     "python/provedflow/__init__.py": [
-        "Limits: 2 to {MOST_NODES:,} nodes, at most {MOST_ARCS_BOTH_WAYS:,} arcs, or {MOST_ARCS:,} where\n"
+        "Limits: 2 to {MOST_NODES:,} nodes, at most {MOST_ARCS_BOTH_WAYS:,} arcs, or\n{MOST_ARCS:,} where "
         "links are counted, capacities from 0 to {GREATEST_CAPACITY:,}"],
+    "python/provedflow/calls.py": ["at most {MOST_ARCS:,} arcs."],
     "python/provedflow/library.py": ["MOST_NODES = {MOST_NODES:_}", "MOST_ARCS = {MOST_ARCS_BOTH_WAYS:_}",
                                      "MOST_LINKS = {MOST_ARCS:_}"],
     "python/provedflow/scipy.py": ["beyond the limits of {MOST_NODES:,} nodes and {MOST_ARCS_BOTH_WAYS:,} arcs"],

@@ -12,6 +12,7 @@
 #include <cstdint>
 #include <limits>
 #include <new>
+#include <numeric>
 #include <stdexcept>
 #include <string>
 #include <type_traits>
@@ -186,10 +187,14 @@ Verdict check(std::uint32_t nodes, const Src &src, const Dst &dst, const Cap &ca
 class Grid {
 public:
     Grid(std::uint32_t width, std::uint32_t height, std::uint32_t depth = 1)
-        : width_(width), height_(height), depth_(depth), sources_(pixels_of(width, height, depth)),
-          sinks_(sources_.size()) {}
+        : width_(width), height_(height), depth_(depth), pixels_(pixels_of(width, height, depth)) {
+        const std::size_t room = std::size_t{pixels_} * (depth > 1 ? 7 : 5);
+        src_.reserve(room), dst_.reserve(room), cap_.reserve(room);
+        src_.assign(pixels_, pixels_), dst_.resize(pixels_), cap_.resize(pixels_);
+        std::iota(dst_.begin(), dst_.end(), 0U);
+    }
 
-    std::uint32_t pixels() const noexcept { return static_cast<std::uint32_t>(sources_.size()); }
+    std::uint32_t pixels() const noexcept { return pixels_; }
 
     /* The node of a pixel. Throws std::out_of_range. */
     std::uint32_t at(std::uint32_t x, std::uint32_t y, std::uint32_t z = 0) const {
@@ -211,45 +216,40 @@ public:
     /* Adds to what a pixel costs on the sink's side (to_source) and on the source's (to_sink). Throws std::out_of_range,
      * and std::overflow_error past 64 bits. */
     void add_terminals(std::uint32_t pixel, std::uint64_t to_source, std::uint64_t to_sink) {
+        if (pixel >= pixels()) {
+            throw std::out_of_range("no such pixel");
+        }
+        const bool is_to_sink = src_[pixel] == pixel;
+        const std::uint64_t source = is_to_sink ? 0 : cap_[pixel], sink = is_to_sink ? cap_[pixel] : 0;
         const auto most = std::numeric_limits<std::uint64_t>::max();
-        std::uint64_t &source = sources_.at(pixel), &sink = sinks_.at(pixel);
         if (most - source < to_source || most - sink < to_sink) {
             throw std::overflow_error("a pixel's weights to a terminal add up to more than 64 bits");
         }
-        source += to_source;
-        sink += to_sink;
+        const std::uint64_t both = std::min(source + to_source, sink + to_sink);
+        merged_ += both;
+        cap_[pixel] = std::max(source + to_source, sink + to_sink) - both;
+        src_[pixel] = sink + to_sink > both ? pixel : pixels_;
+        dst_[pixel] = sink + to_sink > both ? pixels_ + 1 : pixel;
     }
 
     /* Finds a minimum cut: its cost, and for each pixel 1 on the source's side and 0 on the sink's. */
     Cut cut(Nearest nearest = Nearest::sources) const {
-        std::vector<std::uint32_t> src(src_), dst(dst_);
-        std::vector<std::uint64_t> cap(cap_);
-        Value merged;
-        const std::vector<std::uint32_t> source{pixels()}, sink{pixels() + 1};
-        for (std::uint32_t pixel = 0; pixel < pixels(); pixel++) {
-            const std::uint64_t both = std::min(sources_[pixel], sinks_[pixel]);
-            merged += both;
-            if (sources_[pixel] > both) {
-                src.push_back(source[0]), dst.push_back(pixel), cap.push_back(sources_[pixel] - both);
-            } else if (sinks_[pixel] > both) {
-                src.push_back(pixel), dst.push_back(sink[0]), cap.push_back(sinks_[pixel] - both);
-            }
-        }
-        Cut found = minimum_cut(pixels() + 2, src, dst, cap, source, sink, nearest);
-        found.side.resize(pixels());
-        found.value += merged.low;
-        found.value.high += merged.high;
+        const std::vector<std::uint32_t> source{pixels_}, sink{pixels_ + 1};
+        Cut found = minimum_cut(pixels_ + 2, src_, dst_, cap_, source, sink, nearest);
+        found.side.resize(pixels_);
+        found.value += merged_.low;
+        found.value.high += merged_.high;
         return found;
     }
 
 private:
-    static std::size_t pixels_of(std::uint32_t width, std::uint32_t height, std::uint32_t depth) {
+    static std::uint32_t pixels_of(std::uint32_t width, std::uint32_t height, std::uint32_t depth) {
         const std::uint64_t slice = std::uint64_t{width} * height;
         const std::uint64_t most = PROVEDFLOW_MOST_NODES - 2;
         if (slice == 0 || depth == 0 || slice > most / depth) {
             throw Refused(PROVEDFLOW_NODES);
         }
-        return static_cast<std::size_t>(slice * depth);
+        return static_cast<std::uint32_t>(slice * depth);
     }
 
     void add_arc(std::uint32_t here, std::uint32_t there, std::uint64_t weight) {
@@ -258,9 +258,11 @@ private:
         }
     }
 
-    std::uint32_t width_, height_, depth_;
-    std::vector<std::uint64_t> sources_, sinks_, cap_;
+    std::uint32_t width_, height_, depth_, pixels_;
+    Value merged_; // what every cut pays, whichever side a pixel is on
+    /* The arcs. The first lead from the source to the pixels, or from them to the sink, one for each. */
     std::vector<std::uint32_t> src_, dst_;
+    std::vector<std::uint64_t> cap_;
 };
 
 } // namespace provedflow

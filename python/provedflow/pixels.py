@@ -184,7 +184,8 @@ class Grid:
         parts = []
         for step, there, back in self.joined:
             here, other = pairs(nodes, step)
-            parts += [kept(here, other, there), kept(other, here, back)]
+            # An arc and its opposite side by side, which the library takes for one edge.
+            parts.append(kept(*(np.stack(both, axis=-1) for both in ((here, other), (other, here), (there, back)))))
         sources, sinks = (weights - lesser for weights in self.terminals)
         parts += [kept(np.broadcast_to(np.uint32(pixels), self.shape), nodes, sources),
                   kept(nodes, np.broadcast_to(np.uint32(pixels + 1), self.shape), sinks)]

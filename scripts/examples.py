@@ -86,8 +86,8 @@ def pictures(checks, scratch):
             ((__file__, paths[1]), "isn't a picture that Pillow can read")):
         status, _, complaint = example("segmentation/segment.py", scratch, *words)
         checks.equal(f"segmentation: {expected}", (status, expected in complaint, complaint.count("\n")), (1, True, 1))
-    said = example("segmentation/segment.py", scratch, *large, "--most", "10000")[1]
-    checks.equal("segmentation: --most", "100 by 100 pixels" in said, True)
+    said = example("segmentation/segment.py", scratch, *large, "--most", "900")[1]
+    checks.equal("segmentation: --most", "900 by 900 pixels" in said, True)
     width = Image.open(os.path.join(scratch, "out", "sheet.png")).width
     checks.equal("segmentation: how wide the sheet is", width, 1600)
 

@@ -62,10 +62,14 @@ class Problem:
 
 
 class Flow:
-    """The program `flow`, which answers questions on problems."""
+    """The program `flow`, which answers questions on problems: the one that is named, `bin/flow` of the repository that
+    this file lies in, or the one on the PATH."""
 
     def __init__(self, program=None):
-        self.program = program or find_program()
+        built = os.path.join(os.path.dirname(os.path.abspath(__file__)), "..", "..", "bin", "flow")
+        self.program = program or (built if os.access(built, os.X_OK) else shutil.which("flow"))
+        if self.program is None:
+            raise FlowFailed("the program flow was not found: put it on the PATH, or into bin of the repository")
 
     def value(self, problem):
         """The greatest value of a flow from the sources to the sinks."""
@@ -89,13 +93,3 @@ class Flow:
         if done.returncode != 0:
             raise FlowFailed(done.stderr.strip() or f"flow ended with status {done.returncode}")
         return done.stdout
-
-
-def find_program():
-    """The path of `flow`: `bin/flow` of the repository that this file lies in, or else the one on the PATH."""
-    root = os.path.dirname(os.path.dirname(os.path.dirname(os.path.abspath(__file__))))
-    built = os.path.join(root, "bin", "flow")
-    found = built if os.access(built, os.X_OK) else shutil.which("flow")
-    if found is None:
-        raise FlowFailed("the program flow was not found: put it on the PATH, or into bin of the repository")
-    return found

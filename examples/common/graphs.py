@@ -12,26 +12,18 @@ sys.path.append(os.path.join(os.path.dirname(os.path.abspath(__file__)), "..", "
 import script
 import tables
 
-try:
-    import matplotlib
-    matplotlib.use("Agg")
-    import matplotlib.pyplot as plt
-    import networkx as nx
-    import numpy as np
-    import provedflow  # Loaded so that the error below names it where it isn't installed.
-    from matplotlib.collections import LineCollection
-    from scipy.sparse import coo_matrix, csgraph
-    plt.rcParams["text.parse_math"] = False
-except ModuleNotFoundError as failure:
-    sys.exit(f"{os.path.basename(sys.argv[0])}: there is no Python module {failure.name}; README.md lists what the "
-             "examples need")
+import matplotlib
+import matplotlib.pyplot as plt
+import networkx as nx
+import numpy as np
+from matplotlib.collections import LineCollection
+from scipy.sparse import coo_matrix, csgraph
+
+matplotlib.use("Agg")
+plt.rcParams["text.parse_math"] = False
 
 PREFIXES = {"k": 10 ** 3, "K": 10 ** 3, "M": 10 ** 6, "G": 10 ** 9, "T": 10 ** 12}
 AMOUNT = re.compile(r"(\d+(?:[.,]\d+)?(?:[eE]\+?\d{1,2})?)\s*(\D.*)?", re.ASCII)
-SPOTS = (("x", "y", -1), ("lon", "lat", 1), ("longitude", "latitude", 1))
-"""What coordinates are called, and whether the second grows upwards."""
-MOST_SPRINGS = 500
-"""How many places are laid out by springs; more of them are laid out by their distances from some."""
 BLACK, GREY, RED, BLUE, ORANGE, GREEN = "#222222", "#B0B0B0", "#C00000", "#0072B2", "#D98000", "#2E8B57"
 AROUND = [(0, 1, "center", "bottom"), (0, -1, "center", "top"), (1, 0, "left", "center"), (-1, 0, "right", "center"),
           (1, 1, "left", "bottom"), (-1, 1, "right", "bottom"), (1, -1, "left", "top"), (-1, -1, "right", "top")]
@@ -59,10 +51,9 @@ def read(words, capacity=True):
                            capacity=row["capacity"])
     if words.places:
         rows = tables.once(tables.read_table(words.places, "place"), "place")
-        for one, other, where in graph.edges(data="where"):
-            for end in (one, other):
-                if end not in rows:
-                    raise script.Refused(f"{path}: {where}: '{end}' isn't in {words.places}")
+        for *ends, where in graph.edges(data="where"):
+            for end in (end for end in ends if end not in rows):
+                raise script.Refused(f"{path}: {where}: '{end}' isn't in {words.places}")
         graph.add_nodes_from((place, row.texts) for place, row in rows.items())
     if not graph.number_of_edges():
         raise script.Refused(f"{path} has no links")
@@ -79,7 +70,7 @@ def read_graphml(path, name, capacity):
     called = {node: plain(node) for node in found}
     for key in ("label", "name"):
         texts = {node: plain(data.get(key, "")) for node, data in found.nodes(data=True)}
-        called = texts if all(texts.values()) and len(set(texts.values())) == len(texts) else called
+        called = texts if len({*texts.values()} - {""}) == len(texts) else called
     graph = (nx.MultiDiGraph if found.is_directed() else nx.MultiGraph)()
     graph.add_nodes_from((called[node], {key.casefold(): value for key, value in data.items() if key != "name"})
                          for node, data in found.nodes(data=True))
@@ -89,9 +80,9 @@ def read_graphml(path, name, capacity):
     if capacity and key is None:
         raise script.Refused(f"{path}: no edge has the attribute {wanted[0]}; there are "
                              f"{script.some(there) or 'none'}, and --capacity names one")
-    for number, (one, other, data) in enumerate(found.edges(data=True), start=1):
-        graph.add_edge(called[one], called[other], name=plain(data.get("name", "")), where=f"edge {number}",
-                       capacity=plain(data.get(key, "")))
+    graph.add_edges_from((called[one], called[other], {
+        "name": plain(data.get("name", "")), "where": f"edge {number}", "capacity": plain(data.get(key, ""))})
+        for number, (one, other, data) in enumerate(found.edges(data=True), start=1))
     return graph
 
 
@@ -103,13 +94,11 @@ def plain(text):
 def amounts(path, graph):
     """The capacities of the links as exact numbers of a unit, and the unit: 2.5 Gbit and 800 Mbit are 2.5 and 0.8 of
     Gbit, and numbers may stand without a unit."""
-    found = {}
+    found = {text: AMOUNT.fullmatch(text) for *_, text in graph.edges(data="capacity")}
     for *_, data in graph.edges(data=True):
-        text = data["capacity"]
-        found[text] = found.get(text) or AMOUNT.fullmatch(text)
-        if not found[text]:
-            raise script.Refused(f"{path}: {data['where']}: the capacity '{text}' isn't a number from 0, as 52.5 or "
-                                 "2.5 Gbit")
+        if not found[data["capacity"]]:
+            raise script.Refused(f"{path}: {data['where']}: the capacity '{data['capacity']}' isn't a number from 0, "
+                                 "as 52.5 or 2.5 Gbit")
     texts = {part.group(2) or "" for part in found.values()}
     stem = os.path.commonprefix([text[::-1] for text in texts])[::-1]
     if len(texts) > 1 and not (stem and all(text[:-len(stem)] in ("", *PREFIXES) for text in texts)):
@@ -141,13 +130,6 @@ def ends_of(graph):
     return np.array([(number[one], number[other]) for one, other in graph.edges()], np.uint32).T.copy()
 
 
-def in_words(units, scale, unit=""):
-    """So many units of 1/scale as a decimal number."""
-    whole, rest = divmod(int(units), scale)
-    decimals = f".{rest:0{len(str(scale)) - 1}}".rstrip("0") if rest else ""
-    return f"{whole}{decimals} {unit}".rstrip()
-
-
 def matrix_of(count, ends):
     """The links between so many places as a matrix of SciPy."""
     return coo_matrix((np.ones(ends.shape[1]), ends), (count, count)).tocsr()
@@ -164,15 +146,14 @@ def parts(graph):
 
 
 def spots(graph):
-    """Where each place stands, upwards: as the data says, or else laid out by the links; and which of the two."""
-    for x, y, sign in SPOTS:
+    """Where each place stands, upwards: as the data says, or else laid out by the links; and which of the two. The
+    coordinate y grows downwards. Up to 500 places are laid out by springs."""
+    for x, y, sign in ("x", "y", -1), ("lon", "lat", 1), ("longitude", "latitude", 1):
         try:
             return {place: (float(data[x]), sign * float(data[y])) for place, data in graph.nodes(data=True)}, True
         except (KeyError, ValueError, TypeError):
             continue
-    if len(graph) <= MOST_SPRINGS:
-        return nx.spring_layout(nx.Graph(graph), seed=1), False
-    return by_distances(graph), False
+    return nx.spring_layout(nx.Graph(graph), seed=1) if len(graph) <= 500 else by_distances(graph), False
 
 
 def by_distances(graph, pivots=24):

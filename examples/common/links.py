@@ -69,7 +69,8 @@ class Links:
         """The capacity of each site that has one."""
         rows = tables.once(tables.read_table(self.words.sites, "site", "capacity"), "site")
         for name, row in rows.items():
-            row.known("site", self.names, self.words.table)
+            if name not in self.names:
+                row.refuse("site", f"'{name}' isn't in {self.words.table}")
             if f"{name} (out)" in self.names:
                 row.refuse("site", f"'{name} (out)' is the name of another site")
         return {name: row.whole("capacity", scale=self.words.scale) for name, row in rows.items()}

@@ -22,17 +22,12 @@ def run(main):
         os.dup2(os.open(os.devnull, os.O_WRONLY), sys.stdout.fileno())
         status = 1
     except (Refused, OSError) as failure:
-        sys.exit(f"{os.path.basename(sys.argv[0])}: {in_words(failure)}")
+        name, words = getattr(failure, "filename", None), failure
+        if name:
+            is_missing = isinstance(failure, FileNotFoundError)
+            words = f"there is no file {name}" if is_missing else f"{name} can't be opened: {failure.strerror.lower()}"
+        sys.exit(f"{os.path.basename(sys.argv[0])}: {words}")
     sys.exit(status)
-
-
-def in_words(failure):
-    """What went wrong, as a sentence."""
-    if isinstance(failure, FileNotFoundError) and failure.filename:
-        return f"there is no file {failure.filename}"
-    if isinstance(failure, OSError) and failure.filename:
-        return f"{failure.filename} can't be opened: {failure.strerror.lower()}"
-    return failure
 
 
 def note(words):
@@ -48,8 +43,7 @@ def count(number, thing, things=None):
 def some(names, most=12):
     """The names, or the first of many."""
     names = list(names)
-    more = len(names) - most
-    return ", ".join(map(str, names[:most])) + (f" and {more:,} more" if more > 0 else "")
+    return ", ".join(map(str, names[:most])) + (f" and {len(names) - most:,} more" if len(names) > most else "")
 
 
 def output(words, example, name):

@@ -42,28 +42,18 @@ class Row:
         """The text, which has to be there."""
         return self[column] or self.refuse(column, "it is empty")
 
-    def known(self, column, names, where):
-        """The text, which has to be one of these names."""
-        name = self.name(column)
-        return name if name in names else self.refuse(column, f"'{name}' isn't in {where}")
-
-    def exact(self, column):
-        """The number from 0, exactly. A comma is a decimal comma where it separates no columns."""
+    def whole(self, column, most=GREATEST, scale=None):
+        """The whole number from 0 up to the most, once it is multiplied with the scale, if there is one. A comma is a
+        decimal comma where it separates no columns."""
         text = self.name(column)
         if not (text.isascii() and NUMBER.fullmatch(text)) or self.mark == "," in text:
             self.refuse(column, f"'{text}' isn't a number from 0, as 52 or 52.5")
-        return Fraction(text.replace(",", "."))
-
-    def whole(self, column, least=0, most=GREATEST, scale=None):
-        """The whole number, which has to lie between these, once it is multiplied with the scale, if there is one."""
-        number = self.exact(column) * (scale or 1)
+        number = Fraction(text.replace(",", ".")) * (scale or 1)
         if number.denominator > 1:
             more = next(10 ** digits for digits in range(1, 99) if (number * 10 ** digits).denominator == 1)
             hint = f"; --scale {scale * more} counts in smaller units" if scale else ""
-            self.refuse(column, f"'{self[column]}' isn't whole{hint}")
-        if not least <= number <= most:
-            self.refuse(column, f"'{self[column]}' isn't between {least} and {most}")
-        return int(number)
+            self.refuse(column, f"'{text}' isn't whole{hint}")
+        return int(number) if number <= most else self.refuse(column, f"'{text}' isn't between 0 and {most}")
 
 
 def read_table(path, *columns, names=(), known=None):
@@ -98,11 +88,10 @@ def _keys(path, header, columns, names):
     keys = list(folded)
     for column in columns:
         wanted = [names[column].casefold()] if names.get(column) else [column, *OTHER_NAMES.get(column, ())]
-        found = next((name for name in wanted if name in folded), None)
-        if found is None or folded.count(found) > 1:
-            fault = "is twice" if found else "isn't"
-            raise Refused(f"{path}: row 1: the column {found or wanted[0]} {fault} among "
-                          f"{', '.join(filter(None, header))}")
+        found = next((name for name in wanted if name in folded), wanted[0])
+        if folded.count(found) != 1:
+            fault = "is twice" if found in folded else "isn't"
+            raise Refused(f"{path}: row 1: the column {found} {fault} among {', '.join(filter(None, header))}")
         keys[folded.index(found)] = column
     return keys
 
@@ -152,9 +141,8 @@ def listed(words, names, where):
     in double quotes."""
     fields = next(csv.reader([unicodedata.normalize("NFC", words)], skipinitialspace=True), [])
     found = [" ".join(field.split()) for field in fields]
-    for name in found:
-        if name not in names:
-            raise Refused(f"'{name}' isn't in {where}")
+    for name in (name for name in found if name not in names):
+        raise Refused(f"'{name}' isn't in {where}")
     if len(set(found)) < len(found) or not found:
         raise Refused(f"'{words}' names a node twice, or none")
     return found
@@ -163,7 +151,6 @@ def listed(words, names, where):
 def terminals(sources, sinks, names, where):
     """The sources and the sinks, from two lists in texts; no node may be both."""
     both = [listed(words, names, where) for words in (sources, sinks)]
-    for name in both[0]:
-        if name in both[1]:
-            raise Refused(f"'{name}' is a source and a sink")
+    for name in set(both[0]) & set(both[1]):
+        raise Refused(f"'{name}' is a source and a sink")
     return both

@@ -72,38 +72,30 @@ class Spare:
 
     def _way(self, starts, ends):
         """The half-arcs of a way with room, looked for from both sides, or None."""
-        sides = [dict.fromkeys(starts), list(starts)], [dict.fromkeys(ends), list(ends)]
-        while sides[0][1] and sides[1][1]:
-            against = int(len(sides[1][1]) < len(sides[0][1]))
-            (found, edge), others = sides[against], sides[1 - against][0]
-            met, sides[against][1] = self._step(edge, found, others, against)
-            if met is not None:
-                return self._joined(sides[0][0], sides[1][0], met)
+        heads, room, edges = self.heads, self.room, [starts, ends]
+        found = [dict.fromkeys(starts), dict.fromkeys(ends)]
+        while edges[0] and edges[1]:
+            against, new = int(len(edges[1]) < len(edges[0])), []
+            here, there = found[against], found[1 - against]
+            for node in edges[against]:
+                for half in self.leaving[node]:
+                    head = heads[half]
+                    if room[half ^ against] and head not in here:
+                        here[head] = half ^ against
+                        if head in there:
+                            return self._joined(found, head)
+                        new.append(head)
+            edges[against] = new
         return None
 
-    def _step(self, edge, found, others, against):
-        """Goes on by one half-arc from the nodes of an edge, or against one; answers a node that was found from the
-        other side too, where there is one, and the new edge."""
-        heads, room, new = self.heads, self.room, []
-        for node in edge:
-            for half in self.leaving[node]:
-                head = heads[half]
-                if room[half ^ against] and head not in found:
-                    found[head] = half ^ against
-                    if head in others:
-                        return head, new
-                    new.append(head)
-        return None, new
-
-    def _joined(self, ahead, behind, met):
+    def _joined(self, found, met):
         """The way through a node that was found from both sides."""
-        ways = []
-        for found, turn in ((ahead, 1), (behind, 0)):
-            node, way = met, []
-            while found[node] is not None:
-                way.append(found[node])
-                node = self.heads[found[node] ^ turn]
-            ways.append(way)
+        ways = [], []
+        for turn, way in enumerate(ways):
+            node = met
+            while found[turn][node] is not None:
+                way.append(found[turn][node])
+                node = self.heads[way[-1] ^ 1 ^ turn]
         return ways[0][::-1] + ways[1]
 
 

@@ -17,8 +17,6 @@ sys.path.insert(0, os.path.join(os.path.dirname(os.path.abspath(__file__)), ".."
 
 import script
 
-USAGE = "usage: picture.py problem PICTURE OBJECT BACKGROUND > PROBLEM, or picture.py mask PICTURE < CUT"
-
 
 def read_picture(name):
     """The width and height of a picture, and the grey of each pixel, row by row."""
@@ -48,10 +46,9 @@ def read_places(words, width, height):
 
 def write_problem(width, height, grey, objects, background):
     """Prints the problem: pixel (column, row) is node 1 + column + width * row."""
-    for node in objects:
-        if node in background:
-            row, column = divmod(node - 1, width)
-            raise script.Refused(f"column {column}, row {row}: marked as object and as background")
+    for node in set(objects) & set(background):
+        row, column = divmod(node - 1, width)
+        raise script.Refused(f"column {column}, row {row}: marked as object and as background")
     arcs = []
     for place, here in enumerate(grey):
         for other, is_inside in ((place + 1, (place + 1) % width), (place + width, place + width < len(grey))):
@@ -59,28 +56,21 @@ def write_problem(width, height, grey, objects, background):
                 strength = 1 + 1000 // (1 + (here - grey[other]) ** 2)
                 arcs += [(place + 1, other + 1, strength), (other + 1, place + 1, strength)]
     print(f"p max {width * height} {len(arcs)}")
-    for nodes, kind in ((objects, "s"), (background, "t")):
-        for node in nodes:
-            print(f"n {node} {kind}")
-    for arc in arcs:
-        print("a %d %d %d" % arc)
-
-
-def print_mask(width, height, lines):
-    """Prints the picture with a # for each node of the cut."""
-    inside = {int(line.split()[1]) for line in lines if line.startswith("n ")}
-    for row in range(height):
-        print(" ".join("#" if 1 + column + width * row in inside else "." for column in range(width)))
+    print("".join(f"n {node} {kind}\n" for nodes, kind in ((objects, "s"), (background, "t")) for node in nodes), end="")
+    print("".join("a %d %d %d\n" % arc for arc in arcs), end="")
 
 
 def main():
-    if len(sys.argv) < 3 or (sys.argv[1], len(sys.argv)) not in (("problem", 5), ("mask", 3)):
-        raise script.Refused(USAGE)
-    width, height, grey = read_picture(sys.argv[2])
-    if sys.argv[1] == "problem":
-        write_problem(width, height, grey, *(read_places(words, width, height) for words in sys.argv[3:]))
+    kind, *words = sys.argv[1:] or [""]
+    if (kind, len(words)) not in (("problem", 3), ("mask", 1)):
+        raise script.Refused("usage: picture.py problem PICTURE OBJECT BACKGROUND > PROBLEM, or picture.py mask PICTURE")
+    width, height, grey = read_picture(words[0])
+    if kind == "problem":
+        write_problem(width, height, grey, *(read_places(places, width, height) for places in words[1:]))
     else:
-        print_mask(width, height, sys.stdin)
+        inside = {int(line.split()[1]) for line in sys.stdin if line.startswith("n ")}
+        for row in range(height):
+            print(" ".join("#" if 1 + column + width * row in inside else "." for column in range(width)))
 
 
 if __name__ == "__main__":

@@ -25,8 +25,6 @@ from script import count
 
 SHOWN = 12
 """How many spots are printed, and have their names in the picture."""
-NEAR = 8
-"""Among how many of the nearest places the other end of a new link is looked for first."""
 
 Network = namedtuple("Network", "names ends where measured")
 """A connected network: its places, the ends of its links in two rows, where places lie, and whether data says so."""
@@ -84,21 +82,16 @@ def spots_of(names, ends, found, least):
     """The weakest spots: without the links of all least cuts, the parts to which just so many of these lead."""
     part = graphs.part_of(len(names), ends[:, ~found])
     leading = np.bincount(part[ends[:, found]].ravel())
-    members = {number: [] for number in np.flatnonzero(leading == least)}
-    for name, number in zip(names, part):
-        if number in members:
-            members[number].append(name)
-    return sorted(members.values(), key=len)
+    names = np.array(names, object)
+    return sorted((names[part == number].tolist() for number in np.flatnonzero(leading == least)), key=len)
 
 
 def new_link(network, spots):
-    """A short link between two of the spots that isn't there yet, or any such link."""
-    names, spot_of = [name for spot in spots for name in spot], {}
-    for number, spot in enumerate(spots):
-        spot_of.update(dict.fromkeys(spot, number))
+    """A short link between two of the spots that isn't there yet, or any such link: each place's nearest are tried."""
+    spot_of = {name: number for number, spot in enumerate(spots) for name in spot}
+    names, spots_at = list(spot_of), [network.where[name] for name in spot_of]
     joined = {frozenset((network.names[one], network.names[other])) for one, other in network.ends.T.tolist()}
-    spots_at = [network.where[name] for name in names]
-    far, near = cKDTree(spots_at).query(spots_at, k=min(len(names), NEAR))
+    far, near = cKDTree(spots_at).query(spots_at, k=min(len(names), 8))
     pairs = sorted((length, name, names[other]) for name, row, others in zip(names, far, near)
                    for length, other in zip(row, others) if spot_of[name] != spot_of[names[other]])
     pairs = [pair for _, *pair in pairs] + [(one, other) for one in spots[0][:99] for other in spots[1][:99]]
@@ -117,12 +110,10 @@ def tell(network, weak, new):
         print(f"  {script.some(spot)}: cut off by the loss of {' and '.join(links)}")
     if len(weak.spots) > SHOWN:
         print(f"  and {len(weak.spots) - SHOWN:,} more")
-    which = f"{'a short one' if network.measured else 'for instance'}: {' to '.join(new)}"
-    if len(weak.spots) == 2:
-        print(f"one new link from one spot to the other helps, so that {weak.least + 1} must fail; {which}")
-    else:
-        print(f"each spot needs a new link, so that {weak.least + 1} must fail: {-(-len(weak.spots) // 2):,} new links "
-              f"or more, from spot to spot; {which}")
+    helps = "one new link from one spot to the other helps, so that {} must fail" if len(weak.spots) == 2 else (
+        "each spot needs a new link, so that {} must fail: {:,} new links or more, from spot to spot")
+    print(helps.format(weak.least + 1, (len(weak.spots) + 1) // 2)
+          + f"; {'a short one' if network.measured else 'for instance'}: {' to '.join(new)}")
 
 
 def draw(network, weak, new, path):

@@ -47,10 +47,10 @@ class Roads:
 
     def listed(self, role):
         """The places that have a role, as a list in a text."""
-        found = [place for place, data in self.graph.nodes(data=True) if data.get("role") == role]
+        found = [place.replace('"', '""') for place, data in self.graph.nodes(data=True) if data.get("role") == role]
         if not found:
             raise script.Refused(f"no place is a {role}; --{role}s NAMES says which, or the column role of the places")
-        return ",".join('"{}"'.format(place.replace('"', '""')) for place in found)
+        return '"' + '","'.join(found) + '"'
 
     def crossing(self, side):
         """The numbers of the links that lead out of a source side."""
@@ -74,7 +74,10 @@ class Roads:
         return data["name"] or f"{self.title(one)} to {self.title(other)}"
 
     def amount(self, units, unit=None):
-        return graphs.in_words(units, self.scale, self.unit if unit is None else unit)
+        """So many units of 1/scale as a decimal number."""
+        whole, rest = divmod(int(units), self.scale)
+        decimals = f".{rest:0{len(str(self.scale)) - 1}}".rstrip("0") if rest else ""
+        return f"{whole}{decimals} {self.unit if unit is None else unit}".rstrip()
 
     def capacity(self, place):
         return self.amount(self.given[place] * self.scale, "")

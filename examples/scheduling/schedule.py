@@ -132,7 +132,7 @@ def read_week(people, shifts):
 def limits(row, most):
     """The least and the most of a row."""
     high = row.whole(most, most=10 ** 6)
-    return (row.whole("least", most=high) if row["least"] else 0), high
+    return row.whole("least", most=high) if row["least"] else 0, high
 
 
 def shifts_of(row, column, shifts):
@@ -189,38 +189,32 @@ def draw(path, week, pairs, granted):
     for name, shift in pairs:
         cells[week.people.index(name), week.shifts.index(shift)] = WISHED if (name, shift) in granted else WORKS
     figure, axes = plt.subplots(figsize=(2 + 0.42 * len(week.shifts), 1 + 0.36 * len(week.people)), dpi=90)
-    axes.imshow(cells, plt.matplotlib.colors.ListedColormap(COLOURS), aspect="auto", vmin=0, vmax=len(COLOURS) - 1)
-    axes.set_xticks(np.arange(len(week.shifts)) - 0.5, minor=True)
-    axes.set_yticks(np.arange(len(week.people)) - 0.5, minor=True)
-    axes.grid(which="minor", color="white", linewidth=3)
-    axes.tick_params(which="both", length=0)
-    filled, worked = Counter(shift for _, shift in pairs), Counter(name for name, _ in pairs)
-    axes.set_xticks(range(len(week.shifts)), [
-        f"{shift}: {filled[shift]} of {most}" for shift, most in zip(week.shifts, week.high[week.of_shifts])],
-        rotation=90)
-    for label, shift, most in zip(axes.get_xticklabels(), week.shifts, week.high[week.of_shifts]):
+    axes.pcolormesh(cells, cmap=plt.matplotlib.colors.ListedColormap(COLOURS), vmin=0, vmax=len(COLOURS) - 1,
+                    edgecolors="white", linewidth=3)
+    axes.invert_yaxis()
+    axes.set_frame_on(False)
+    axes.tick_params(length=0)
+    filled, places = Counter(shift for _, shift in pairs), week.high[week.of_shifts]
+    axes.set_xticks(np.arange(len(week.shifts)) + 0.5, rotation=90, labels=[
+        f"{shift}: {filled[shift]} of {most}" for shift, most in zip(week.shifts, places)])
+    for label, shift, most in zip(axes.get_xticklabels(), week.shifts, places):
         label.set(color=graphs.RED if filled[shift] < most else graphs.BLACK)
-    axes.set_yticks(range(len(week.people)), [
+    worked = Counter(name for name, _ in pairs)
+    axes.set_yticks(np.arange(len(week.people)) + 0.5, labels=[
         f"{name}: {worked[name]} of {most}" for name, most in zip(week.people, week.high[week.of_people])])
-    axes.set_title(f"{len(pairs)} of {count(int(week.high[week.of_shifts].sum()), 'place')} filled", loc="left",
-                   weight="bold")
-    figure.legend(handles=[plt.Rectangle((0, 0), 1, 1, color=COLOURS[kind], label=WORDS[kind])
-                           for kind in np.unique(cells)],
-                  loc="upper left", bbox_to_anchor=(0.92, 0.9), frameon=False)
-    for side in axes.spines.values():
-        side.set_visible(False)
+    axes.set_title(f"{len(pairs)} of {count(int(places.sum()), 'place')} filled", loc="left", weight="bold")
+    keys = [plt.Rectangle((0, 0), 1, 1, color=COLOURS[kind], label=WORDS[kind]) for kind in np.unique(cells)]
+    figure.legend(handles=keys, loc="upper left", bbox_to_anchor=(0.92, 0.9), frameon=False)
     figure.savefig(path, bbox_inches="tight", facecolor="white")
 
 
 def main():
     parser = argparse.ArgumentParser(description="Gives the shifts of a week to people.")
-    parser.add_argument("files", nargs="*", metavar="PEOPLE SHIFTS", help="the two tables; else the example's own")
+    for table in ("people", "shifts"):
+        parser.add_argument(table, nargs="?", default=os.path.join(HERE, f"{table}.csv"), help="else the example's own")
     parser.add_argument("--out", metavar="FOLDER", help="where the roster goes; else out/scheduling")
     words = parser.parse_args()
-    if len(words.files) not in (0, 2):
-        parser.error("give the table of the people and that of the shifts")
-    people, shifts = words.files or [os.path.join(HERE, f"{name}.csv") for name in ("people", "shifts")]
-    week = read_week(people, shifts)
+    week = read_week(words.people, words.shifts)
     pairs, granted = week.roster()
     tell(week, pairs, granted)
     picture, table = (script.output(words, "scheduling", f"roster.{kind}") for kind in ("png", "csv"))

@@ -88,6 +88,10 @@ def try_classes(count, library, folder):
             count.add(f"lists by {compiler} {' '.join(options)}",
                       status == 0 and re.search(r"^lists: [1-9]\d* passed, 0 failed\n\Z", printed, re.M),
                       f"status {status}\n{printed}{errors}")
+    if shutil.which("g++") and pathlib.Path("/usr/include/maxflow-3.0").exists():
+        made = [run("g++", "-std=c++17", "-isystem/usr/include/maxflow-3.0", f"-I{library}", ROOT / "bench/in_process.cpp",
+                    *links, "-lmaxflow", "-o", folder / "cuts"), run(folder / "cuts", 1, ROOT / "examples/four_nodes.max")]
+        count.add("cuts in process", all(status == 0 for status, _, _ in made), made)
     if not shutil.which("cmake"):
         print("library: CMake isn't there, and nothing was built by it")
         return

@@ -49,8 +49,10 @@ mod rows;
 use crate::residual::half_arcs::Direction;
 use degrees::{are_balanced, are_even, are_opposite, least_degree};
 use flow_net::{FlowTable, Network};
-use growing::{Front, begin, choice_of, grow, grow_from, is_whole, next_node, set_places_back};
-use joining::{Budgeted, at_rest, raise};
+use growing::{
+    Front, begin, choice_of, grow, grow_from, is_whole, next_node, nowhere, set_places_back,
+};
+use joining::{Budgeted, Joining, at_rest, raise};
 use marks::unmark_all;
 use rows::{Parts, fill_rows, number_arcs, parts_of};
 
@@ -92,26 +94,46 @@ pub(crate) struct Forest<'a> {
     pub done: &'a [u32],
 }
 
-/// Begins a forest after `count` others, of `all` that there will be, and lets it grow as far as it comes by itself.
-/// `ready` tells whether what searches need is there.
+/// A forest that grows.
+#[derive(Drop)]
+struct Growth<'a> {
+    /// The rows, which tell of the arcs that are taken.
+    rows: &'a mut [u32],
+    /// Marks of the nodes that it has come to.
+    done: &'a mut [u32],
+    /// How far it has come.
+    front: Front,
+}
+
+/// Which forest grows.
+#[derive(Clone, Copy)]
+struct Round {
+    /// Whether what searches need is there.
+    ready: bool,
+    /// How many forests are done.
+    count: u64,
+    /// The least number so far, and how many looks and pushes are left.
+    least: Budgeted,
+}
+
+/// Begins a forest, and lets it grow as far as it comes by itself.
 fn begin_forest(
     ground: Ground<'_>,
-    ready: bool,
     rows: &mut [u32],
     done: &mut [u32],
     hints: &mut [u32],
-    count: u64,
-    all: u64,
+    round: Round,
 ) -> Front
     requires stand { IsStand ground done.old }
     ensures stand { IsStand ground.entry done.new }
     ensures done { IsTrue (marked_in done.new ground.entry.root) }
-    ensures forest { (k c : ℕ) → IsGrove (at_stage ground.entry ready) k c rows.old
-        → IsForest (at_stage ground.entry ready) k c rows.new done.new }
+    ensures forest { (k c : ℕ) → IsGrove (at_stage ground.entry round.ready) k c rows.old
+        → IsForest (at_stage ground.entry round.ready) k c rows.new done.new }
 {
     let mut now = ground;
-    now.numbered = ready & !ground.paired;
-    let front = begin(now, done, hints, choice_of(ground, count, all));
+    now.numbered = round.ready & !ground.paired;
+    let choice = choice_of(ground, round.count, round.least.value);
+    let front = begin(now, done, hints, choice);
     grow(now, rows, done, hints, front)
 }
 
@@ -136,42 +158,40 @@ fn is_done(nodes: u32, done: &[u32], count: u64, least: u64) -> bool
 /// are used up or a test fails.
 fn complete(
     ground: Ground<'_>,
-    ready: bool,
-    rows: &mut [u32],
-    done: &mut [u32],
-    seen: &mut [u32],
-    hints: &mut [u32],
+    growth: Growth<'_>,
+    joining: &mut Joining<'_>,
     flow: &mut FlowTable,
-    count: u64,
-    begun: Front,
-    known: Budgeted,
+    round: Round,
 ) -> Option<Budgeted>
     requires fits { Fits ground.net.now flow.old.flows }
     requires unit { All (λ a. a.cap ≡ 1) ground.net.now.arcs }
-    requires stand { IsStand ground done.old }
-    requires done { IsTrue (marked_in done.old ground.root) }
-    requires forest { IsForest (at_stage ground ready) known.value count rows.old done.old }
-    requires reached { IsReached ground.net.now known.value }
+    requires stand { IsStand ground growth.done.now }
+    requires done { IsTrue (marked_in growth.done.now ground.root) }
+    requires forest { IsForest (at_stage ground round.ready) round.least.value round.count growth.rows.now
+        growth.done.now }
+    requires reached { IsReached ground.net.now round.least.value }
     ensures fits { Fits ground.entry.net.now flow.new.flows }
-    ensures grove { IfSome result (λ r. IsGrove (at_stage ground.entry true) r.value (count + 1) rows.new) }
-    ensures least { IfSome result (λ r. HasFallen ground.entry.net.now known.value r.value) }
-    ensures paid { PaysIfAny flow.old known.left flow.new result }
+    ensures grove { IfSome result
+        (λ r. IsGrove (at_stage ground.entry true) r.value (round.count + 1) growth.exit.0.now) }
+    ensures least { IfSome result (λ r. HasFallen ground.entry.net.now round.least.value r.value) }
+    ensures paid { PaysIfAny flow.old round.least.left flow.new result }
 {
-    if !make_ready(ground, ready, rows, hints) {
+    let Growth { rows, done, front } = growth;
+    let count = round.count;
+    if !make_ready(ground, round.ready, rows, joining.hints) {
         return None;
     }
     let mut ground = ground;
     ground.numbered = !ground.paired;
     let nodes = ground.net.nodes();
     flow.clear();
-    set_places_back(ground, hints);
-    let mut joining = at_rest(seen, hints);
-    let mut front = begun;
-    let mut least = known;
+    set_places_back(ground, joining.hints);
+    let mut front = front;
+    let mut least = round.least;
     while front.count < nodes && least.value > count {
         let forest = Forest { ground, rows, done };
         front = next_node(forest, joining.hints, front);
-        least = raise(forest, &mut joining, flow, front.node, least)?;
+        least = raise(forest, joining, flow, front.node, least)?;
         front = grow_from(ground, rows, done, joining.hints, front);
     }
     if !is_done(nodes, done, count, least.value) {
@@ -205,34 +225,41 @@ fn parted<'a>(net: &Network, cells: &'a mut [u32]) -> (&'a mut [u32], &'a mut [u
 /// does.
 fn grow_forests(
     ground: Ground<'_>,
-    rows: &mut [u32],
-    done: &mut [u32],
-    seen: &mut [u32],
-    hints: &mut [u32],
+    growth: Growth<'_>,
+    joining: &mut Joining<'_>,
     flow: &mut FlowTable,
     known: Budgeted,
 ) -> Option<Budgeted>
     requires fits { Fits ground.net.now flow.old.flows }
     requires unit { All (λ a. a.cap ≡ 1) ground.net.now.arcs }
-    requires stand { IsStand ground done.old }
+    requires stand { IsStand ground growth.done.now }
     requires even { IsTrue ground.even → AreEven ground.net.now }
     requires reached { IsReached ground.net.now known.value }
-    requires grove { IsGrove (at_stage ground false) known.value 0 rows.old }
+    requires grove { IsGrove (at_stage ground false) known.value 0 growth.rows.now }
     ensures fits { Fits ground.entry.net.now flow.new.flows }
     ensures above { IfSome result (λ r. AreAbove ground.entry r.value) }
     ensures least { IfSome result (λ r. HasFallen ground.entry.net.now known.value r.value) }
     ensures paid { PaysIfAny flow.old known.left flow.new result }
 {
+    let Growth { rows, done, .. } = growth;
     let nodes = ground.net.nodes();
     let mut ready = false;
     let mut least = known;
     let mut count = 0;
     while count < forests_for(least.value, ground.even) {
-        let front = begin_forest(ground, ready, rows, done, hints, count, least.value);
+        let round = Round {
+            ready,
+            count,
+            least,
+        };
+        let front = begin_forest(ground, rows, done, joining.hints, round);
         if !is_whole(nodes, done) {
-            least = complete(
-                ground, ready, rows, done, seen, hints, flow, count, front, least,
-            )?;
+            let begun = Growth {
+                rows: &mut *rows,
+                done: &mut *done,
+                front,
+            };
+            least = complete(ground, begun, joining, flow, round)?;
             ready = true;
         }
         count += 1;
@@ -271,7 +298,12 @@ fn run_pass(
     let (done, seen) = marks.split_at_mut(half);
     unmark_all(seen);
     let ground = Ground { first, ..ground };
-    grow_forests(ground, rows, done, seen, hints, flow, known)
+    let growth = Growth {
+        rows,
+        done,
+        front: nowhere(),
+    };
+    grow_forests(ground, growth, &mut at_rest(seen, hints), flow, known)
 }
 
 /// Whether a node has more arcs on an average than a number, by more than a thousandth of an arc.

@@ -243,6 +243,22 @@ pub(crate) fn grow(
     front
 }
 
+/// A forest that has come to no node.
+pub(crate) fn nowhere() -> Front
+    ensures { result.count ≡ 0 }
+{
+    Front {
+        count: 0,
+        near: 0,
+        node: 0,
+        place: 0,
+        choice: Choice {
+            is_choosy: false,
+            takes_notes: false,
+        },
+    }
+}
+
 /// A forest that has come to its root.
 pub(crate) fn begin(
     ground: Ground<'_>,
@@ -257,14 +273,9 @@ pub(crate) fn begin(
 {
     unmark_all(done);
     mark(done, ground.root);
-    let nowhere = Front {
-        count: 0,
-        near: 0,
-        node: 0,
-        place: 0,
-        choice,
-    };
-    come_to(ground, hints, nowhere, ground.root)
+    let mut front = nowhere();
+    front.choice = choice;
+    come_to(ground, hints, front, ground.root)
 }
 
 /// Lets a forest come to a node without an arc, and grow on from there.

@@ -14,7 +14,7 @@ use Rattle.flow_solve.proofs.forests.complete.Goals as goal
 pub loop-front-init : goal.loop-front-init
 loop-front-init c =
     let net = c.args.ground.net.now in
-    let t = marked_in c.args.done.now in
+    let t = marked_in c.args.growth.done.now in
     let zeros : c.clear.new.self.flows ≡ replicate (length net.arcs) 0 =
     c.clear.ensures.flows ∙ ap (λ k. replicate k 0) c.requires.fits.count in
     record {
@@ -29,7 +29,7 @@ loop-front-init c =
       balanced = subst (λ (z : List ℕ). IsFeasible net t t z) (sym zeros) (zeros_feasible net t t);
       least = record { reached = c.requires.reached; fewer = omega arith };
       forest =
-          c.make_ready.ensures c.if-not-make_ready.false c.args.known.value c.args.count c.args.done.now
+          c.make_ready.ensures c.if-not-make_ready.false c.args.round.least.value c.args.round.count c.args.growth.done.now
           c.requires.forest;
       paid = record {
         never_lowered = omega (arith, c.clear.ensures.steps);
@@ -61,8 +61,8 @@ loop-front-preserved c =
           (λ v h. ap (marked_in new) (eqb-true v w h) ∙ node) here;
       least = record { reached = r.least.reached; fewer = omega (arith, j.least.fewer, r.least.fewer) };
       forest =
-          g.forest c.in_ok-least.least.value c.args.count
-          (forest_joined ground c.in_ok-least.least.value c.loop-front.least.value c.args.count w c.loop-front.rows old
+          g.forest c.in_ok-least.least.value c.args.round.count
+          (forest_joined ground c.in_ok-least.least.value c.loop-front.least.value c.args.round.count w c.loop-front.rows old
           reached j.stand.limits joined
           (raised_below ground.direction net w (marked_in old) c.raise.new.flow.flows c.in_ok-least.least.value
           j.stand.limits c.requires.unit r.raised) r.least.fewer j.forest);
@@ -71,7 +71,7 @@ loop-front-preserved c =
 
 pub returns-clause-grove : goal.returns-clause-grove
 returns-clause-grove c =
-    grove_more _ _ _ _ c.loop-front.least.value c.args.count c.loop-front.rows
+    grove_more _ _ _ _ c.loop-front.least.value c.args.round.count c.loop-front.rows
     (facing_limits c.args.ground.direction c.args.ground.net.now c.loop-front.invariant.stand.limits) c.loop-front.done
     (λ more v l m. c.is_done.ensures c.if-not-is_done.false more v l
     (omega (arith, m, facing_nodes c.args.ground.direction c.args.ground.net.now)))

@@ -11,9 +11,9 @@ invariant-loop-front l = record {
   stand : IsStand l.ground l.done;
   root : marked_in l.done l.ground.root ≡ true;
   balanced : IsFeasible l.ground.net.now (marked_in l.done) (marked_in l.done) l.flow.flows;
-  least : HasFallen l.ground.net.now l.fn.known.value l.least.value;
+  least : HasFallen l.ground.net.now l.fn.round.least.value l.least.value;
   forest : IsForest l.ground l.least.value l.count l.rows l.done;
-  paid : PaysSteps l.fn.flow l.fn.known.left l.flow l.least.left;
+  paid : PaysSteps l.fn.flow l.fn.round.least.left l.flow l.least.left;
 }
 
 abbrev pub decreases-loop-front : goal.decreases-loop-front

@@ -114,8 +114,7 @@ def guide_scripts(checks, scratch):
         status, found, complaint = python(os.path.join(EXAMPLES, "guide", script), *words, cwd=scratch)
         checks.equal(command, (found if status == 0 else complaint),
                      expected if status == 0 else f"{script}: {expected}\n")
-    problem = "c node 1 Smith, Ann\nc node 2 Über \"Bridge\"\np max 2 1\nn 1 s\nn 2 t\na 1 2 0\n"
-    write(scratch, "names.max", problem)
+    write(scratch, "names.max", 'c node 1 Smith, Ann\nc node 2 Über "Bridge"\np max 2 1\nn 1 s\nn 2 t\na 1 2 0\n')
     done = subprocess.run([sys.executable, "-B", "examples/guide/names.py", os.path.join(scratch, "names.max")],
                           input="s 0\nn 1\nf 1 2 0\n", capture_output=True, text=True, check=False, cwd=ROOT)
     checks.equal("names.py: quotes", done.stdout, 's 0\nn "Smith, Ann"\nf "Smith, Ann", "Über ""Bridge""", 0\n')

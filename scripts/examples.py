@@ -39,8 +39,7 @@ def shipped(checks, scratch):
     """Each example on the data that ships with it."""
     for script, numbers in SHIPPED.items():
         status, words, complaint = example(script, scratch)
-        checks.equal(f"{script}: status and complaint", (status, complaint), (0, ""))
-        checks.equal(f"{script}: says what is right", [number for number in numbers if number not in words], [])
+        checks.equal(script, (status, complaint, [number for number in numbers if number not in words]), (0, "", []))
         with open(os.path.join(EXAMPLES, os.path.dirname(script), "README.md"), encoding="utf-8") as file:
             shown = re.search(r"```console\n\$ .*\n((?:.*\n)*?)drawn: .*\n```", file.read()).group(1)
         # Which of the best rosters is found is open.
@@ -87,9 +86,8 @@ def pictures(checks, scratch):
         status, _, complaint = example("segmentation/segment.py", scratch, *words)
         checks.equal(f"segmentation: {expected}", (status, expected in complaint, complaint.count("\n")), (1, True, 1))
     said = example("segmentation/segment.py", scratch, *large, "--most", "900")[1]
-    checks.equal("segmentation: --most", "900 by 900 pixels" in said, True)
     width = Image.open(os.path.join(scratch, "out", "sheet.png")).width
-    checks.equal("segmentation: how wide the sheet is", width, 1600)
+    checks.equal("segmentation: a large picture, its sheet", ("900 by 900 pixels" in said, width), (True, 1600))
 
 
 def random_roads(checks, scratch):
@@ -283,9 +281,8 @@ def main():
     checks, flow = Checks(), os.path.abspath(sys.argv[1])
     os.environ["PROVEDFLOW_LIBRARY"] = os.path.abspath(sys.argv[2])
     with tempfile.TemporaryDirectory() as folder:
-        os.makedirs(os.path.join(folder, "programs"))
-        os.symlink(flow, os.path.join(folder, "programs", "flow"))
-        os.environ["PATH"] = os.path.join(folder, "programs") + os.pathsep + os.environ["PATH"]
+        os.symlink(flow, os.path.join(folder, "flow"))
+        os.environ["PATH"] = folder + os.pathsep + os.environ["PATH"]
         for modules, group in (((), example_guide.CHECKS), *NEEDS):
             for check in group:
                 scratch = os.path.join(folder, check.__name__)

@@ -124,9 +124,9 @@ def run_refused(folder, words, stdin, nth, program=None):
 
 
 def chain(step):
-    """A chain of 600 nodes and arcs of capacity 7, which stand in turns of a step, and what `solve` puts for it."""
-    tails = [1 + i * step % 599 for i in range(599)]
-    head = b"p max 600 599\nn 1 s\nn 600 t\n"
+    """A chain of 8210 nodes and arcs of capacity 7, which stand in turns of a step, and what `solve` puts for it."""
+    tails = [1 + i * step % 8209 for i in range(8209)]
+    head = b"p max 8210 8209\nn 1 s\nn 8210 t\n"
     arcs = b"".join(b"a %d %d 7\n" % (tail, tail + 1) for tail in tails)
     return head + arcs, b"s 7\n" + b"".join(b"f %d %d 7\n" % (tail, tail + 1) for tail in tails)
 
@@ -147,8 +147,8 @@ def refused_growths(folder):
     with open(net, "wb") as file:
         file.write(NET)
     in_order, in_order_solved = chain(1)
-    scattered, scattered_solved = chain(257)
-    near, near_scattered = circle(600, (1, 2), 1), circle(600, (1, 2), 257)
+    scattered, scattered_solved = chain(1009)
+    near, near_scattered = circle(4100, (1, 2), 1), circle(4100, (1, 2), 1009)
     made = {}
     jobs = [
         (["solve"], in_order, (0, in_order_solved, b"")),

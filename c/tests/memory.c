@@ -38,7 +38,8 @@ void free(void *old) {
     __libc_free(old);
 }
 
-enum { NODES = 300, ARCS = 2000, MOST_REQUESTS = 500 };
+/* So many arcs in no order that they are solved in a copy. */
+enum { NODES = 1200, ARCS = 9000, MOST_REQUESTS = 500 };
 static const uint32_t SOURCES[] = {0, 5}, SINKS[] = {1, 7};
 static uint32_t src[ARCS], dst[ARCS];
 static uint64_t cap[ARCS];

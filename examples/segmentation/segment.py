@@ -123,10 +123,7 @@ def main():
     if given.most:
         picture.thumbnail((given.most, given.most))
         marks = {what: shrunk(mask, picture.size) for what, mask in marks.items()}
-    try:
-        value, mask = cut(np.asarray(picture), marks, given)
-    except ValueError as failure:
-        raise script.Refused(f"{given.picture}: {failure}; --most PIXELS makes it smaller first") from None
+    value, mask = cut(np.asarray(picture), marks, given)
     if given.marked_only:
         pieces, _ = ndimage.label(mask, np.ones((3, 3)))
         mask &= np.isin(pieces, pieces[marks["object"]])

@@ -1,5 +1,5 @@
 -- Half-arcs: the two of an arc, and what a push does to the residual capacities.
-use Rattle.std.proofs.Common.{◌≡◌, ◌≢◌, ℕ, ◌+◌, ◌-◌, ◌/◌, ◌%◌, ◌<◌, ◌≤◌, Bool, true, false, not, cond, eqb, List}
+use Rattle.std.proofs.Common.{◌≡◌, ◌≢◌, ℕ, ◌+◌, ◌-◌, ◌/◌, ◌%◌, ◌<◌, Bool, true, false, not, cond, eqb, List}
 use Rattle.std.proofs.Common.{length, arith, refl, ap, subst, sym, ◌∙◌, inl, inr, get_or-set_same, get_or-set_other}
 use Rattle.std.proofs.Common.{eq-eqb}
 use Rattle.std.specs.Prelude.{slice_index}
@@ -54,11 +54,6 @@ room-pushed : (b : Bool) (cap x d : ℕ)
     → cond b (cap - cond b (x + d) (x - d)) (cond b (x + d) (x - d)) ≡ cond b (cap - x) x - d
 room-pushed true cap x d = omega arith
 room-pushed false cap x d = refl
-
-room-pushed_back : (b : Bool) (cap x d : ℕ) → x ≤ cap → d ≤ cond b (cap - x) x
-    → cond (not b) (cap - cond b (x + d) (x - d)) (cond b (x + d) (x - d)) ≡ cond (not b) (cap - x) x + d
-room-pushed_back true cap x d fits enough = refl
-room-pushed_back false cap x d fits enough = omega arith
 
 -- the half-arc itself has so much less
 pub residual-pushed : (net : Net) (xs : List ℕ) (h d : ℕ) → h / 2 < length xs

@@ -1,7 +1,6 @@
 -- Arcs by their places, and what holds of each arc beside its flow.
 use Rattle.std.proofs.Common.{◌≡◌, ℕ, zero, suc, ◌+◌, ◌*◌, ◌-◌, ◌/◌, ◌%◌, ◌≤◌, ◌<◌, Bool, true, false, cond, eqb, List}
-use Rattle.std.proofs.Common.{[], ◌∷◌, length, get_or, Some, refl, ◌∙◌, sym, ap, arith}
-use Rattle.std.specs.Prelude.{slice_get}
+use Rattle.std.proofs.Common.{[], ◌∷◌, length, get_or, refl, ◌∙◌, sym, ap, arith}
 use Rattle.std.specs.List.{AllZip}
 use Rattle.std.proofs.lemmas.List.Elements.{All-get_or}
 use Rattle.flow_net.specs.declared.networks.Arc.{Arc}
@@ -33,11 +32,6 @@ AllZip-at R [] xs i l h = absurd (omega arith)
 AllZip-at R (b ∷ arcs) [] i l h = absurd h
 AllZip-at R (b ∷ arcs) (x ∷ xs) zero l h = h.0
 AllZip-at R (b ∷ arcs) (x ∷ xs) (suc i) l h = AllZip-at R arcs xs i (omega arith) h.1
-
-arc_found_in : (arcs : List Arc) (i : ℕ) → i < length arcs → slice_get arcs i ≡ Some (get_or arcs i no_arc)
-arc_found_in [] i l = absurd (omega arith)
-arc_found_in (a ∷ arcs) zero l = refl
-arc_found_in (a ∷ arcs) (suc i) l = arc_found_in arcs i (omega arith)
 
 -- the flow on each arc is at most its capacity
 pub zip_from_fits : (net : Net) (xs : List ℕ) → Fits net xs → AllZip (λ a x. x ≤ a.cap) net.arcs xs

@@ -8,10 +8,8 @@ use Rattle.std.proofs.lemmas.Bool.{cases_eq}
 use Rattle.flow_net.specs.Nets.{Net}
 use Rattle.flow_net.specs.Flows.{Fits, HasNoLoops}
 use Rattle.flow_net.specs.Residual.{tail_of, head_of, residual, half_pushed, pushed}
-use Rattle.flow_net.specs.Paths.{IsPath, HasRoom, IsApart, push_all}
+use Rattle.flow_net.specs.Paths.{IsPath, IsApart, push_all}
 use Rattle.flow_net.proofs.HalfArcs.{residual-pushed, residual-pushed_other, no_loops_pushed}
-use Rattle.flow_net.proofs.Pushes.{fits_pushed}
-use Rattle.flow_net.proofs.AugmentingPaths.{room_after}
 use Rattle.flow_solve.specs.levels.Phases.{Descends}
 use Rattle.flow_solve.proofs.LevelLemmas.Falls.{one_falls}
 use Rattle.flow_solve.proofs.LevelLemmas.Places.{falls_apart}
@@ -190,14 +188,7 @@ take_take (suc i) zero hs l = absurd (omega arith)
 take_take (suc i) (suc d) [] l = refl
 take_take (suc i) (suc d) (h ∷ hs) l = ap (λ z. h ∷ z) (take_take i d hs (omega arith))
 
--- the pushes keep the flow within the capacities, and the self-loops empty
-pub fits_all : (net : Net) (xs : List ℕ) (d u w : ℕ) (hs : List ℕ) → IsPath net u hs w → IsApart hs
-    → HasRoom net xs d hs → Fits net xs → Fits net (push_all xs hs d)
-fits_all net xs d u w [] p a r f = f
-fits_all net xs d u w (h ∷ hs) p a r f =
-    fits_all net (pushed xs h d) d (head_of net h) w hs p.2 a.1 (room_after net xs h d d hs a.0 r.1)
-    (fits_pushed net xs h d p.0 r.0 f)
-
+-- the pushes keep the self-loops empty
 pub no_loops_descended : (net : Net) (rank : ℕ → ℕ) (xs : List ℕ) (d : ℕ) (hs : List ℕ) → Descends net rank hs
     → HasNoLoops net xs → HasNoLoops net (push_all xs hs d)
 no_loops_descended net rank xs d [] c z = z

@@ -78,14 +78,6 @@ pub more_twice : (net : Net) (xs ys zs : List ℕ) (src dst c d : ℕ) → HasMo
 more_twice net xs ys zs src dst c d h k p =
     twice_step (p src dst) c d (arc_flow net p zs) (arc_flow net p ys) (arc_flow net p xs) (h p) (k p)
 
--- nothing more
-pub more_none : (net : Net) (xs : List ℕ) (src dst : ℕ) → HasMore net xs src dst 0 xs
-more_none net xs src dst p = none (p src dst) (arc_flow net p xs)
-  where
-    none : (b : Bool) (m : ℕ) → m ≡ m + cond b 0 0
-    none true m = omega arith
-    none false m = omega arith
-
 -- one arc more, which is full where it passes the test
 full_step : (b : Bool) (x c m k : ℕ) → (b ≡ true → x ≡ c) → m ≡ k → cond b x 0 + m ≡ cond b c 0 + k
 full_step true x c m k h e = let f = h refl in omega arith

@@ -1,7 +1,7 @@
 -- What the flow lines add up to at each node, and at the sources.
 use Rattle.std.proofs.Common.{◌≡◌, ◌≢◌, ℕ, zero, suc, ◌+◌, ◌-◌, ◌≤◌, ◌<◌, Bool, true, false, cond, eqb, ◌||◌, List}
 use Rattle.std.proofs.Common.{[]}
-use Rattle.std.proofs.Common.{◌∷◌, ◌++◌, length, get_or, set, take, refl, ◌∙◌, sym, ap, subst, inl, inr, add-one}
+use Rattle.std.proofs.Common.{◌∷◌, ◌++◌, length, get_or, set, take, refl, ◌∙◌, sym, ap, subst, inl, inr}
 use Rattle.std.proofs.Common.{eq-eqb, sum_by, get_or-set_same, get_or-set_other, length-take, length-append}
 use Rattle.std.proofs.Common.{length-set, Option}
 use Rattle.std.proofs.Common.{Some, None, MatchOption, arith}
@@ -15,7 +15,6 @@ use Rattle.flow_net.specs.Limits.{AreDistinct}
 use Rattle.flow_net.specs.NodeSets.{one_of, just}
 use Rattle.flow_net.specs.MarkedNodes.{marked}
 use Rattle.flow_net.proofs.Arrangements.{node_among}
-use Rattle.flow_net.proofs.NodeLists.{one_of-here, one_of-other}
 use Rattle.flow_text.specs.SolutionReading.{IsLineWithin}
 use Rattle.flow_text.specs.declared.solutions.FlowLine.{FlowLine}
 use Rattle.flow_text.specs.declared.limits.TheConstants.{MOST_FLOW_LINES, GREATEST_VALUE}
@@ -27,37 +26,6 @@ use Rattle.flow_tools.specs.checking.FirstFaults.{IsFirstUnbalanced}
 use Rattle.flow_tools.specs.checking.NodeSums.{IsCellOf, at_node, AreNodeFlows, HaveOneMore}
 use Rattle.flow_tools.specs.checking.NodeSums.{AreEqualUnless, IsFirstUnequal}
 use Rattle.flow_tools.proofs.checking.LineSums.{line_flow-most, line_flow-cons, line_flow_agree}
-
--- ---- marks
-
--- a cell that is set marks its node, and leaves the other marks as they were
-marked-same : (cells : List Bool) (v : ℕ) → 1 ≤ v → v ≤ length cells → marked (set cells (v - 1) true) v ≡ true
-marked-same cells zero l h = absurd (omega arith)
-marked-same cells (suc i) l h = rw (same i) (get_or-set_same cells i true false (omega arith))
-  where
-    same : (i : ℕ) → suc i - 1 ≡ i
-    same i = omega arith
-
-marked-other : (cells : List Bool) (w v : ℕ) → 1 ≤ w → v ≢ w → marked (set cells (w - 1) true) v ≡ marked cells v
-marked-other cells w zero l n = refl
-marked-other cells w (suc i) l n = get_or-set_other cells (w - 1) i true false (λ e. n (omega arith))
-
--- one of two is enough
-or_true : (b c : Bool) → c ≡ true → (b || c) ≡ true
-or_true b c e = or_right b c e
-
--- one node more is marked
-pub mark_more : (before cells : List Bool) (nodes : List ℕ) (k v : ℕ) → k < length nodes
-    → IsCellOf (length cells) (get_or nodes k 0) → marked cells v ≡ (marked before v || one_of (take k nodes) v)
-    → marked (set cells (get_or nodes k 0 - 1) true) v ≡ (marked before v || one_of (take (k + 1) nodes) v)
-mark_more before cells nodes k v l at h = rw add-one (elim (cases_eq v (get_or nodes k 0)) [
-  | inl e ↦
-      rw e (marked-same cells (get_or nodes k 0) at.0 at.1
-      ∙ sym (or_true (marked before (get_or nodes k 0)) _ (one_of-here nodes k l)))
-  | inr n ↦
-      marked-other cells (get_or nodes k 0) v at.0 n ∙ h
-      ∙ ap (λ b. marked before v || b) (sym (one_of-other nodes k v l n))
-])
 
 -- ---- cells
 

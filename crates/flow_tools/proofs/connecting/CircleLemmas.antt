@@ -48,13 +48,6 @@ pub record IsRound (net : Net) (k before v : ℕ) : Type 0 where
   pub still_last : (X : ℕ → Bool) → leaving net X < k → X net.nodes ≡ true → X before ≡ true
   pub up_to : (X : ℕ → Bool) → leaving net X < k → (w : ℕ) → 1 ≤ w → w < v → X w ≡ true → X before ≡ true
 
-pub round_begins : (net : Net) (k : ℕ) → IsRound net k net.nodes 1
-round_begins net k = record {
-  from_last = λ X few h w a l. absurd (omega (arith, a, l));
-  still_last = λ X few h. h;
-  up_to = λ X few w a l h. absurd (omega (arith, a, l));
-}
-
 pub round_on : (net : Net) (k m before v value : ℕ) → k ≤ m → k ≤ value → IsRound net m before v
     → IsPairConnectivity net (one_of (before ∷ [])) (one_of (v ∷ [])) value → IsRound net k v (v + 1)
 round_on net k m before v value low lower r p = record {

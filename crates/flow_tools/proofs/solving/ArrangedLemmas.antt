@@ -183,12 +183,6 @@ module _ (p : Instance) where
   cells_of None a = refl
   cells_of (Some copy) a = same_cells p copy a
 
-  -- it has as many nodes
-  pub nodes_of : (arranged : Option Arranged) → IfSome arranged (IsArrangedIn p)
-      → (solved_of p arranged).net.nodes ≡ p.net.nodes
-  nodes_of None a = refl
-  nodes_of (Some copy) a = sym a.net.nodes
-
   -- the lists by which flows and marks are read stay within these
   pub spots_of : (arranged : Option Arranged) (n : ℕ) → IfSome arranged (IsArrangedIn p)
       → n ≡ length (solved_of p arranged).net.arcs

@@ -2,10 +2,9 @@
 """What calls from Python take, beside SciPy's and NetworkX's own: bindings.py LIBRARY [WORD ...]
 
 LIBRARY is the shared library that scripts/library.sh makes; only problems whose names have one of the WORDs are run.
-Needs NumPy, SciPy and NetworkX. Each problem is made first, and then each call on it is timed, from the matrix, graph
-or arrays of weights to the answer in the same kind, in seconds by the clock and CPU seconds; a call runs in a process
-of its own, whose greatest memory is told, with the problem in it. The values have to be the same. The table goes to
-standard output, in Markdown.
+Needs NumPy, SciPy and NetworkX. Each problem is made first, and then each call on it is timed, from the matrix or graph
+to the answer in the same kind, in seconds by the clock and CPU seconds; a call runs in a process of its own, whose
+greatest memory is told, with the problem in it. The values have to be the same. The table is in Markdown.
 """
 import json
 import os
@@ -18,26 +17,6 @@ import time
 
 ROOT = pathlib.Path(__file__).resolve().parent.parent
 SEED = 4
-
-
-def grid_of(shape, neighbours):
-    """A grid with the weights of a picture of soft blobs with noise, whose bright parts are to be cut out."""
-    import numpy as np
-    from provedflow.pixels import Grid
-    chance = np.random.default_rng(SEED)
-    field = chance.normal(size=shape)
-    for axis in range(3 * len(shape)):
-        field = sum(np.roll(field, shift, axis % len(shape)) for shift in range(-6, 7)) / 13
-    noise = 25 * chance.normal(size=shape)
-    pixels = np.clip(128 + 60 * field / field.std() + noise, 0, 255).astype(np.int64)
-
-    def solve():
-        grid = Grid(shape, neighbours)
-        grid.join(lambda here, there, _: (1 + 60 * np.exp(-((here - there) / 30) ** 2)).astype(np.uint64), of=pixels)
-        grid.add_terminals(sources=pixels, sinks=255 - pixels)
-        return grid.cut().value
-
-    return {"provedflow.pixels": solve}
 
 
 def matrix_of(nodes, source, sink, arcs):
@@ -86,9 +65,6 @@ PROBLEMS = {
     "random network, 50,000 arcs": lambda: matrix_of(*random_arcs(50_000)),
     "random network, 1,000,000 arcs": lambda: matrix_of(*random_arcs(1_000_000)),
     "random graph, 400,000 edges": lambda: graph_of(*random_arcs(400_000)),
-    "1,000 x 999 pixels, 4 neighbours": lambda: grid_of((1000, 999), 4),
-    "868 x 600 pixels, 8 neighbours": lambda: grid_of((868, 600), 8),
-    "99 x 99 x 99 voxels, 6 neighbours": lambda: grid_of((99, 99, 99), 6),
 }
 
 
@@ -123,7 +99,6 @@ def main():
             place += 1
         if len(values) > 1:
             sys.exit(f"{name}: the values differ: {values}")
-    return 0
 
 
 if __name__ == "__main__":

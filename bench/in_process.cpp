@@ -13,8 +13,7 @@
 struct Edge { unsigned from, to; int there, back; };
 
 struct Problem {
-  unsigned nodes = 0;
-  std::size_t arcs = 0;
+  unsigned nodes = 0, arcs = 0;
   std::vector<std::uint32_t> sources, sinks;
   std::vector<Edge> edges;
 };
@@ -79,7 +78,6 @@ int main(int count, char **words) {
       const std::clock_t ticks[] = {between - start, std::clock() - between};
       for (int one : {0, 1}) least[one] = std::min(least[one], 1e3 * static_cast<double>(ticks[one]) / CLOCKS_PER_SEC);
     }
-    std::printf("| %s | %zu | %.3g | %.3g | %.2f |\n", words[i], given.arcs, least[0], least[1],
-                least[1] / least[0]);
+    std::printf("| %s | %u | %.3g | %.3g | %.2f |\n", words[i], given.arcs, least[0], least[1], least[1] / least[0]);
   }
 }

@@ -133,16 +133,19 @@ EDGE = """<edge source="{}" target="{}"><data key="e"><y:PolyLineEdge><y:EdgeLab
 def kinds_of_roads(checks, scratch):
     """GraphML as yEd writes it, units, columns of any name, a network in parts, and what is refused."""
     parts = [NODE.format(f"n{place}", name, 9 * place) for place, name in enumerate(("Süd\nWest", "Mitte", "Ost"))]
-    parts += [EDGE.format(f"n{place}", f"n{(place + 1) % 3}", speed)
-              for place, speed in enumerate(("2.5 Gbit", "800 Mbit", "1 Gbit"))]
+    parts += [EDGE.format(f"n{one}", f"n{other}", speed) for one, other, speed in (
+        (0, 1, "2.5 Gbit"), (1, 2, "800 Mbit"), (2, 0, "1 Gbit"), (2, 1, "100 Mbit"))]
     write(scratch, "yed.graphml", GRAPHML.format("".join(parts)))
     write(scratch, "roads.csv", "Von,nach,Last\nA,B,3\nC,D,4\nB,E,1e2\n")
     write(scratch, "other.csv", "from,to,capacity\nA,B,3 t\nB,C,2 kg\n")
+    write(scratch, "ways.csv", "from,to,capacity\nA,B,3\nC,B,4\n")
     ends = ["--sources", "Su\u0308d West", "--sinks", "Ost"]  # The name isn't in NFC.
     columns = ["--from", "von", "--to", "NACH", "--capacity", "last", "--sources", "A"]
     for words, expected in (
             (["yed.graphml", *ends, "--capacity", "Label"], "from Süd West to Ost: 0.8 Gbit\n"),
-            (["yed.graphml", *ends, "--capacity", "label", "--both-ways"], "from Süd West to Ost: 1.8 Gbit\n"),
+            (["yed.graphml", *ends, "--capacity", "label", "--both-ways"], "from Süd West to Ost: 1.9 Gbit\n"),
+            (["ways.csv", "--sources", "C", "--sinks", "B", "--one-way"], "from C to B: 4\n"),
+            (["ways.csv", "--sources", "A", "--sinks", "C", "--one-way"], "from A to C: 0\n"),
             (["yed.graphml", *ends], "yed.graphml: no edge has the attribute capacity; there are label, and --capacity "
              "names one\n"),
             (["roads.csv", *columns, "--sinks", "E"], "the network has 2 parts that no road joins, with 3, 2 places\n"

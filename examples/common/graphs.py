@@ -29,24 +29,25 @@ AROUND = [(0, 1, "center", "bottom"), (0, -1, "center", "top"), (1, 0, "left", "
           (1, 1, "left", "bottom"), (-1, 1, "right", "bottom"), (1, -1, "left", "top"), (-1, -1, "right", "top")]
 
 
-def add_options(parser, capacity=True):
-    """The options that say where the network is."""
+def add_options(parser, *columns):
+    """The options that say where the network is, and what the columns of its table are called."""
     parser.add_argument("network", nargs="?", help="a table of links (CSV), or a GraphML file; else the example's own")
     parser.add_argument("--places", metavar="TABLE", help="a table of the places, with the column place, and x and y")
-    for column in ["from", "to"] + ["capacity"] * capacity:
+    for column in columns:
         parser.add_argument(f"--{column}", metavar="COLUMN", help=f"what the column {column} is called")
     parser.add_argument("--out", metavar="FOLDER", help="where the picture goes; else a folder in out")
 
 
-def read(words, capacity=True):
-    """The network as a MultiGraph, or a MultiDiGraph where GraphML says so. Places have the attributes of their row or
-    node, in small letters, and links `name`, `where` and `capacity`, a text."""
+def read(words):
+    """The network as a MultiGraph, or a MultiDiGraph where links lead one way. Places have the attributes of their row
+    or node, in small letters, and links `name`, `where` and `capacity`, a text."""
     path, names = words.network, vars(words)
     if path.lower().endswith((".graphml", ".xml")):
-        graph = read_graphml(path, names.get("capacity"), capacity)
+        graph = read_graphml(words)
     else:
-        graph = nx.MultiGraph()
-        for row in tables.read_table(path, "from", "to", *["capacity"] * capacity, names=names):
+        graph = (nx.MultiDiGraph if words.one_way else nx.MultiGraph)()
+        columns = [column for column in ("from", "to", "capacity") if column in names]
+        for row in tables.read_table(path, *columns, names=names):
             graph.add_edge(row.name("from"), row.name("to"), name=row["name"], where=f"row {row.number}",
                            capacity=row["capacity"])
     if words.places:
@@ -60,9 +61,10 @@ def read(words, capacity=True):
     return graph
 
 
-def read_graphml(path, name, capacity):
+def read_graphml(words):
     """The links of a GraphML file. A place is called by its attribute name or label where each has one of its own, else
     by its id."""
+    path, name = words.network, vars(words).get("capacity")
     try:
         found = nx.read_graphml(path)
     except (nx.NetworkXError, SyntaxError, ValueError, KeyError) as failure:
@@ -71,13 +73,14 @@ def read_graphml(path, name, capacity):
     for key in ("label", "name"):
         texts = {node: plain(data.get(key, "")) for node, data in found.nodes(data=True)}
         called = texts if len({*texts.values()} - {""}) == len(texts) else called
-    graph = (nx.MultiDiGraph if found.is_directed() else nx.MultiGraph)()
+    directed = words.one_way or found.is_directed() and not words.both_ways
+    graph = (nx.MultiDiGraph if directed else nx.MultiGraph)()
     graph.add_nodes_from((called[node], {key.casefold(): value for key, value in data.items() if key != "name"})
                          for node, data in found.nodes(data=True))
     there = sorted({str(key) for *_, data in found.edges(data=True) for key in data})
     wanted = [name] if name else ["capacity", *tables.OTHER_NAMES["capacity"]]
     key = next((key for name in wanted for key in there if key.casefold() == name.casefold()), None)
-    if capacity and key is None:
+    if "capacity" in vars(words) and key is None:
         raise script.Refused(f"{path}: no edge has the attribute {wanted[0]}; there are "
                              f"{script.some(there) or 'none'}, and --capacity names one")
     graph.add_edges_from((called[one], called[other], {

@@ -135,11 +135,12 @@ def draw(network, weak, new, path):
 
 def main():
     parser = argparse.ArgumentParser(description="Finds the weakest spots of a network.")
-    graphs.add_options(parser, capacity=False)
+    graphs.add_options(parser, "from", "to")
+    parser.set_defaults(one_way=False, both_ways=True)
     words = parser.parse_args()
     if words.network is None:
         words.network, words.places = os.path.join(HERE, "links.csv"), os.path.join(HERE, "sites.csv")
-    graph = graphs.read(words, capacity=False)
+    graph = graphs.read(words)
     ends, names, (where, measured) = graphs.ends_of(graph), np.array(list(graph), object), graphs.spots(graph)
     part, sizes = graphs.part_of(len(names), ends), graphs.parts(graph)
     if len(sizes) > 1:

@@ -15,7 +15,6 @@ HERE = os.path.dirname(os.path.abspath(__file__))
 sys.path[:0] = [os.path.join(HERE, "..", "common")]
 
 import graphs
-import networkx as nx
 import script
 import tables
 from graphs import BLACK, BLUE, GREY, ORANGE, RED
@@ -30,8 +29,6 @@ class Roads:
 
     def __init__(self, words):
         graph = graphs.read(words)
-        if words.one_way or words.both_ways:
-            graph = (nx.MultiDiGraph if words.one_way else nx.MultiGraph)(graph)
         self.graph, self.edges, self.more = graph, list(graph.edges(data=True)), words.more
         self.given, unit = graphs.amounts(words.network, graph)
         self.unit = unit if words.unit is None else words.unit
@@ -129,7 +126,7 @@ def draw(roads, path):
 
 def main():
     parser = argparse.ArgumentParser(description="Finds the bottleneck of a road network.")
-    graphs.add_options(parser)
+    graphs.add_options(parser, "from", "to", "capacity")
     parser.add_argument("--sources", metavar="NAMES", help="where the way starts, separated by commas")
     parser.add_argument("--sinks", metavar="NAMES", help="where it ends")
     parser.add_argument("--unit", metavar="WORDS", help="what the capacities count")

@@ -82,7 +82,7 @@ def pictures(checks, scratch):
             ((paths[0], paths[2]), "other.png is 8 by 7 pixels, and the picture is 8 by 6"),
             ((paths[0], paths[0]), "picture.png: no stroke marks the object; such strokes have the colour (255, 0, 0)"),
             ((paths[0], "none.png"), "there is no file none.png"),
-            ((__file__, paths[1]), "isn't a picture that Pillow can read")):
+            ((__file__, paths[1]), "cannot identify image file")):
         status, _, complaint = example("segmentation/segment.py", scratch, *words)
         checks.equal(f"segmentation: {expected}", (status, expected in complaint, complaint.count("\n")), (1, True, 1))
     said = example("segmentation/segment.py", scratch, *large, "--most", "900")[1]

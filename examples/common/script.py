@@ -4,6 +4,9 @@ import os
 import signal
 import sys
 
+# Where the package provedflow isn't installed, the one of this repository is used.
+sys.path.append(os.path.join(os.path.dirname(os.path.abspath(__file__)), "..", "..", "python"))
+
 
 class Refused(Exception):
     """An error in the data or on the command line; the text says which."""

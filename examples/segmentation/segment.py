@@ -7,12 +7,11 @@ README.md describes the model, and --help lists the options.
 """
 
 import argparse
-import os
 import sys
+from pathlib import Path
 
-HERE = os.path.dirname(os.path.abspath(__file__))
-sys.path[:0] = [os.path.join(HERE, "..", "common")]
-sys.path.append(os.path.join(HERE, "..", "..", "python"))
+HERE = Path(__file__).resolve().parent
+sys.path.insert(0, str(HERE.parent / "common"))
 
 import numpy as np
 import script
@@ -32,26 +31,18 @@ SAMPLES, SHOWN = 12, 1600
 """How many colours stand for those of all strokes of a kind, and how wide the picture of the result is at the most."""
 
 
-def opened(path):
-    """A picture, upright as the camera tells it."""
-    try:
-        return ImageOps.exif_transpose(Image.open(path))
-    except Image.UnidentifiedImageError:
-        raise script.Refused(f"{path} isn't a picture that Pillow can read") from None
-
-
 def marks_of(path, picture):
     """For object and background the mask of the pixels that are painted, and aren't so in the picture itself."""
-    painted = opened(path)
+    painted = ImageOps.exif_transpose(Image.open(path)).convert("RGBA")
     if painted.size != picture.size:
         raise script.Refused(f"{path} is {painted.width} by {painted.height} pixels, and the picture is "
                              f"{picture.width} by {picture.height}")
-    painted = np.asarray(painted.convert("RGBA")).astype(np.int16)
+    painted, marks = np.asarray(painted).astype(np.int16), {}
     seen = (painted[..., 3] > 127) & (painted[..., :3] != np.asarray(picture)).any(axis=2)
-    marks = {what: seen & (abs(painted[..., :3] - paint) <= 60).all(axis=2) for what, paint in PAINTS.items()}
-    for what in PAINTS:
+    for what, paint in PAINTS.items():
+        marks[what] = seen & (abs(painted[..., :3] - paint) <= 60).all(axis=2)
         if not marks[what].any():
-            raise script.Refused(f"{path}: no stroke marks the {what}; such strokes have the colour {PAINTS[what]}")
+            raise script.Refused(f"{path}: no stroke marks the {what}; such strokes have the colour {paint}")
     return marks
 
 
@@ -78,17 +69,14 @@ def colour_costs(pixels, marks):
 def cut(pixels, marks, words):
     """The value of a minimum cut, and the mask of the object: the fewest pixels of all that cost as little."""
     def outline(here, there, step):
-        unlike = np.full(here.shape[:2], STEP, np.int32)
-        for channel in range(3):
-            unlike += (here[..., channel].astype(np.int32) - there[..., channel]) ** 2
-        return int(LINK * words.outline / 10 * (8 / words.neighbours) * (0.7 if all(step) else 1)) * STEP // unlike
+        flat = int(LINK * words.outline / 10 * (8 / words.neighbours) * (0.7 if all(step) else 1))
+        return flat * STEP // (STEP + ((here - there) ** 2).sum(axis=-1))
 
     grid, costs = Grid(pixels.shape[:2], words.neighbours), colour_costs(pixels, marks)
     grid.join(outline, of=pixels)
-    grid.add_terminals(np.maximum(costs, 0) + FIXED * marks["object"],
-                       np.maximum(-costs, 0) + FIXED * marks["background"])
-    found = grid.cut()
-    return found.value, ~found.mask
+    grid.add_terminals(costs.clip(0) + FIXED * marks["object"], (-costs).clip(0) + FIXED * marks["background"])
+    value, background = grid.cut()
+    return value, ~background
 
 
 def sheet_of(picture, marks, mask):
@@ -97,18 +85,18 @@ def sheet_of(picture, marks, mask):
     left.thumbnail((SHOWN // 2, picture.height))
     sheet = Image.new("RGB", (2 * left.width, left.height), "white")
     sheet.paste(left, (left.width, 0), mask.resize(left.size))
-    for grow, paints in ((5, dict.fromkeys(PAINTS, "white")), (3, PAINTS)):
-        for what, paint in paints.items():
-            small = Image.fromarray(shrunk(marks[what], left.size)).convert("L")
-            left.paste(paint, mask=small.filter(ImageFilter.MaxFilter(grow)))
+    for what, paint in PAINTS.items():
+        small = Image.fromarray(shrunk(marks[what], left.size)).convert("L")
+        left.paste("white", mask=small.filter(ImageFilter.MaxFilter(5)))
+        left.paste(paint, mask=small.filter(ImageFilter.MaxFilter(3)))
     sheet.paste(left, (0, 0))
     return sheet
 
 
 def main():
     words = argparse.ArgumentParser(description="Cuts an object out of a picture.")
-    words.add_argument("picture", nargs="?", default=os.path.join(HERE, "picture.png"), help="else the example's own")
-    words.add_argument("strokes", nargs="?", default=os.path.join(HERE, "strokes.png"),
+    words.add_argument("picture", nargs="?", default=HERE / "picture.png", help="else the example's own")
+    words.add_argument("strokes", nargs="?", default=HERE / "strokes.png",
                        help="a picture of the same size, red on the object and blue on the background")
     words.add_argument("--outline", metavar="NUMBER", type=float, default=10, help="what an outline costs; else 10")
     words.add_argument("--neighbours", type=int, choices=(4, 8), default=8, help="of a pixel; else 8")
@@ -118,7 +106,7 @@ def main():
     given = words.parse_args()
     if not 0 < given.outline <= 10 ** 6 or (given.most or 1) < 1:
         words.error("give an outline above 0 and up to a million, and pixels from 1")
-    picture = opened(given.picture).convert("RGB")
+    picture = ImageOps.exif_transpose(Image.open(given.picture)).convert("RGB")
     marks = marks_of(given.strokes, picture)
     if given.most:
         picture.thumbnail((given.most, given.most))

@@ -2,12 +2,9 @@
 
 import os
 import re
-import sys
 import textwrap
 import unicodedata
 from fractions import Fraction
-
-sys.path.append(os.path.join(os.path.dirname(os.path.abspath(__file__)), "..", "..", "python"))
 
 import script
 import tables
@@ -113,14 +110,14 @@ def amounts(path, graph):
     return [exact[text] for *_, text in graph.edges(data="capacity")], unit
 
 
-def arcs(graph, path=None, given=None, also=()):
+def arcs(graph, path, given, more):
     """The network in arrays for provedflow: the ends and the capacities of the arcs, where each link without direction
-    is one both ways, the ways back behind all others; and how many units make 1, so that the given capacities and what
-    is given also are whole. Without capacities each is 1."""
+    is one both ways, the ways back behind all others; and how many units make 1, so that the given capacities and the
+    number `more` are whole."""
     ends, scale = ends_of(graph), 1
-    while any(scale % denominator for denominator in {amount.denominator for amount in [*(given or ()), *also]}):
+    while any(scale % denominator for denominator in {amount.denominator for amount in (*given, more)}):
         scale *= 10
-    units = [int(amount * scale) for amount in given] if given else [1] * len(ends[0])
+    units = [int(amount * scale) for amount in given]
     if max(units) > tables.GREATEST:
         raise script.Refused(f"{path}: a capacity is too great, or has too many digits")
     src, dst = ends if graph.is_directed() else np.concatenate([ends, ends[::-1]], axis=1)
@@ -133,19 +130,9 @@ def ends_of(graph):
     return np.array([(number[one], number[other]) for one, other in graph.edges()], np.uint32).T.copy()
 
 
-def matrix_of(count, ends):
-    """The links between so many places as a matrix of SciPy."""
-    return coo_matrix((np.ones(ends.shape[1]), ends), (count, count)).tocsr()
-
-
-def part_of(count, ends):
-    """Of each of so many places the number of the part that it is in, where links between these ends join places."""
-    return csgraph.connected_components(matrix_of(count, ends), directed=False)[1]
-
-
 def parts(graph):
-    """How many places each part has that no link joins with another, the largest first."""
-    return sorted(np.bincount(part_of(len(graph), ends_of(graph))).tolist(), reverse=True)
+    """The sets of places that no link joins with another, the largest first."""
+    return sorted(nx.connected_components(nx.Graph(graph)), key=len, reverse=True)
 
 
 def spots(graph):
@@ -161,8 +148,9 @@ def spots(graph):
 
 def by_distances(graph, pivots=24):
     """A layout that keeps the distances from some places that lie far from each other."""
-    links, part = matrix_of(len(graph), ends_of(graph)), part_of(len(graph), ends_of(graph))
-    found, place = [], int((part == np.bincount(part).argmax()).argmax())
+    ends, largest = ends_of(graph), parts(graph)[0]
+    links = coo_matrix((np.ones(ends.shape[1]), ends), (len(graph), len(graph))).tocsr()
+    found, place = [], next(number for number, name in enumerate(graph) if name in largest)
     for _ in range(pivots):
         far = csgraph.dijkstra(links, False, place, unweighted=True)
         found.append(np.where(np.isinf(far), far[~np.isinf(far)].mean(), far))
@@ -204,11 +192,9 @@ class Picture:
 
     def save(self, path):
         """Writes the picture. A label stands where it hides no other one, or not at all, and is cut nowhere."""
-        self.figure.legend(*self.axes.get_legend_handles_labels(), loc="upper center", bbox_to_anchor=(0.5, 0.1),
-                           ncol=2, frameon=False)
-        low, high = (change(list(self.where.values()), axis=0) for change in (np.min, np.max))
-        edge = 0.06 * np.maximum(high - low, 1e-9)
-        self.axes.set(xlim=(low[0] - edge[0], high[0] + edge[0]), ylim=(low[1] - edge[1], high[1] + edge[1]))
+        self.figure.legend(loc="upper center", bbox_to_anchor=(0.5, 0.1), ncol=2, frameon=False)
+        self.axes.margins(0.06)
+        self.axes.autoscale_view()
         renderer = self.figure.canvas.get_renderer()
         for (spot, text), weight in self.labels.items():
             for dx, dy, across, along in AROUND:

@@ -20,24 +20,23 @@ import numpy as np
 import script
 from graphs import BLACK, GREEN, GREY, ORANGE, RED
 from provedflow import edge_connectivity, minimum_cut
+from scipy.sparse import coo_matrix, csgraph
 from scipy.spatial import cKDTree
 from script import count
 
 SHOWN = 12
 """How many spots are printed, and have their names in the picture."""
 
-Network = namedtuple("Network", "names ends where measured")
-"""A connected network: its places, the ends of its links in two rows, where places lie, and whether data says so."""
 Weak = namedtuple("Weak", "least links spots")
 """How many links must fail, the numbers of those that are in some such set, and the weakest spots."""
 
 
 def weakest(names, ends):
-    """The weakest spots of a connected network. A link is in some least cut where a minimum cut between its ends is as
+    """The weakest spots of a connected network, by the numbers of the ends of its links in two rows. A link is in some least cut where a minimum cut between its ends is as
     small as the least, and nowhere else. So the library is asked for one link after the other. Where their cut is
     greater, the two ends count as one place from here on; else all links of the cut are found at once."""
     least, found = edge_connectivity(*ends, len(names), directed=False), np.zeros(ends.shape[1], bool)
-    place = graphs.part_of(len(names), ends[:, surely_strong(len(names), ends, least)])
+    place = part_of(len(names), ends[:, surely_strong(len(names), ends, least)])
     left = np.flatnonzero(place[ends[0]] != place[ends[1]])
     while len(left):
         numbers, small = np.unique(place[ends[:, left]], return_inverse=True)
@@ -78,59 +77,59 @@ def surely_strong(count_, ends, least):
     return (marks != 0) & ((times[place] == 1) | (least == 1))
 
 
+def part_of(count_, ends):
+    """Of each of so many places the number of the part that it is in, where links between these ends join places."""
+    links = coo_matrix((np.ones(ends.shape[1]), ends), (count_, count_))
+    return csgraph.connected_components(links, directed=False)[1]
+
+
 def spots_of(names, ends, found, least):
     """The weakest spots: without the links of all least cuts, the parts to which just so many of these lead."""
-    part = graphs.part_of(len(names), ends[:, ~found])
+    part = part_of(len(names), ends[:, ~found])
     leading = np.bincount(part[ends[:, found]].ravel())
     names = np.array(names, object)
     return sorted((names[part == number].tolist() for number in np.flatnonzero(leading == least)), key=len)
 
 
-def new_link(network, spots):
+def new_link(graph, where, spots):
     """A short link between two of the spots that isn't there yet, or any such link: each place's nearest are tried."""
     spot_of = {name: number for number, spot in enumerate(spots) for name in spot}
-    names, spots_at = list(spot_of), [network.where[name] for name in spot_of]
-    joined = {frozenset((network.names[one], network.names[other])) for one, other in network.ends.T.tolist()}
+    names, spots_at = list(spot_of), [where[name] for name in spot_of]
     far, near = cKDTree(spots_at).query(spots_at, k=min(len(names), 8))
     pairs = sorted((length, name, names[other]) for name, row, others in zip(names, far, near)
                    for length, other in zip(row, others) if spot_of[name] != spot_of[names[other]])
     pairs = [pair for _, *pair in pairs] + [(one, other) for one in spots[0][:99] for other in spots[1][:99]]
-    return next((pair for pair in pairs if frozenset(pair) not in joined), pairs[0])
+    return next((pair for pair in pairs if not graph.has_edge(*pair)), pairs[0])
 
 
-def tell(network, weak, new):
-    """The weakest spots in words."""
-    print(f"{count(len(network.names), 'place')}, {count(network.ends.shape[1], 'link')}; the loss of "
+def tell(graph, weak, inside, new):
+    """The weakest spots in words, and an example of a new link."""
+    print(f"{count(len(graph), 'place')}, {count(graph.number_of_edges(), 'link')}; the loss of "
           f"{count(weak.least, 'link')} can split the network, that of fewer can't")
-    inside = [[network.names[end] for end in network.ends[:, link]] for link in weak.links]
     print(f"weakest spots: {len(weak.spots):,}, with {count(len(inside), 'link')} whose loss can be to blame")
     for spot in weak.spots[:SHOWN]:
-        members = set(spot)
-        links = [" to ".join(pair) for pair in inside if (pair[0] in members) != (pair[1] in members)]
+        links = [" to ".join(pair) for pair in inside if len({*pair}.intersection(spot)) == 1]
         print(f"  {script.some(spot)}: cut off by the loss of {' and '.join(links)}")
     if len(weak.spots) > SHOWN:
         print(f"  and {len(weak.spots) - SHOWN:,} more")
     helps = "one new link from one spot to the other helps, so that {} must fail" if len(weak.spots) == 2 else (
         "each spot needs a new link, so that {} must fail: {:,} new links or more, from spot to spot")
     print(helps.format(weak.least + 1, (len(weak.spots) + 1) // 2)
-          + f"; {'a short one' if network.measured else 'for instance'}: {' to '.join(new)}")
+          + f"; {new}")
 
 
-def draw(network, weak, new, path):
+def draw(picture, graph, weak, inside, new):
     """The network, with its weakest links and spots and the new link."""
-    picture = graphs.Picture(network.where, f"The loss of {count(weak.least, 'link')} can split this network")
-    edges = [[network.names[one], network.names[other]] for one, other in network.ends.T.tolist()]
-    picture.links(edges, GREY, 0.3 + picture.small / 4)
-    picture.links([edges[place] for place in weak.links], RED, 1.5 + picture.small / 3, "solid", "weakest links")
+    picture.links(graph.edges(), GREY, 0.3 + picture.small / 4)
+    picture.links(inside, RED, 1.5 + picture.small / 3, "solid", "weakest links")
     picture.links([new], GREEN, 3, "dotted", "a new link")
-    spots = [spot for spot in weak.spots if len(spot) <= len(network.names) / 2]
+    spots = [spot for spot in weak.spots if len(spot) <= len(graph) / 2]
     lost = {name for spot in spots for name in spot}
-    picture.places([name for name in network.names if name not in lost], BLACK)
+    picture.places([name for name in graph if name not in lost], BLACK)
     picture.places(list(lost), ORANGE, max(picture.small * 1.6, 3), "o", "weakest spots")
     for name in [*new, *(name for spot in spots[:SHOWN] for name in spot[:SHOWN]),
-                 *(network.names if len(network.names) <= 50 else ())]:
+                 *(graph if len(graph) <= 50 else ())]:
         picture.label(name, name)
-    picture.save(path)
 
 
 def main():
@@ -141,21 +140,21 @@ def main():
     if words.network is None:
         words.network, words.places = os.path.join(HERE, "links.csv"), os.path.join(HERE, "sites.csv")
     graph = graphs.read(words)
-    ends, names, (where, measured) = graphs.ends_of(graph), np.array(list(graph), object), graphs.spots(graph)
-    part, sizes = graphs.part_of(len(names), ends), graphs.parts(graph)
-    if len(sizes) > 1:
-        print(f"the network has {len(sizes):,} parts that no link joins, of {script.some(sizes)} places; "
-              f"{count(len(sizes) - 1, 'new link')} would join them. Of the largest part:")
-        inside = part == np.bincount(part).argmax()
-        ends = (np.cumsum(inside) - 1)[ends[:, inside[ends[0]]]].astype(np.uint32)
-        names = names[inside]
-    if len(names) < 2:
+    parts = graphs.parts(graph)
+    if len(parts) > 1:
+        print(f"the network has {len(parts):,} parts that no link joins, of {script.some(map(len, parts))} places; "
+              f"{count(len(parts) - 1, 'new link')} would join them. Of the largest part:")
+        graph.remove_nodes_from(set(graph) - parts[0])
+    if len(graph) < 2:
         raise script.Refused(f"{words.network}: a network has two places or more")
-    network = Network(names.tolist(), ends, {name: where[name] for name in names}, measured)
-    weak, path = weakest(network.names, ends), script.output(words, "redundancy", "redundancy.png")
-    new = new_link(network, weak.spots)
-    tell(network, weak, new)
-    draw(network, weak, new, path)
+    weak, (where, measured) = weakest(list(graph), graphs.ends_of(graph)), graphs.spots(graph)
+    edges, new = list(graph.edges()), new_link(graph, where, weak.spots)
+    inside = [edges[link] for link in weak.links]
+    tell(graph, weak, inside, f"{'a short one' if measured else 'for instance'}: {' to '.join(new)}")
+    picture = graphs.Picture(where, f"The loss of {count(weak.least, 'link')} can split this network")
+    draw(picture, graph, weak, inside, new)
+    path = script.output(words, "redundancy", "redundancy.png")
+    picture.save(path)
     print(f"drawn: {path}")
 
 

@@ -34,7 +34,7 @@ class Roads:
         self.unit = unit if words.unit is None else words.unit
         named = [getattr(words, f"{role}s") or self.listed(role) for role in ("source", "sink")]
         self.sources, self.sinks = tables.terminals(*named, graph, words.network)
-        self.src, self.dst, self.units, self.scale = graphs.arcs(graph, words.network, self.given, [words.more])
+        self.src, self.dst, self.units, self.scale = graphs.arcs(graph, words.network, self.given, words.more)
         number = {place: index for index, place in enumerate(graph)}
         self.ends = *([number[name] for name in names] for names in (self.sources, self.sinks)), len(graph)
         near, far = (minimum_cut(self.src, self.dst, self.units, *self.ends, nearest=kind)
@@ -87,7 +87,7 @@ def tell(roads):
     """The bottlenecks in words."""
     split = graphs.parts(roads.graph)
     if len(split) > 1:
-        print(f"the network has {len(split)} parts that no road joins, with {script.some(split)} places")
+        print(f"the network has {len(split)} parts that no road joins, with {script.some(map(len, split))} places")
     print(f"from {roads.way()}: {roads.amount(roads.value)}")
     for end, places in (("sources", roads.first), ("sinks", roads.last)):
         told = script.some(f"{roads.name(place)} ({roads.capacity(place)})" for place in places)

@@ -239,7 +239,7 @@ def rosters(checks, scratch):
                     and all(low <= filled[shift] <= high for shift, (low, high) in places.items())):
                 valid[frozenset(roster)] = len(roster), sorted(works[person] for person in people)
         try:
-            week = schedule.read_week(*(os.path.join(scratch, f"{name}.csv") for name in ("people", "shifts")))
+            week = schedule.Week(*(os.path.join(scratch, f"{name}.csv") for name in ("people", "shifts")))
             roster, granted = week.roster()
             checks.equal("scheduling: a roster", (valid.get(frozenset(roster)), set(granted) <= set(roster)),
                          (max(valid.values(), default=0), True))

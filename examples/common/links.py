@@ -34,13 +34,11 @@ class Links:
         self.problem = Problem()
         for name in self.names:
             self.problem.node(name)
-        self.arcs = []
+        ways = [("from", "to"), ("to", "from")][:1 + words.both_ways]
+        self.arcs = [range(row * len(ways), (row + 1) * len(ways)) for row in range(len(self.rows))]
         for row, capacity in zip(self.rows, self._capacities()):
-            self.arcs.append([len(self.problem.arcs)])
-            self.problem.arc(self.out_of(row["from"]), row["to"], capacity)
-            if words.both_ways:
-                self.arcs[-1].append(len(self.problem.arcs))
-                self.problem.arc(self.out_of(row["to"]), row["from"], capacity)
+            for src, dst in ways:
+                self.problem.arc(self.out_of(row[src]), row[dst], capacity)
         for site, capacity in self.limits.items():
             self.problem.arc(site, self.out_of(site), capacity)
         sources, sinks = tables.terminals(words.sources, words.sinks, self.names, words.table)

@@ -68,7 +68,14 @@ def read_table(path, *columns, names=(), known=None):
     if strange:
         note(f"{path}: the column {', '.join(strange)} is unknown and ignored; known are "
              f"{', '.join([*columns, *known])}")
-    return [_row(path, number, fields, keys, columns, mark) for number, fields in rows]
+    found = [Row(path, number, dict(zip(keys, fields)), mark) for number, fields in rows]
+    for row, (number, fields) in zip(found, rows):
+        for column in set(columns) - set(row.texts):
+            row.refuse(column, f"the row ends before it: it has {len(fields)} of {len(keys)} columns")
+        if any(fields[len(keys):]):
+            raise Refused(f"{path}: row {number} has {len(fields)} columns where row 1 has {len(keys)}; put quotes "
+                          "around a text that contains the separator of columns")
+    return found
 
 
 def once(rows, column):
@@ -94,17 +101,6 @@ def _keys(path, header, columns, names):
             raise Refused(f"{path}: row 1: the column {found} {fault} among {', '.join(filter(None, header))}")
         keys[folded.index(found)] = column
     return keys
-
-
-def _row(path, number, fields, keys, columns, mark):
-    """A row of the table, as long as the first."""
-    row = Row(path, number, dict(zip(keys, fields)), mark)
-    for column in set(columns) - set(row.texts):
-        row.refuse(column, f"the row ends before it: it has {len(fields)} of {len(keys)} columns")
-    if any(fields[len(keys):]):
-        raise Refused(f"{path}: row {number} has {len(fields)} columns where row 1 has {len(keys)}; put quotes around "
-                      "a text that contains the separator of columns")
-    return row
 
 
 def _fields(path):
@@ -136,21 +132,18 @@ def _text(path):
         raise Refused(f"{path}: row {row} isn't UTF-8; save the table as 'CSV UTF-8'") from None
 
 
-def listed(words, names, where):
-    """The names in a list that is separated by commas, each of which has to be one of these; a name with a comma stands
-    in double quotes."""
-    fields = next(csv.reader([unicodedata.normalize("NFC", words)], skipinitialspace=True), [])
-    found = [" ".join(field.split()) for field in fields]
-    for name in (name for name in found if name not in names):
-        raise Refused(f"'{name}' isn't in {where}")
-    if len(set(found)) < len(found) or not found:
-        raise Refused(f"'{words}' names a node twice, or none")
-    return found
-
-
 def terminals(sources, sinks, names, where):
-    """The sources and the sinks, from two lists in texts; no node may be both."""
-    both = [listed(words, names, where) for words in (sources, sinks)]
+    """The sources and the sinks, from two lists in texts that are separated by commas; a name with a comma stands in
+    double quotes. Each has to be one of these names, and none may be both."""
+    both = []
+    for words in (sources, sinks):
+        fields = next(csv.reader([unicodedata.normalize("NFC", words)], skipinitialspace=True), [])
+        found = [" ".join(field.split()) for field in fields]
+        for name in (name for name in found if name not in names):
+            raise Refused(f"'{name}' isn't in {where}")
+        if len(set(found)) < len(found) or not found:
+            raise Refused(f"'{words}' names a node twice, or none")
+        both.append(found)
     for name in set(both[0]) & set(both[1]):
         raise Refused(f"'{name}' is a source and a sink")
     return both

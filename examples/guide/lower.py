@@ -60,16 +60,6 @@ def greatest(flow, arcs, sources, sinks, units):
     return [amount + along - against for amount, along, against in zip(units, more, more[len(arcs):])]
 
 
-def read(path):
-    """The rows of a table as (from, to, low, high)."""
-    arcs = []
-    for row in tables.read_table(path, "from", "to", "low", "high"):
-        arcs.append((row.name("from"), row.name("to"), row.whole("low"), row.whole("high")))
-        if arcs[-1][2] > arcs[-1][3]:
-            row.refuse("low", f"{arcs[-1][2]} is greater than high, which is {arcs[-1][3]}")
-    return arcs
-
-
 def tell_why(names, arcs, sources, side):
     """That no flow keeps the limits, and the nodes that show it."""
     into = sum(low for src, dst, low, _ in arcs if dst in side and src not in side)
@@ -88,7 +78,11 @@ def main():
     words.add_argument("sources", help="the names of the sources, separated by commas")
     words.add_argument("sinks", help="the names of the sinks, separated by commas")
     given = words.parse_args()
-    arcs, flow = read(given.table), Flow()
+    arcs, flow = [], Flow()
+    for row in tables.read_table(given.table, "from", "to", "low", "high"):
+        arcs.append((row.name("from"), row.name("to"), row.whole("low"), row.whole("high")))
+        if arcs[-1][2] > arcs[-1][3]:
+            row.refuse("low", f"{arcs[-1][2]} is greater than high, which is {arcs[-1][3]}")
     names = list(dict.fromkeys(end for arc in arcs for end in arc[:2]))
     sources, sinks = tables.terminals(given.sources, given.sinks, names, given.table)
     units, side = feasible(flow, arcs, sources, sinks)

@@ -52,7 +52,11 @@ def weakest(names, ends):
             one, other = numbers[small[:, link]]
             place[place == other] = one
             left = left[place[ends[0, left]] != place[ends[1, left]]]
-    return Weak(least, np.flatnonzero(found), spots_of(names, ends, found, least))
+    # Without the links of all least cuts, the weakest spots are the parts to which just so many of these lead.
+    part, names = part_of(len(names), ends[:, ~found]), np.array(names, object)
+    leading = np.bincount(part[ends[:, found]].ravel())
+    spots = [names[part == number].tolist() for number in np.flatnonzero(leading == least)]
+    return Weak(least, np.flatnonzero(found), sorted(spots, key=len))
 
 
 def surely_strong(count_, ends, least):
@@ -81,14 +85,6 @@ def part_of(count_, ends):
     """Of each of so many places the number of the part that it is in, where links between these ends join places."""
     links = coo_matrix((np.ones(ends.shape[1]), ends), (count_, count_))
     return csgraph.connected_components(links, directed=False)[1]
-
-
-def spots_of(names, ends, found, least):
-    """The weakest spots: without the links of all least cuts, the parts to which just so many of these lead."""
-    part = part_of(len(names), ends[:, ~found])
-    leading = np.bincount(part[ends[:, found]].ravel())
-    names = np.array(names, object)
-    return sorted((names[part == number].tolist() for number in np.flatnonzero(leading == least)), key=len)
 
 
 def new_link(graph, where, spots):

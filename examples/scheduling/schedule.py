@@ -30,11 +30,13 @@ WORDS = "can't", "could, and doesn't", "works", "works, as wished"
 
 
 class Week:
-    """The people and shifts, and their network: a unit of flow is one person in one shift. It goes from the source to
-    the person, the person's day, the shift and the sink. `low` and `high` are the limits of each arc."""
+    """The people and shifts of two tables, and their network: a unit of flow is one person in one shift. It goes from
+    the source to the person, the person's day, the shift and the sink. `low` and `high` are the limits of each arc. A
+    roster can keep the least of all."""
 
     def __init__(self, people, shifts):
-        shifts, people = tables.once(shifts, "shift"), tables.once(people, "person")
+        people = tables.once(tables.read_table(people, "person", "most", "can", known=("least", "wishes")), "person")
+        shifts = tables.once(tables.read_table(shifts, "shift", "day", "places", known=["least"]), "shift")
         if not shifts or not people:
             raise script.Refused("people and shifts need a row each")
         self.day = {name: row.name("day") for name, row in shifts.items()}
@@ -53,6 +55,7 @@ class Week:
         self.src, self.dst, self.nodes = src.astype(np.uint32), dst.astype(np.uint32), 2 + len(self.node)
         stops = np.cumsum([0, len(people), len(shifts), len(self.pairs)])
         self.of_people, self.of_shifts, self.of_pairs = map(slice, stops, stops[1:])
+        self.check_least()
 
     def cut(self, high, nearest="sources"):
         """The minimum cut of the network with these capacities."""
@@ -121,14 +124,6 @@ class Week:
         return [pair for pair, units in zip(self.pairs, flow) if units], granted
 
 
-def read_week(people, shifts):
-    """The week of two tables, where a roster can keep the least of all."""
-    week = Week(tables.read_table(people, "person", "most", "can", known=("least", "wishes")),
-                tables.read_table(shifts, "shift", "day", "places", known=["least"]))
-    week.check_least()
-    return week
-
-
 def limits(row, most):
     """The least and the most of a row."""
     high = row.whole(most, most=10 ** 6)
@@ -154,17 +149,15 @@ def explain(week):
     short = [shift for shift in week.shifts if outside[week.node[None, shift]]]
     if not short:
         return
-    owner = {node: key[0] if isinstance(key, tuple) else key for key, node in week.node.items()}
-    gives, arcs = Counter(), np.flatnonzero(far.side[week.src] & outside[week.dst] & (week.dst != SINK))
-    for arc in arcs:
-        end = week.dst[arc] if week.src[arc] == SOURCE else week.src[arc]
-        gives[owner[end]] += int(week.high[arc])
-    gives = {name: gives[name] for name in week.people if gives[name]}
+    owner = np.array(["", "", *(key[0] if isinstance(key, tuple) else key for key in week.node)], object)
+    owners = owner[np.where(week.src == SOURCE, week.dst, week.src)]
+    crosses = far.side[week.src] & outside[week.dst] & (week.dst != SINK)
+    gives = {name: week.high[crosses & (owners == name)].sum() for name in week.people}
     helpers = [name for name in week.people
                if any(shift not in week.can[name] and near.side[week.node[name, week.day[shift]]] for shift in short)]
     places = sum(int(week.high[week.of_shifts][week.shifts.index(shift)]) for shift in short)
     print(f"these shifts have {count(places, 'place')}: {', '.join(short)}")
-    told = ", ".join(f"{name} ({number})" for name, number in gives.items())
+    told = ", ".join(f"{name} ({number})" for name, number in gives.items() if number)
     print(f"at most {sum(gives.values())} of them can be filled: {told or 'nobody can work then'}")
     print(f"one more would be filled if one of these could work then: {', '.join(helpers) or 'nobody'}")
     raised = [name for name in week.people if outside[week.node[name]]]
@@ -214,7 +207,7 @@ def main():
         parser.add_argument(table, nargs="?", default=os.path.join(HERE, f"{table}.csv"), help="else the example's own")
     parser.add_argument("--out", metavar="FOLDER", help="where the roster goes; else out/scheduling")
     words = parser.parse_args()
-    week = read_week(words.people, words.shifts)
+    week = Week(words.people, words.shifts)
     pairs, granted = week.roster()
     tell(week, pairs, granted)
     picture, table = (script.output(words, "scheduling", f"roster.{kind}") for kind in ("png", "csv"))

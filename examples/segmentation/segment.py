@@ -25,10 +25,8 @@ PAINTS = {"object": (255, 0, 0), "background": (0, 0, 255)}
 STEP, LINK = 900, 35_000
 """The squared difference of colours at which an outline costs half of what it costs in flat ground, and what it costs
 there, between two pixels side by side, where --outline is 10. Between slanting ones it costs 7 tenths of that."""
-FIXED = 2 ** 40
-"""What it costs to take a marked pixel for the other kind: more than all else about a pixel."""
-SAMPLES, SHOWN = 12, 1600
-"""How many colours stand for those of all strokes of a kind, and how wide the picture of the result is at the most."""
+FIXED = 2 ** 40  # What it costs to take a marked pixel for the other kind: more than all else about a pixel.
+SAMPLES, SHOWN = 12, 1600  # How many colours stand for the strokes of a kind, and how wide the sheet is at the most.
 
 
 def marks_of(path, picture):

@@ -41,13 +41,13 @@ class Problem:
             self._numbers[name] = len(self.names)
         return self._numbers[name]
 
-    def source(self, name):
-        """Makes a node a source. A source gives as much as its arcs take."""
-        self.sources.append(self.node(name))
+    def source(self, *names):
+        """Makes nodes sources. A source gives as much as its arcs take."""
+        self.sources.extend(map(self.node, names))
 
-    def sink(self, name):
-        """Makes a node a sink. A sink takes as much as its arcs bring."""
-        self.sinks.append(self.node(name))
+    def sink(self, *names):
+        """Makes nodes sinks. A sink takes as much as its arcs bring."""
+        self.sinks.extend(map(self.node, names))
 
     def arc(self, src, dst, capacity):
         """Adds an arc. Parallel arcs add up."""

@@ -42,10 +42,8 @@ class Links:
         for site, capacity in self.limits.items():
             self.problem.arc(site, self.out_of(site), capacity)
         sources, sinks = tables.terminals(words.sources, words.sinks, self.names, words.table)
-        for name in sources:
-            self.problem.source(name)
-        for name in sinks:
-            self.problem.sink(self.out_of(name))
+        self.problem.source(*sources)
+        self.problem.sink(*map(self.out_of, sinks))
 
     def out_of(self, name):
         """The node at which the arcs out of a site begin: one of its own where the site has a capacity."""

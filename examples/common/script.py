@@ -33,11 +33,6 @@ def run(main):
     sys.exit(status)
 
 
-def note(words):
-    """Prints a note for the user on standard error."""
-    print(f"{os.path.basename(sys.argv[0])}: {words}", file=sys.stderr, flush=True)
-
-
 def count(number, thing, things=None):
     """So many of a thing, in words: '1 link', '2 links', '3 people'."""
     return f"{number:,} {thing if number == 1 else things or thing + 's'}"

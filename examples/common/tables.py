@@ -10,14 +10,15 @@ and column. Texts are brought into one form of Unicode (NFC), so that names that
 import codecs
 import csv
 import io
+import os
 import re
+import sys
 import unicodedata
 from fractions import Fraction
 
-from script import Refused, note
+from script import Refused
 
-GREATEST = 2 ** 64 - 1
-"""The greatest capacity that `flow` takes."""
+GREATEST = 2 ** 64 - 1  # The greatest capacity that `flow` takes.
 OTHER_NAMES = {"from": ("source", "src", "one"), "to": ("target", "dst", "other"), "capacity": ("weight", "cap"),
                "place": ("site", "node")}
 """What a column may be called too. Small letters and capitals are the same."""
@@ -66,8 +67,8 @@ def read_table(path, *columns, names=(), known=None):
     keys = _keys(path, header, columns, dict(names))
     strange = [name for name, key in zip(header, keys) if name and key not in (*columns, *(known or keys))]
     if strange:
-        note(f"{path}: the column {', '.join(strange)} is unknown and ignored; known are "
-             f"{', '.join([*columns, *known])}")
+        print(f"{os.path.basename(sys.argv[0])}: {path}: the column {', '.join(strange)} is unknown and ignored; known "
+              f"are {', '.join([*columns, *known])}", file=sys.stderr, flush=True)
     found = [Row(path, number, dict(zip(keys, fields)), mark) for number, fields in rows]
     for row, (number, fields) in zip(found, rows):
         for column in set(columns) - set(row.texts):
@@ -104,9 +105,17 @@ def _keys(path, header, columns, names):
 
 
 def _fields(path):
-    """The separator of columns, and the number and the texts of each row that isn't empty. Excel's line `sep=;` names
-    the separator, and Excel doesn't count it as a row; else it is the first row's most frequent one outside quotes."""
-    text, number = _text(path), 0
+    """The separator of columns, and the number and the texts of each row that isn't empty, out of a file in UTF-8, or
+    in UTF-16 with its mark. Excel's line `sep=;` names the separator, and Excel doesn't count it as a row; else it is
+    the first row's most frequent one outside quotes."""
+    with open(path, "rb") as file:
+        raw, number = file.read(), 0
+    wide = raw.startswith((codecs.BOM_UTF16_LE, codecs.BOM_UTF16_BE))
+    try:
+        text = unicodedata.normalize("NFC", raw.decode("utf-16" if wide else "utf-8-sig"))
+    except UnicodeDecodeError as failure:
+        row = 1 + raw.count(b"\n", 0, failure.start + 3 * raw.startswith(codecs.BOM_UTF8))
+        raise Refused(f"{path}: row {row} isn't UTF-8; save the table as 'CSV UTF-8'") from None
     named = re.match(r"sep=(.)\r?\n", text)
     text = text[named.end():] if named else text
     mark = named.group(1) if named else max(",;\t", key="".join(text.split("\n", 1)[0].split('"')[::2]).count)
@@ -118,18 +127,6 @@ def _fields(path):
     except csv.Error as failure:
         raise Refused(f"{path}: row {number + 1} isn't a row of a table: {failure}") from None
     return mark, rows
-
-
-def _text(path):
-    """What a file holds, in UTF-8, or in UTF-16 with its mark."""
-    with open(path, "rb") as file:
-        raw = file.read()
-    wide = raw.startswith((codecs.BOM_UTF16_LE, codecs.BOM_UTF16_BE))
-    try:
-        return unicodedata.normalize("NFC", raw.decode("utf-16" if wide else "utf-8-sig"))
-    except UnicodeDecodeError as failure:
-        row = 1 + raw.count(b"\n", 0, failure.start + 3 * raw.startswith(codecs.BOM_UTF8))
-        raise Refused(f"{path}: row {row} isn't UTF-8; save the table as 'CSV UTF-8'") from None
 
 
 def terminals(sources, sinks, names, where):

@@ -52,10 +52,7 @@ class Spare:
             self.room[2 * arc] = self.room[2 * arc + 1] = 0
         starts = {node: amount for node, amount in over.items() if amount > 0}
         ends = {node: -amount for node, amount in over.items() if amount < 0}
-        while starts and ends:
-            way = self._way(starts, ends)
-            if way is None:
-                break
+        while way := self._way(starts, ends):
             start, end = self.heads[way[0] ^ 1], self.heads[way[-1]]
             amount = min(starts[start], ends[end], *(self.room[half] for half in way))
             for half in way:
@@ -105,9 +102,8 @@ def sites_of(given):
     problem, within = given.problem, len(given.problem.arcs) - len(given.limits)
     arcs = {name: [] for name in given.names}
     for place, (src, dst, _) in enumerate(problem.arcs[:within]):
-        for name in {problem.names[src - 1], problem.names[dst - 1]}:
-            if name in arcs:
-                arcs[name].append(place)
+        for name in arcs.keys() & {problem.names[src - 1], problem.names[dst - 1]}:
+            arcs[name].append(place)
     arcs.update((name, [within + place]) for place, name in enumerate(given.limits))
     for node in problem.sources + problem.sinks:
         arcs.pop(problem.names[node - 1].removesuffix(" (out)"), None)

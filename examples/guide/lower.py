@@ -49,9 +49,8 @@ def greatest(flow, arcs, sources, sinks, units):
     """The greatest flow within the limits, from any that keeps them: what can still be sent is a flow over what is left
     along and against the arcs. With sources and sinks exchanged it is the least flow."""
     problem = Problem()
-    for nodes, add in ((sources, problem.source), (sinks, problem.sink)):
-        for node in nodes:
-            add(node)
+    problem.source(*sources)
+    problem.sink(*sinks)
     for (src, dst, _, high), amount in zip(arcs, units):
         problem.arc(src, dst, high - amount)
     for (src, dst, low, _), amount in zip(arcs, units):
@@ -94,7 +93,6 @@ def main():
     print(f"value {value}")
     for (src, dst, low, high), amount in zip(arcs, units):
         print(f"{src} -> {dst}: {amount} of {low} to {high}")
-    return 0
 
 
 if __name__ == "__main__":

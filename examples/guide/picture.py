@@ -56,14 +56,14 @@ def write_problem(width, height, grey, objects, background):
                 strength = 1 + 1000 // (1 + (here - grey[other]) ** 2)
                 arcs += [(place + 1, other + 1, strength), (other + 1, place + 1, strength)]
     print(f"p max {width * height} {len(arcs)}")
-    print("".join(f"n {node} {kind}\n" for nodes, kind in ((objects, "s"), (background, "t")) for node in nodes), end="")
+    print("".join(f"n {node} s\n" for node in objects) + "".join(f"n {node} t\n" for node in background), end="")
     print("".join("a %d %d %d\n" % arc for arc in arcs), end="")
 
 
 def main():
     kind, *words = sys.argv[1:] or [""]
     if (kind, len(words)) not in (("problem", 3), ("mask", 1)):
-        raise script.Refused("usage: picture.py problem PICTURE OBJECT BACKGROUND > PROBLEM, or picture.py mask PICTURE")
+        raise script.Refused("usage: picture.py problem PICTURE OBJECT BACKGROUND > PROBLEM, or mask PICTURE < CUT")
     width, height, grey = read_picture(words[0])
     if kind == "problem":
         write_problem(width, height, grey, *(read_places(places, width, height) for places in words[1:]))

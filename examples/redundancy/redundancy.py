@@ -24,17 +24,17 @@ from scipy.sparse import coo_matrix, csgraph
 from scipy.spatial import cKDTree
 from script import count
 
-SHOWN = 12
-"""How many spots are printed, and have their names in the picture."""
+SHOWN = 12  # How many spots are printed, and have their names in the picture.
 
 Weak = namedtuple("Weak", "least links spots")
 """How many links must fail, the numbers of those that are in some such set, and the weakest spots."""
 
 
 def weakest(names, ends):
-    """The weakest spots of a connected network, by the numbers of the ends of its links in two rows. A link is in some least cut where a minimum cut between its ends is as
-    small as the least, and nowhere else. So the library is asked for one link after the other. Where their cut is
-    greater, the two ends count as one place from here on; else all links of the cut are found at once."""
+    """The weakest spots of a connected network, whose links have their ends' numbers in two rows. A link is in some
+    least cut where a minimum cut between its ends is as small as the least, and nowhere else. So the library is asked
+    for one link after the other. Where their cut is greater, the two ends count as one place from here on; else all
+    links of the cut are found at once."""
     least, found = edge_connectivity(*ends, len(names), directed=False), np.zeros(ends.shape[1], bool)
     place = part_of(len(names), ends[:, surely_strong(len(names), ends, least)])
     left = np.flatnonzero(place[ends[0]] != place[ends[1]])
@@ -64,8 +64,6 @@ def surely_strong(count_, ends, least):
     network gets a random number, and a link of the tree the sum, bit by bit, of those whose circle it is on. Then the
     sum over every cut is 0: the only link of a cut has the number 0, and two links that make a cut have the same."""
     marks = np.random.default_rng(1).integers(1, 2 ** 62, ends.shape[1])
-    if least > 2:
-        return np.zeros(len(marks), bool)
     tree = nx.Graph()
     tree.add_edges_from((one, other, {"link": link}) for link, (one, other) in enumerate(ends.T.tolist()))
     order = [(parent, child, tree[parent][child]["link"]) for parent, child in nx.bfs_edges(tree, 0)]
@@ -73,12 +71,11 @@ def surely_strong(count_, ends, least):
     rest[[link for _, _, link in order]] = False
     for row in ends:
         np.bitwise_xor.at(sums, row[rest], marks[rest])
-    sums = sums.tolist()
     for parent, child, link in reversed(order):
         marks[link] = sums[child]
         sums[parent] ^= sums[child]
     _, place, times = np.unique(marks, return_inverse=True, return_counts=True)
-    return (marks != 0) & ((times[place] == 1) | (least == 1))
+    return (least <= 2) & (marks != 0) & ((times[place] == 1) | (least == 1))
 
 
 def part_of(count_, ends):

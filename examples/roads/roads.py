@@ -20,8 +20,7 @@ import tables
 from graphs import BLACK, BLUE, GREY, ORANGE, RED
 from provedflow import maximum_flow, minimum_cut
 
-TRIED = 12
-"""How many upgrades are tried at the most."""
+TRIED = 12  # How many upgrades are tried at the most.
 
 
 class Roads:
@@ -130,8 +129,7 @@ def main():
     parser.add_argument("--sources", metavar="NAMES", help="where the way starts, separated by commas")
     parser.add_argument("--sinks", metavar="NAMES", help="where it ends")
     parser.add_argument("--unit", metavar="WORDS", help="what the capacities count")
-    parser.add_argument("--more", metavar="NUMBER", type=Fraction, default=Fraction(500),
-                        help="by how much a road is upgraded on trial; else 500")
+    parser.add_argument("--more", metavar="NUMBER", type=Fraction, default="500", help="what an upgrade adds; else 500")
     ways = parser.add_mutually_exclusive_group()
     ways.add_argument("--one-way", action="store_true", help="the roads of a table lead from the first place alone")
     ways.add_argument("--both-ways", action="store_true", help="the edges of GraphML can be used both ways")

@@ -133,10 +133,9 @@ def limits(row, most):
 def shifts_of(row, column, shifts):
     """The shifts that a row lists between semicolons."""
     found = list(dict.fromkeys(shift.strip() for shift in row[column].split(";") if shift.strip()))
-    for shift in found:
-        if shift not in shifts:
-            where = "the column can" if column == "wishes" else "the table of shifts"
-            row.refuse(column, f"'{shift}' isn't in {where}")
+    where = "the column can" if column == "wishes" else "the table of shifts"
+    for shift in (shift for shift in found if shift not in shifts):
+        row.refuse(column, f"'{shift}' isn't in {where}")
     return found
 
 

@@ -20,8 +20,7 @@ from provedflow.pixels import Grid
 from scipy import ndimage
 
 Image.MAX_IMAGE_PIXELS = None
-PAINTS = {"object": (255, 0, 0), "background": (0, 0, 255)}
-"""The colours of the strokes. Each channel of a painted pixel may differ from them by 60."""
+PAINTS = {"object": (255, 0, 0), "background": (0, 0, 255)}  # Each channel of a stroke may differ from these by 60.
 STEP, LINK = 900, 35_000
 """The squared difference of colours at which an outline costs half of what it costs in flat ground, and what it costs
 there, between two pixels side by side, where --outline is 10. Between slanting ones it costs 7 tenths of that."""
@@ -68,7 +67,8 @@ def cut(pixels, marks, words):
     """The value of a minimum cut, and the mask of the object: the fewest pixels of all that cost as little."""
     def outline(here, there, step):
         flat = int(LINK * words.outline / 10 * (8 / words.neighbours) * (0.7 if all(step) else 1))
-        return flat * STEP // (STEP + ((here - there) ** 2).sum(axis=-1))
+        unlike = sum((here[..., channel] - there[..., channel]) ** 2 for channel in range(3))
+        return flat * STEP // (STEP + unlike)
 
     grid, costs = Grid(pixels.shape[:2], words.neighbours), colour_costs(pixels, marks)
     grid.join(outline, of=pixels)

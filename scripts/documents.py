@@ -27,13 +27,11 @@ REPOSITORY = pathlib.Path(__file__).resolve().parent.parent
 SECONDS = 600
 LIBRARY_PLACES = ("C_INCLUDE_PATH", "CPLUS_INCLUDE_PATH", "LIBRARY_PATH", "LD_LIBRARY_PATH")
 LAST_LINES = 40  # Of the errors of a command of the checkout that didn't print what is shown.
-PAGES_OF_FIGURES = "README.md", "docs/BENCHMARKS.md"
 NUMBER = (r"(?:\d[\d,.]*[\s-]*|(?:one|two|three|four|five|six|seven|eight|nine|ten|twelve|fifteen|twenty|thirty|forty|"
           r"fifty|sixty|hundred|thousand|few|several|half an?)[\s-]+)")
 SPEED = re.compile(rf"\b{NUMBER}(?:CPU[\s-])?(?:[mµ]?s|(?:milli|micro)?seconds?|minutes?|hours?|times|%|per ?cent)(?!\w)"
                    r"|\b(?:twice|thrice|half) as (?:long|fast|slow|quick)", re.I)
-CODE = re.compile(r"^```.*?^```$|^    .*?$|`[^`\n]+`", re.M | re.S)
-NO_SPEED = re.compile("times the greatest capacity")
+NO_SPEED = re.compile(r"^```.*?^```$|^    .*?$|`[^`\n]+`|times the greatest capacity", re.M | re.S)  # Code, a limit.
 counts = {True: 0, False: 0}
 
 
@@ -143,9 +141,8 @@ def check_speed():
     """Looks for figures of speed in the prose of pages that no benchmark writes."""
     for page in sorted(page for kind in ("*.md", "docs/*.md", "examples/**/*.md") for page in REPOSITORY.glob(kind)):
         name = str(page.relative_to(REPOSITORY))
-        if name not in PAGES_OF_FIGURES:
-            blank = CODE.sub(lambda code: re.sub(r"[^\n]", "_", code.group()), page.read_text())
-            prose = NO_SPEED.sub(lambda words: "_" * len(words.group()), blank)
+        if name not in ("README.md", "docs/BENCHMARKS.md"):
+            prose = NO_SPEED.sub(lambda text: re.sub(r"[^\n]", "_", text.group()), page.read_text())
             found = [f"line {prose.count(chr(10), 0, figure.start()) + 1}: {figure.group()}"
                      for figure in SPEED.finditer(prose)]
             check(not found, f"{name} has figures of speed in its prose:", *found)

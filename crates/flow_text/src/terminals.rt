@@ -1,24 +1,35 @@
 //! The terminals that the node lines name.
-ghost use Rattle.std.specs.Prelude.{◌≡◌, ◌++◌, [], OnOk, OnErr, false};
+ghost use Rattle.std.specs.Prelude.{◌≡◌, ℕ, ◌++◌, ◌||◌, ◌==◌, [], OnOk, OnErr, false, slice_index_or};
 ghost use Rattle.flow_net.specs.Limits.{AreDistinct};
 ghost use Rattle.flow_text.specs.Terminals.{is_marked, lacks_one, with_mark};
 
 use std::alloc::{AllocError, Global};
-use std::collections::BTreeSet;
 use std::marker::Model;
 
-/// The sources and the sinks, all different, in the order of their lines, and the set of all of them for a look-up.
+/// The sources and the sinks, all different, in the order of their lines.
 #[derive(Drop)]
 pub(crate) struct Terminals {
     sources: Vec<u32>,
     sinks: Vec<u32>,
-    all: BTreeSet<u32>,
+    /// Whether each node, up to the greatest terminal, is one.
+    marks: Vec<bool>,
+}
+
+/// Marks a node, in a list with a mark for each node up to the greatest that was marked.
+fn mark(marks: &mut Vec<bool>, node: u32) -> Result<(), AllocError>
+    ensures { OnOk result ((q : ℕ) → slice_index_or marks.new.items q false
+        ≡ slice_index_or marks.old.items q false || q == node) }
+{
+    let place = node as usize;
+    if marks.len() <= place {
+        marks.resize(place + 1, false)?;
+    }
+    marks[place] = true;
+    Ok(())
 }
 
 impl Model for Terminals {
-    ghost use Rattle.std.specs.Prelude.{◌≡◌, ◌++◌, ℕ};
-    ghost use Rattle.std.specs.Ordering.{nat_cmp};
-    ghost use Rattle.std.specs.BTreeSet as sorted;
+    ghost use Rattle.std.specs.Prelude.{◌≡◌, ◌++◌, ℕ, false, slice_index_or};
     ghost use Rattle.flow_net.specs.Limits.{AreDistinct};
     ghost use Rattle.flow_text.specs.Terminals.{Marks, is_marked};
 
@@ -27,7 +38,7 @@ impl Model for Terminals {
     ghost view = { λ t. record { sources = t.sources.items; sinks = t.sinks.items } };
 
     ghost invariant = { λ t. record {
-      all : (q : ℕ) → sorted.contains nat_cmp t.all q
+      all : (q : ℕ) → slice_index_or t.marks.items q false
           ≡ is_marked (record { sources = t.sources.items; sinks = t.sinks.items }) q;
       distinct : AreDistinct (t.sources.items ++ t.sinks.items);
     } };
@@ -41,7 +52,7 @@ impl Terminals {
         Terminals {
             sources: Vec::new(alloc),
             sinks: Vec::new(alloc),
-            all: BTreeSet::new(alloc),
+            marks: Vec::new(alloc),
         }
     }
 
@@ -49,7 +60,8 @@ impl Terminals {
     pub(crate) fn contains(&self, node: u32) -> bool
         ensures { result ≡ is_marked self.now node }
     {
-        self.all.contains(&node)
+        let place = node as usize;
+        place < self.marks.len() && self.marks[place]
     }
 
     /// Whether there is no source or no sink.
@@ -65,7 +77,7 @@ impl Terminals {
         ensures ok { OnOk result (self.new ≡ with_mark self.old node is_source) }
         ensures err { OnErr result (self.new ≡ record { sources = []; sinks = [] }) }
     {
-        if self.all.insert(node).is_ok() {
+        if mark(&mut self.marks, node).is_ok() {
             if is_source {
                 if self.sources.push(node).is_ok() {
                     return Ok(());
@@ -76,7 +88,7 @@ impl Terminals {
         }
         self.sources.clear();
         self.sinks.clear();
-        self.all.clear();
+        self.marks.clear();
         Err(AllocError)
     }
 
@@ -89,7 +101,7 @@ impl Terminals {
         let Terminals {
             sources,
             sinks,
-            all: _,
+            marks: _,
         } = self;
         (sources, sinks)
     }

@@ -1,28 +1,23 @@
 -- What a line of the usual form says.
-use Rattle.std.proofs.Common.{◌≡◌, ◌<◌, ◌≤◌, ℕ, suc, ◌+◌, ◌-◌, ◌*◌, ◌^◌, Bool, true, false, ◌&&◌, List, [], ◌∷◌, ◌++◌}
-use Rattle.std.proofs.Common.{length, get_or, take, drop, refl, ap, ◌∙◌, sym, subst, arith, add-one, drop-cons}
-use Rattle.std.proofs.Common.{append_assoc, length-append, Some, None, nat_lt, rules as std_rules}
-use Rattle.std.specs.List.{All}
+use Rattle.std.proofs.Common.{◌≡◌, ◌<◌, ◌≤◌, ℕ, zero, suc, ◌+◌, ◌-◌, ◌*◌, ◌^◌, Bool, true, false, ◌&&◌, List, [], ◌∷◌, ◌++◌}
+use Rattle.std.proofs.Common.{length, get_or, take, drop, refl, ap, ◌∙◌, sym, subst, arith, add-one, drop-cons, inl, inr}
+use Rattle.std.proofs.Common.{length-append, None, nat_lt, rules as std_rules}
 use Rattle.std.specs.Char.{is_ascii_digit}
 use Rattle.std.specs.Str.{all_ascii_digits}
 use Rattle.std.proofs.lemmas.Grind.{common_steps}
-use Rattle.std.proofs.lemmas.Bool.{true≢false}
-use Rattle.std.proofs.lemmas.List.{take-append-drop, drop-drop, get_or-drop, length-drop, length-take-le, take_more}
-use Rattle.std.proofs.lemmas.List.{get_or_append_left}
-use Rattle.std.proofs.lemmas.List.Elements.{All-cons, All-append, All-get_or}
+use Rattle.std.proofs.lemmas.Bool.{true≢false, cases_lt}
+use Rattle.std.proofs.lemmas.List.{get_or-drop, get_or-take, length-drop, length-take-le, take_more, drop-take}
+use Rattle.std.proofs.lemmas.List.{take-take, drop_all}
 use Rattle.std.proofs.Math.Nat.{pow-suc}
-use Rattle.std.proofs.Math.Seq.{take-append_seam, get_or-append_seam}
-use Rattle.memchr.specs.Find.{IsFirstByte, is_byte}
-use Rattle.flow_text.specs.LineParts.{is_end}
+use Rattle.flow_text.specs.LineParts.{is_blank, is_end}
 use Rattle.flow_text.specs.Fields.{fields_of}
-use Rattle.flow_text.specs.LineParts.{is_blank}
 use Rattle.flow_text.specs.Digits.{value_of}
 use Rattle.flow_text.specs.Numbers.{is_number}
-use Rattle.flow_text.specs.Rules.{is_comment}
 use Rattle.flow_text.specs.Tests.{first_failed, ends_tests}
 use Rattle.flow_text.specs.declared.faults.FaultCode.{FaultCode}
-use Rattle.flow_text.specs.UsualLines.{IsLeading, IsNumberUntil, IsLetter, IsUsual}
-use Rattle.flow_text.proofs.FieldLemmas.{fields_of-field, fields_of-blank, fields_of-last}
+use Rattle.flow_text.specs.declared.usual_lines.TheConstants.{MOST_BLANKS}
+use Rattle.flow_text.specs.UsualLines.{AreBlanks, IsLeading, IsNumberBehind, IsLetter, IsUsual}
+use Rattle.flow_text.proofs.FieldLemmas.{fields_of-at, fields_of-drop}
 use Rattle.flow_net.specs.declared.limits.TheConstants.{GREATEST_CAPACITY}
 
 -- one digit more
@@ -63,152 +58,170 @@ pub IsLeading-none : (text : List ℕ) → IsLeading text 0 0
 unfolding value_of
 IsLeading-none text = record { digits = refl; value_is = refl; fits = omega arith }
 
--- digits are no blanks, and they end no line
-All-digits : (P : ℕ → Type 0) → ((c : ℕ) → is_ascii_digit c ≡ true → P c) → (xs : List ℕ) → all_ascii_digits xs ≡ true
-    → All P xs
-All-digits P each [] h = search std_rules
-All-digits P each (x ∷ xs) h =
-    let parts = and-parts (is_ascii_digit x) (all_ascii_digits xs) h in
-    All-cons P x xs (each x parts.0) (All-digits P each xs parts.1)
+number-of : (field : List ℕ) → 0 < length field → all_ascii_digits field ≡ true → is_number field ≡ true
+number-of field some digits = grind (arith, common_steps)
 
-solid : (c : ℕ) → is_ascii_digit c ≡ true → is_blank c ≡ false
-solid c h = grind (arith, common_steps)
+-- blanks and digits end no line, and digits are no blanks
+inner-blank : (c : ℕ) → is_blank c ≡ true → is_end c ≡ false
+inner-blank c h = grind (arith, common_steps)
 
 inner : (c : ℕ) → is_ascii_digit c ≡ true → is_end c ≡ false
 inner c h = grind (arith, common_steps)
 
-number-of : (field : List ℕ) → 0 < length field → all_ascii_digits field ≡ true → is_number field ≡ true
-number-of field some digits = grind (arith, common_steps)
+solid : (c : ℕ) → is_ascii_digit c ≡ true → is_blank c ≡ false
+solid c h = grind (arith, common_steps)
 
--- a text that begins with a number and a byte
-pub split-number : (text : List ℕ) (end value count : ℕ) → IsNumberUntil text end value count
-    → text ≡ take count text ++ end ∷ drop (count + 1) text
-split-number text end value count n =
-    sym (take-append-drop count text)
-    ∙ ap (λ more. take count text ++ more)
-    (drop-cons text count 0 n.within ∙ ap (λ c. c ∷ drop (suc count) text) n.ends
-    ∙ ap (λ k. end ∷ drop k text) (sym (add-one count)))
+-- one of some digits
+digit-in : (xs : List ℕ) (k : ℕ) → k < length xs → all_ascii_digits xs ≡ true → is_ascii_digit (get_or xs k 0) ≡ true
+digit-in [] k low digits = elim low [ ]
+digit-in (x ∷ xs) zero low digits = (and-parts (is_ascii_digit x) (all_ascii_digits xs) digits).0
+digit-in (x ∷ xs) (suc k) low digits =
+    digit-in xs k (omega arith) (and-parts (is_ascii_digit x) (all_ascii_digits xs) digits).1
 
--- the fields of a line of the usual form
-usual : ℕ → List ℕ → List ℕ → List ℕ → List ℕ
-usual letter src dst number = letter ∷ 32 ∷ (src ++ 32 ∷ (dst ++ 32 ∷ number))
+-- one of the digits of a number, by its place in the text
+digit-at : (text : List ℕ) (value begin end k : ℕ) → IsLeading (drop begin text) value (end - begin) → begin ≤ k → k < end
+    → end ≤ length text → is_ascii_digit (get_or text k 0) ≡ true
+digit-at text value begin end k leading low high within =
+    let field = take (end - begin) (drop begin text) in
+    let long : length field ≡ end - begin =
+    length-take-le (end - begin) (drop begin text) (omega (arith, length-drop begin text)) in
+    let same : get_or field (k - begin) 0 ≡ get_or text k 0 =
+    get_or-take (end - begin) (drop begin text) (k - begin) 0 (omega arith) ∙ get_or-drop begin text (k - begin) 0
+    ∙ ap (λ i. get_or text i 0) (omega arith) in
+    rw (← same) (digit-in field (k - begin) (omega arith) leading.digits)
 
-fields-usual : (letter : ℕ) (src dst number : List ℕ) → is_blank letter ≡ false
-    → (0 < length src) × (all_ascii_digits src ≡ true) → (0 < length dst) × (all_ascii_digits dst ≡ true)
-    → (0 < length number) × (all_ascii_digits number ≡ true)
-    → fields_of (usual letter src dst number) ≡ (letter ∷ []) ∷ src ∷ dst ∷ number ∷ []
-unfolding usual
-fields-usual letter src dst number plain s d n =
-    let P : ℕ → Type 0 = λ c. is_blank c ≡ false in
-    fields_of-field (letter ∷ []) 32 (src ++ 32 ∷ (dst ++ 32 ∷ number)) (omega arith)
-    (All-cons P letter [] plain (search std_rules)) refl
-    ∙ ap (λ fs. (letter ∷ []) ∷ fs) (fields_of-blank 32 (src ++ 32 ∷ (dst ++ 32 ∷ number)) refl
-    ∙ fields_of-field src 32 (dst ++ 32 ∷ number) s.0 (All-digits P solid src s.1) refl
-    ∙ ap (λ fs. src ∷ fs) (fields_of-blank 32 (dst ++ 32 ∷ number) refl
-    ∙ fields_of-field dst 32 number d.0 (All-digits P solid dst d.1) refl
-    ∙ ap (λ fs. dst ∷ fs) (fields_of-blank 32 number refl ∙ fields_of-last number n.0 (All-digits P solid number n.1))))
+-- no byte of a number behind blanks ends a line
+inside-number : (text : List ℕ) (start value end : ℕ) → IsNumberBehind text start value end → (k : ℕ) → start ≤ k
+    → k < end → is_end (get_or text k 0) ≡ false
+inside-number text start value end n k low high = elim (cases_lt k n.begin) [
+  | inl before ↦ inner-blank (get_or text k 0) (n.blanks k low before)
+  | inr from ↦
+      inner (get_or text k 0) (digit-at text value n.begin end k n.leading (omega arith) high n.within)
+]
 
--- a line of the usual form, and its byte 10
-inside-usual : (letter : ℕ) (src dst number : List ℕ) → is_end letter ≡ false → all_ascii_digits src ≡ true
-    → all_ascii_digits dst ≡ true → all_ascii_digits number ≡ true
-    → All (λ c. is_end c ≡ false) (usual letter src dst number)
-unfolding usual
-inside-usual letter src dst number end s d n =
-    let P : ℕ → Type 0 = λ c. is_end c ≡ false in
-    let last = All-append P dst (32 ∷ number) (All-digits P inner dst d)
-    (All-cons P 32 number refl (All-digits P inner number n)) in
-    All-cons P letter (32 ∷ (src ++ 32 ∷ (dst ++ 32 ∷ number))) end
-    (All-cons P 32 (src ++ 32 ∷ (dst ++ 32 ∷ number)) refl
-    (All-append P src (32 ∷ (dst ++ 32 ∷ number)) (All-digits P inner src s)
-    (All-cons P 32 (dst ++ 32 ∷ number) refl last)))
+-- blanks in front change no field
+fields_of-blanks : (line : List ℕ) (i n : ℕ) → i + n ≤ length line → AreBlanks line i (i + n)
+    → fields_of (drop i line) ≡ fields_of (drop (i + n) line)
+fields_of-blanks line i zero within blanks = ap (λ k. fields_of (drop k line)) (omega arith)
+fields_of-blanks line i (suc n) within blanks =
+    sym (fields_of-drop line i (omega arith) (blanks i (omega arith) (omega arith)))
+    ∙ fields_of-blanks line (i + 1) n (omega arith) (λ k low high. blanks k (omega arith) (omega arith))
+    ∙ ap (λ k. fields_of (drop k line)) (omega arith)
 
-first-end : (line more : List ℕ) → All (λ c. is_end c ≡ false) line
-    → IsFirstByte (is_byte 10) (line ++ 10 ∷ more) (Some (length line))
-first-end line more none = (
-  record {
-    low = omega arith;
-    high = omega (arith, length-append line (10 ∷ more));
-    before = λ k low high is.
-        true≢false (sym (rw (get_or_append_left line (10 ∷ more) 0 k high) at is)
-        ∙ All-get_or (λ c. is_end c ≡ false) line k 0 high none);
-  },
-  rw (get_or-append_seam line 10 more 0) refl,
-)
+blanks-before : (text : List ℕ) (at i j : ℕ) → i ≤ j → j ≤ at → at ≤ length text → AreBlanks text i j
+    → fields_of (drop i (take at text)) ≡ fields_of (drop j (take at text))
+blanks-before text at i j rises high within blanks =
+    let line = take at text in
+    let end : i + (j - i) ≡ j = omega arith in
+    fields_of-blanks line i (j - i) (omega (arith, length-take-le at text within))
+    (λ k low high'. rw (get_or-take at text k 0 (omega arith)) (blanks k low (omega arith)))
+    ∙ ap (λ k. fields_of (drop k line)) end
 
-text-usual : (letter : ℕ) (text src dst number more : List ℕ)
-    → text ≡ letter ∷ 32 ∷ (src ++ 32 ∷ (dst ++ 32 ∷ (number ++ 10 ∷ more)))
-    → text ≡ usual letter src dst number ++ 10 ∷ more
-unfolding usual
-text-usual letter text src dst number more is =
-    is ∙ ap (λ rest. letter ∷ 32 ∷ rest) (
-    ap (λ rest. src ++ 32 ∷ rest) (sym (append_assoc dst (32 ∷ number) (10 ∷ more)))
-    ∙ sym (append_assoc src (32 ∷ (dst ++ 32 ∷ number)) (10 ∷ more)))
+-- the field that a number behind blanks is, in a line that ends later
+abbrev field_in : (text : List ℕ) (start value end : ℕ) → IsNumberBehind text start value end → List ℕ
+field_in text start value end n = take (end - n.begin) (drop n.begin text)
 
-length-usual : (letter : ℕ) (src dst number : List ℕ)
-    → length (usual letter src dst number) ≡ length src + length dst + length number + 4
-unfolding usual
-length-usual letter src dst number =
-    omega (arith, length-append src (32 ∷ (dst ++ 32 ∷ number)), length-append dst (32 ∷ number))
+fields-number : (text : List ℕ) (at start value end : ℕ) (n : IsNumberBehind text start value end) → end ≤ at
+    → at ≤ length text → (end < at → is_blank (get_or text end 0) ≡ true)
+    → fields_of (drop start (take at text)) ≡ field_in text start value end n ∷ fields_of (drop end (take at text))
+fields-number text at start value end n before within blank =
+    let some = n.some_blanks in let more = n.some_digits in
+    let line = take at text in
+    let size : length line ≡ at = length-take-le at text within in
+    let field : take (end - n.begin) (drop n.begin line) ≡ field_in text start value end n =
+    ap (λ k. take (end - n.begin) (drop n.begin (take k text))) (omega arith)
+    ∙ ap (take (end - n.begin)) (drop-take n.begin (at - n.begin) text)
+    ∙ take-take (end - n.begin) (at - n.begin) (drop n.begin text) (omega arith) in
+    blanks-before text at start n.begin (omega arith) (omega arith) within n.blanks
+    ∙ fields_of-at line n.begin end more (omega arith)
+    (λ k low high. rw (get_or-take at text k 0 (omega arith))
+    (solid (get_or text k 0) (digit-at text value n.begin end k n.leading low high n.within)))
+    (λ high. rw (get_or-take at text end 0 (omega arith)) (blank (omega arith)))
+    ∙ ap (λ f. f ∷ fields_of (drop end line)) field
 
-comment-usual : (letter : ℕ) (src dst number : List ℕ) → is_comment (letter ∷ []) ≡ false
-    → is_comment (usual letter src dst number) ≡ false
-unfolding usual
-comment-usual letter src dst number h = h
+digits-of : (text : List ℕ) (start value end : ℕ) (n : IsNumberBehind text start value end)
+    → is_number (field_in text start value end n) ≡ true
+digits-of text start value end n =
+    let some = n.some_digits in let within = n.within in
+    let long = length-take-le (end - n.begin) (drop n.begin text) (omega (arith, length-drop n.begin text)) in
+    number-of (field_in text start value end n) (omega arith) n.leading.digits
 
--- the letter and the blank in front of the numbers
-pub letter-front : (letter : ℕ) (text : List ℕ) → 2 ≤ length text → get_or text 0 0 ≡ letter → get_or text 1 0 ≡ 32
-    → text ≡ letter ∷ 32 ∷ drop 2 text
-letter-front letter text long is_letter is_blank' =
-    drop-cons text 0 0 (omega arith) ∙ ap (λ x. x ∷ drop 1 text) is_letter
-    ∙ ap (λ rest. letter ∷ rest) (drop-cons text 1 0 (omega arith) ∙ ap (λ x. x ∷ drop 2 text) is_blank')
+fields_of-nothing : fields_of [] ≡ []
+unfolding fields_of
+fields_of-nothing = refl
 
--- three numbers behind them, by the places of the bytes behind the numbers
-pub IsUsual-at : (letter : ℕ) (text : List ℕ) {src dst number : ℕ} (first second at : ℕ) → IsLetter letter
-    → text ≡ letter ∷ 32 ∷ drop 2 text → IsNumberUntil (drop 2 text) 32 src (first - 2)
-    → IsNumberUntil (drop (first + 1) text) 32 dst (second - (first + 1))
-    → IsNumberUntil (drop (second + 1) text) 10 number (at - (second + 1)) → IsUsual letter text src dst number at
-IsUsual-at letter text {src} {dst} {number} first second at l front a b c =
-    let a_some = a.some in let b_some = b.some in let c_some = c.some in
-    let a_short = a.short in let b_short = b.short in let c_short = c.short in
-    let s = take (first - 2) (drop 2 text) in
-    let d = take (second - (first + 1)) (drop (first + 1) text) in
-    let n = take (at - (second + 1)) (drop (second + 1) text) in
-    let more = drop (at - (second + 1) + 1) (drop (second + 1) text) in
-    let a_end : drop (first - 2 + 1) (drop 2 text) ≡ drop (first + 1) text =
-    drop-drop (first - 2 + 1) 2 text ∙ ap (λ k. drop k text) (omega arith) in
-    let b_end : drop (second - (first + 1) + 1) (drop (first + 1) text) ≡ drop (second + 1) text =
-    drop-drop (second - (first + 1) + 1) (first + 1) text ∙ ap (λ k. drop k text) (omega arith) in
-    let whole : text ≡ letter ∷ 32 ∷ (s ++ 32 ∷ (d ++ 32 ∷ (n ++ 10 ∷ more))) =
-    front ∙ ap (λ rest. letter ∷ 32 ∷ rest) (split-number (drop 2 text) 32 src (first - 2) a
-    ∙ ap (λ rest. s ++ 32 ∷ rest) (a_end ∙ split-number (drop (first + 1) text) 32 dst (second - (first + 1)) b
-    ∙ ap (λ rest. d ++ 32 ∷ rest) (b_end ∙ split-number (drop (second + 1) text) 10 number (at - (second + 1)) c))) in
-    let line = usual letter s d n in
-    let is : text ≡ line ++ 10 ∷ more = text-usual letter text s d n more whole in
-    let a_len = length-take-le (first - 2) (drop 2 text) (omega (arith, a.within)) in
-    let b_len = length-take-le (second - (first + 1)) (drop (first + 1) text) (omega (arith, b.within)) in
-    let c_len = length-take-le (at - (second + 1)) (drop (second + 1) text) (omega (arith, c.within)) in
-    let len : length line ≡ at = length-usual letter s d n ∙ omega arith in
-    let taken : take at text ≡ line =
-    ap (λ k. take k text) (sym len) ∙ ap (take (length line)) is ∙ take-append_seam line (10 ∷ more) in
+-- no byte before the end of such a line ends it
+inside-usual : (letter : ℕ) (text : List ℕ) {src dst number : ℕ} (first second third at : ℕ) → IsLetter letter
+    → get_or text 0 0 ≡ letter → IsNumberBehind text 1 src first → IsNumberBehind text first dst second
+    → IsNumberBehind text second number third → AreBlanks text third at → (k : ℕ) → k < at
+    → is_end (get_or text k 0) ≡ false
+inside-usual letter text {src} {dst} {number} first second third at l is_letter a b c blanks k to =
+    elim (cases_lt k third) [
+      | inr behind ↦ inner-blank (get_or text k 0) (blanks k (omega arith) to)
+      | inl third' ↦ elim (cases_lt k second) [
+        | inr last ↦ inside-number text second number third c k (omega arith) third'
+        | inl second' ↦ elim (cases_lt k first) [
+          | inr middle ↦ inside-number text first dst second b k (omega arith) second'
+          | inl first' ↦ elim (cases_lt k 1) [
+            | inr front ↦ inside-number text 1 src first a k (omega arith) first'
+            | inl none ↦ let zero' : k ≡ 0 = omega arith in rw (zero', is_letter) l.inner
+          ]
+        ]
+      ]
+    ]
+
+-- a letter, three numbers behind blanks, blanks and byte 10
+pub IsUsual-at : (letter : ℕ) (text : List ℕ) {src dst number : ℕ} (first second third at : ℕ) → IsLetter letter
+    → get_or text 0 0 ≡ letter → IsNumberBehind text 1 src first → IsNumberBehind text first dst second
+    → IsNumberBehind text second number third → third ≤ at → at ≤ third + MOST_BLANKS → at < length text
+    → AreBlanks text third at → get_or text at 0 ≡ 10 → IsUsual letter text src dst number at
+IsUsual-at letter text {src} {dst} {number} first second third at l is_letter a b c low high within blanks ends =
+    let a_blank = a.some_blanks in let a_some = a.some_digits in let a_short = a.short in
+    let b_blank = b.some_blanks in let b_some = b.some_digits in let b_short = b.short in
+    let c_blank = c.some_blanks in let c_some = c.some_digits in let c_short = c.short in
+    let line = take at text in
+    let size : length line ≡ at = length-take-le at text (omega arith) in
+    let begins : get_or line 0 0 ≡ letter = get_or-take at text 0 0 (omega arith) ∙ is_letter in
+    let one : take 1 line ≡ letter ∷ [] =
+    ap (take 1) (drop-cons line 0 0 (omega arith)) ∙ ap (λ x. x ∷ []) begins in
+    let head : fields_of line ≡ (letter ∷ []) ∷ fields_of (drop 1 line) =
+    fields_of-at line 0 1 (omega arith) (omega arith)
+    (λ k from to. let none : k ≡ 0 = omega arith in rw (none, begins) l.solid)
+    (λ more. rw (get_or-take at text 1 0 (omega arith)) (a.blanks 1 (omega arith) (omega arith)))
+    ∙ ap (λ f. f ∷ fields_of (drop 1 line)) one in
     record {
-      first =
-          subst (λ k. IsFirstByte (is_byte 10) text (Some k)) len
-          (subst (λ t. IsFirstByte (is_byte 10) t (Some (length line))) (sym is)
-          (first-end line more
-          (inside-usual letter s d n l.inner a.leading.digits b.leading.digits c.leading.digits)));
-      short = rw (taken, len) (omega arith);
-      plain = rw taken (comment-usual letter s d n l.plain);
-      src_field = s;
-      dst_field = d;
-      number_field = n;
+      first = (
+        record {
+          low = omega arith;
+          high = within;
+          before = λ k from to is.
+              true≢false (sym is ∙ inside-usual letter text first second third at l is_letter a b c blanks k to);
+        },
+        rw ends refl,
+      );
+      short = rw size (omega arith);
+      plain = rw begins l.plain;
+      src_field = field_in text 1 src first a;
+      dst_field = field_in text first dst second b;
+      number_field = field_in text second number third c;
       fields =
-          rw taken (fields-usual letter s d n l.solid (omega arith, a.leading.digits) (omega arith, b.leading.digits)
-          (omega arith, c.leading.digits));
-      src_digits = number-of s (omega arith) a.leading.digits;
+          head ∙ ap (λ fs. (letter ∷ []) ∷ fs)
+          (fields-number text at 1 src first a (omega arith) (omega arith)
+          (λ more. b.blanks first (omega arith) (omega arith))
+          ∙ ap (λ fs. field_in text 1 src first a ∷ fs)
+          (fields-number text at first dst second b (omega arith) (omega arith)
+          (λ more. c.blanks second (omega arith) (omega arith))
+          ∙ ap (λ fs. field_in text first dst second b ∷ fs)
+          (fields-number text at second number third c low (omega arith)
+          (λ more. blanks third (omega arith) (omega arith))
+          ∙ ap (λ fs. field_in text second number third c ∷ fs)
+          (blanks-before text at third at low (omega arith) (omega arith) blanks
+          ∙ ap fields_of (drop_all at line (omega arith)) ∙ fields_of-nothing))));
+      src_digits = digits-of text 1 src first a;
       src_value = sym a.leading.value_is;
-      dst_digits = number-of d (omega arith) b.leading.digits;
+      dst_digits = digits-of text first dst second b;
       dst_value = sym b.leading.value_is;
-      number_digits = number-of n (omega arith) c.leading.digits;
+      number_digits = digits-of text second number third c;
       number_value = sym c.leading.value_is;
     }
 

@@ -1,6 +1,7 @@
--- The usual form of an arc line and of a flow line: the letter, one blank, and three numbers with one blank between
--- them.
-use Rattle.std.specs.Prelude.{◌≡◌, ℕ, ◌^◌, ◌<◌, ◌≤◌, true, false, List, [], ◌∷◌, length, take, slice_index, Some}
+-- The usual form of an arc line and of a flow line: the letter, and three numbers with few blanks before each of them
+-- and behind the last.
+use Rattle.std.specs.Prelude.{◌≡◌, ℕ, ◌+◌, ◌-◌, ◌^◌, ◌<◌, ◌≤◌, true, false, List, [], ◌∷◌, length, take, drop, Some}
+use Rattle.std.specs.Prelude.{slice_index}
 use Rattle.std.specs.Str.{all_ascii_digits}
 use Rattle.memchr.specs.Find.{IsFirstByte, is_byte}
 use Rattle.flow_text.specs.LineParts.{is_end}
@@ -10,6 +11,7 @@ use Rattle.flow_text.specs.Digits.{value_of}
 use Rattle.flow_text.specs.Numbers.{is_number}
 use Rattle.flow_text.specs.Rules.{is_comment}
 use Rattle.flow_text.specs.declared.limits.TheConstants.{LONGEST_LINE, SHORT_DIGITS}
+use Rattle.flow_text.specs.declared.usual_lines.TheConstants.{MOST_BLANKS}
 
 -- the first bytes, so many, are digits of this value
 pub record IsLeading (text : List ℕ) (value count : ℕ) : Type 0 where
@@ -17,13 +19,19 @@ pub record IsLeading (text : List ℕ) (value count : ℕ) : Type 0 where
   pub value_is : value ≡ value_of (take count text)
   pub fits : value < 10 ^ count
 
--- the first bytes, so many and at most SHORT_DIGITS, are a number of this value, and this byte is behind them
-pub record IsNumberUntil (text : List ℕ) (end value count : ℕ) : Type 0 where
-  pub leading : IsLeading text value count
-  pub some : 0 < count
-  pub short : count ≤ SHORT_DIGITS
-  pub within : count < length text
-  pub ends : slice_index text count ≡ end
+-- blanks stand from one place of a text up to another
+abbrev pub AreBlanks : List ℕ → ℕ → ℕ → Type 0
+AreBlanks text i j = (k : ℕ) → i ≤ k → k < j → is_blank (slice_index text k) ≡ true
+
+-- behind some blanks from this place on a number of this value stands, and ends before that place
+pub record IsNumberBehind (text : List ℕ) (start value end : ℕ) : Type 0 where
+  pub begin : ℕ
+  pub blanks : AreBlanks text start begin
+  pub some_blanks : start < begin
+  pub leading : IsLeading (drop begin text) value (end - begin)
+  pub some_digits : begin < end
+  pub short : end ≤ start + MOST_BLANKS + SHORT_DIGITS
+  pub within : end ≤ length text
 
 -- a letter that begins a line is no blank, no byte 10, and not that of a comment
 pub record IsLetter (letter : ℕ) : Type 0 where

@@ -80,14 +80,19 @@ fn put_problem(text: &mut Vec<u8>, seed: u64, step: u32) -> bool
     is_put
 }
 
-/// Its network.
-fn network(alloc: Global, seed: u64, step: u32) -> Option<Network>
+/// Its network, where wanted with the opposite of each arc behind it.
+fn network(alloc: Global, seed: u64, step: u32, both_ways: bool) -> Option<Network>
     requires { step < ARCS }
 {
     let mut net = Network::new(alloc, NODES);
     for i in 0..ARCS {
         let arc = arc_at(seed, i * step % ARCS);
-        if !add_arc(&mut net, arc) {
+        let opposite = Arc {
+            src: arc.dst,
+            dst: arc.src,
+            cap: arc.cap,
+        };
+        if !add_arc(&mut net, arc) || (both_ways && !add_arc(&mut net, opposite)) {
             return None;
         }
     }
@@ -95,10 +100,10 @@ fn network(alloc: Global, seed: u64, step: u32) -> Option<Network>
 }
 
 /// Whether its arcs come in no order; nothing without memory.
-fn is_scattered_in_steps(alloc: Global, seed: u64, step: u32) -> Option<bool>
+fn is_scattered_in_steps(alloc: Global, seed: u64, step: u32, both_ways: bool) -> Option<bool>
     requires { step < ARCS }
 {
-    let net = network(alloc, seed, step)?;
+    let net = network(alloc, seed, step, both_ways)?;
     Some(is_scattered(&net, 1, 1764))
 }
 
@@ -136,7 +141,7 @@ fn is_scattered_once_arranged(
 
 /// The same of the network that a number determines, its arcs far apart.
 fn is_scattered_arranged(rt: &impl Abort, alloc: Global, seed: u64) -> Option<bool> {
-    let net = network(alloc, seed, FAR_STEP).expect(rt, "memory");
+    let net = network(alloc, seed, FAR_STEP, false).expect(rt, "memory");
     let n = net.nodes() as usize;
     let m = net.len() as usize;
     let no_arc = Arc {
@@ -198,12 +203,13 @@ const JOBS: &[Job] = &[
     UNDIRECTED_PAIR,
 ];
 
-/// The one order counts as none, and the other as an order.
+/// The one order counts as none, and the other as an order, also where each edge is given both ways.
 #[test]
 fn arcs_far_apart_are_scattered(rt: HostRuntime) {
-    for seed in 0..4 {
-        let near = is_scattered_in_steps(rt.alloc(), seed, 1);
-        let far = is_scattered_in_steps(rt.alloc(), seed, FAR_STEP);
+    for seed in 0..8 {
+        let both_ways = seed % 2 == 1;
+        let near = is_scattered_in_steps(rt.alloc(), seed, 1, both_ways);
+        let far = is_scattered_in_steps(rt.alloc(), seed, FAR_STEP, both_ways);
         assert!(rt; near == Some(false) && far == Some(true));
     }
 }

@@ -1,7 +1,7 @@
-/* provedflow.hpp: maximum flows, minimum cuts and edge connectivity, proved. For C++ from 2017 on, over provedflow.h.
+/* provedflow.hpp: maximum flows, minimum cuts and edge connectivity. For C++ from 2017 on, over provedflow.h.
  *
- * Lists are read from anything with data() and size(), as std::vector, std::array and std::span. Answers own their
- * memory. A list that cannot be taken throws Refused, and refused memory std::bad_alloc; nothing was written then. What
+ * The library's calls are proved. What this header puts around them is C++, and tested only. Answers own their memory. A
+ * list that cannot be taken throws Refused, and refused memory std::bad_alloc; nothing was written then. What
  * provedflow.h says of networks, limits and what the caller must ensure holds here too.
  */
 #ifndef PROVEDFLOW_HPP
@@ -10,7 +10,9 @@
 #include <algorithm>
 #include <cstddef>
 #include <cstdint>
+#include <iterator>
 #include <limits>
+#include <memory>
 #include <new>
 #include <numeric>
 #include <stdexcept>
@@ -87,8 +89,6 @@ struct Verdict {
 
 namespace detail {
 
-template <class List> using Element = std::remove_cv_t<std::remove_pointer_t<decltype(std::declval<List &>().data())>>;
-
 /* Throws what a status means, unless it is PROVEDFLOW_OK. */
 inline void expect_done(std::uint32_t status) {
     if (status == PROVEDFLOW_MEMORY) {
@@ -99,86 +99,113 @@ inline void expect_done(std::uint32_t status) {
     }
 }
 
-/* Where a list of elements of this type begins; never NULL. */
-template <class T, class List> const T *begin_of(const List &list) {
-    static_assert(std::is_same_v<Element<const List>, T>, "a list has elements of another type than the library reads");
-    static const T nothing = 0;
-    return list.size() == 0 ? &nothing : list.data();
+/* Throws where there are too many nodes or arcs, before anything asks for their memory. */
+inline void expect_limits(std::uint32_t nodes, std::size_t arcs) {
+    if (nodes > PROVEDFLOW_MOST_NODES) {
+        throw Refused(PROVEDFLOW_NODES);
+    }
+    if (arcs > PROVEDFLOW_MOST_ARCS) {
+        throw Refused(PROVEDFLOW_LENGTHS);
+    }
 }
 
-/* The same of a list that is written. */
-template <class T> T *room_of(std::vector<T> &list) {
-    static T nothing;
-    return list.empty() ? &nothing : list.data();
-}
+template <class Given, class = void> struct IsList : std::false_type {};
+template <class Given>
+struct IsList<Given, std::void_t<decltype(std::data(std::declval<Given>()) + std::size(std::declval<Given>()))>>
+    : std::true_type {};
+
+/* What is written into a list; never NULL. */
+template <class T> T *room_of(std::vector<T> &list) { return static_cast<T *>(provedflow_some(list.data())); }
 
 } // namespace detail
 
-/* Finds a maximum flow from the sources to the sinks. src, dst, sources and sinks have elements of 32 bits, cap of 64. */
-template <class Src, class Dst, class Cap, class Sources, class Sinks>
-Flow maximum_flow(std::uint32_t nodes, const Src &src, const Dst &dst, const Cap &cap, const Sources &sources,
-                  const Sinks &sinks) {
+static_assert(sizeof(std::size_t) >= 8, "provedflow needs a size_t of 64 bits");
+
+/* What calls read: anything with std::data and std::size whose elements have no sign and the size of T, as std::vector,
+ * std::array, std::span and plain arrays, or one node in place of a list of nodes. It lends what it is made of. */
+template <class T> class List {
+public:
+    template <class Given> List(const Given &given) {
+        if constexpr (std::is_integral_v<Given> && sizeof(T) == sizeof(std::uint32_t)) {
+            one_ = static_cast<T>(given);
+            if (static_cast<Given>(one_) != given) {
+                one_ = std::numeric_limits<T>::max(); // which is no node
+            }
+        } else if constexpr (detail::IsList<const Given &>::value) {
+            using Element = std::remove_cv_t<std::remove_pointer_t<decltype(std::data(given))>>;
+            static_assert(std::is_integral_v<Element> && std::is_unsigned_v<Element> && sizeof(Element) == sizeof(T),
+                          "elements of another type: nodes have std::uint32_t, capacities and flows std::uint64_t");
+            data_ = static_cast<const T *>(provedflow_some(std::data(given)));
+            size_ = std::size(given);
+        } else {
+            static_assert(!sizeof(Given), "this is no list: std::data and std::size have to take it, as a std::vector");
+        }
+    }
+    List(const List &) = delete;
+    List &operator=(const List &) = delete;
+
+    const T *data() const noexcept { return data_; }
+    std::size_t size() const noexcept { return size_; }
+
+private:
+    T one_ = 0;
+    const T *data_ = &one_;
+    std::size_t size_ = 1;
+};
+using Nodes = List<std::uint32_t>;
+using Units = List<std::uint64_t>;
+
+/* Finds a maximum flow from the sources to the sinks. */
+inline Flow maximum_flow(std::uint32_t nodes, const Nodes &src, const Nodes &dst, const Units &cap, const Nodes &sources,
+                         const Nodes &sinks) {
+    detail::expect_limits(nodes, src.size());
     Flow found{Value{}, std::vector<std::uint64_t>(src.size())};
     detail::expect_done(provedflow_flow_lists(
-        nodes, detail::begin_of<std::uint32_t>(src), src.size(), detail::begin_of<std::uint32_t>(dst), dst.size(),
-        detail::begin_of<std::uint64_t>(cap), cap.size(), detail::begin_of<std::uint32_t>(sources), sources.size(),
-        detail::begin_of<std::uint32_t>(sinks), sinks.size(), detail::room_of(found.arcs), found.arcs.size(),
-        &found.value.high, &found.value.low));
-    return found;
-}
-
-/* Finds the minimum cut nearest the sources or the sinks. */
-template <class Src, class Dst, class Cap, class Sources, class Sinks>
-Cut minimum_cut(std::uint32_t nodes, const Src &src, const Dst &dst, const Cap &cap, const Sources &sources,
-                const Sinks &sinks, Nearest nearest = Nearest::sources) {
-    if (nodes > PROVEDFLOW_MOST_NODES) { // there is no need to ask for their memory
-        throw Refused(PROVEDFLOW_NODES);
-    }
-    std::vector<std::uint64_t> flow(src.size());
-    Cut found{Value{}, std::vector<std::uint8_t>(nodes)};
-    detail::expect_done(provedflow_cut_lists(
-        nodes, detail::begin_of<std::uint32_t>(src), src.size(), detail::begin_of<std::uint32_t>(dst), dst.size(),
-        detail::begin_of<std::uint64_t>(cap), cap.size(), detail::begin_of<std::uint32_t>(sources), sources.size(),
-        detail::begin_of<std::uint32_t>(sinks), sinks.size(), nearest == Nearest::sinks ? 1 : 0,
-        detail::room_of(flow), flow.size(), detail::room_of(found.side), found.side.size(), &found.value.high,
+        nodes, src.data(), src.size(), dst.data(), dst.size(), cap.data(), cap.size(), sources.data(), sources.size(),
+        sinks.data(), sinks.size(), detail::room_of(found.arcs), found.arcs.size(), &found.value.high,
         &found.value.low));
     return found;
 }
 
+/* Finds the minimum cut nearest the sources or the sinks. */
+inline Cut minimum_cut(std::uint32_t nodes, const Nodes &src, const Nodes &dst, const Units &cap, const Nodes &sources,
+                       const Nodes &sinks, Nearest nearest = Nearest::sources) {
+    detail::expect_limits(nodes, src.size());
+    const std::unique_ptr<std::uint64_t[]> flow(new std::uint64_t[src.size()]);
+    Cut found{Value{}, std::vector<std::uint8_t>(nodes)};
+    detail::expect_done(provedflow_cut_lists(
+        nodes, src.data(), src.size(), dst.data(), dst.size(), cap.data(), cap.size(), sources.data(), sources.size(),
+        sinks.data(), sinks.size(), nearest == Nearest::sinks ? 1 : 0, flow.get(), src.size(),
+        detail::room_of(found.side), found.side.size(), &found.value.high, &found.value.low));
+    return found;
+}
+
 /* Finds the edge connectivity: how many arcs must fail before some node is cut off from another. */
-template <class Src, class Dst>
-std::uint64_t edge_connectivity(std::uint32_t nodes, const Src &src, const Dst &dst, bool undirected) {
-    const std::vector<std::uint32_t> none;
+inline std::uint64_t edge_connectivity(std::uint32_t nodes, const Nodes &src, const Nodes &dst, bool undirected) {
     std::uint64_t links = 0;
-    detail::expect_done(provedflow_links_lists(
-        nodes, detail::begin_of<std::uint32_t>(src), src.size(), detail::begin_of<std::uint32_t>(dst), dst.size(),
-        detail::begin_of<std::uint32_t>(none), 0, detail::begin_of<std::uint32_t>(none), 0, undirected ? 1 : 0, 0,
-        &links));
+    const std::uint32_t none = 0;
+    detail::expect_done(provedflow_links_lists(nodes, src.data(), src.size(), dst.data(), dst.size(), &none, 0, &none, 0,
+                                               undirected ? 1 : 0, 0, &links));
     return links;
 }
 
 /* Finds how many arcs must fail before every sink is cut off from every source. */
-template <class Src, class Dst, class Sources, class Sinks>
-std::uint64_t edge_connectivity(std::uint32_t nodes, const Src &src, const Dst &dst, bool undirected,
-                                const Sources &sources, const Sinks &sinks) {
+inline std::uint64_t edge_connectivity(std::uint32_t nodes, const Nodes &src, const Nodes &dst, bool undirected,
+                                       const Nodes &sources, const Nodes &sinks) {
     std::uint64_t links = 0;
-    detail::expect_done(provedflow_links_lists(
-        nodes, detail::begin_of<std::uint32_t>(src), src.size(), detail::begin_of<std::uint32_t>(dst), dst.size(),
-        detail::begin_of<std::uint32_t>(sources), sources.size(), detail::begin_of<std::uint32_t>(sinks), sinks.size(),
-        undirected ? 1 : 0, 1, &links));
+    detail::expect_done(provedflow_links_lists(nodes, src.data(), src.size(), dst.data(), dst.size(), sources.data(),
+                                               sources.size(), sinks.data(), sinks.size(), undirected ? 1 : 0, 1,
+                                               &links));
     return links;
 }
 
 /* Checks whether a flow, wherever it comes from, has the greatest value. */
-template <class Src, class Dst, class Cap, class Sources, class Sinks, class Flows>
-Verdict check(std::uint32_t nodes, const Src &src, const Dst &dst, const Cap &cap, const Sources &sources,
-              const Sinks &sinks, const Flows &flow) {
+inline Verdict check(std::uint32_t nodes, const Nodes &src, const Nodes &dst, const Units &cap, const Nodes &sources,
+                     const Nodes &sinks, const Units &flow) {
     Verdict found;
     detail::expect_done(provedflow_check_lists(
-        nodes, detail::begin_of<std::uint32_t>(src), src.size(), detail::begin_of<std::uint32_t>(dst), dst.size(),
-        detail::begin_of<std::uint64_t>(cap), cap.size(), detail::begin_of<std::uint32_t>(sources), sources.size(),
-        detail::begin_of<std::uint32_t>(sinks), sinks.size(), detail::begin_of<std::uint64_t>(flow), flow.size(),
-        &found.verdict, &found.told.high, &found.told.low));
+        nodes, src.data(), src.size(), dst.data(), dst.size(), cap.data(), cap.size(), sources.data(), sources.size(),
+        sinks.data(), sinks.size(), flow.data(), flow.size(), &found.verdict, &found.told.high, &found.told.low));
     return found;
 }
 
@@ -193,6 +220,11 @@ public:
         src_.assign(pixels_, pixels_), dst_.resize(pixels_), cap_.resize(pixels_);
         std::iota(dst_.begin(), dst_.end(), 0U);
     }
+
+    Grid(const Grid &) = default;
+    Grid(Grid &&) = default;
+    Grid &operator=(const Grid &other) { return *this = Grid(other); }
+    Grid &operator=(Grid &&) = default;
 
     std::uint32_t pixels() const noexcept { return pixels_; }
 
@@ -209,6 +241,7 @@ public:
         if (here >= pixels() || there >= pixels()) {
             throw std::out_of_range("no such pixel");
         }
+        make_room(src_), make_room(dst_), make_room(cap_); // of all three before anything is written
         add_arc(here, there, weight);
         add_arc(there, here, back);
     }
@@ -234,8 +267,7 @@ public:
 
     /* Finds a minimum cut: its cost, and for each pixel 1 on the source's side and 0 on the sink's. */
     Cut cut(Nearest nearest = Nearest::sources) const {
-        const std::vector<std::uint32_t> source{pixels_}, sink{pixels_ + 1};
-        Cut found = minimum_cut(pixels_ + 2, src_, dst_, cap_, source, sink, nearest);
+        Cut found = minimum_cut(pixels_ + 2, src_, dst_, cap_, pixels_, pixels_ + 1, nearest);
         found.side.resize(pixels_);
         found.value += merged_.low;
         found.value.high += merged_.high;
@@ -250,6 +282,13 @@ private:
             throw Refused(PROVEDFLOW_NODES);
         }
         return static_cast<std::uint32_t>(slice * depth);
+    }
+
+    /* Makes room for two more. */
+    template <class T> static void make_room(std::vector<T> &list) {
+        if (list.capacity() - list.size() < 2) {
+            list.reserve(2 * list.size() + 2);
+        }
     }
 
     void add_arc(std::uint32_t here, std::uint32_t there, std::uint64_t weight) {

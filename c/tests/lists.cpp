@@ -1,7 +1,8 @@
-/* Tries provedflow.hpp: small networks against all sets of nodes, grids against all ways to part them, and what is
- * thrown. The last line is 'lists: N passed, M failed'. */
+/* Tries provedflow.hpp: small networks against all sets of nodes, grids against all ways to part them, each request for
+ * memory refused in turn, and what is thrown. The last line is 'lists: N passed, M failed'. */
 #include <array>
 #include <cstdio>
+#include <cstdlib>
 #include <random>
 #include <vector>
 
@@ -13,6 +14,7 @@ using std::uint32_t;
 using std::uint64_t;
 
 int passed = 0, failed = 0;
+long until_refused = 0; // the request for memory that is refused, counted from here; none where it isn't above 0
 
 void check(bool good, const char *what) {
     good ? passed++ : failed++;
@@ -34,6 +36,10 @@ struct Network {
     uint32_t nodes;
     std::vector<uint32_t> src, dst;
     std::vector<uint64_t> cap;
+
+    void add(uint32_t from, uint32_t to, uint64_t weight) {
+        src.push_back(from), dst.push_back(to), cap.push_back(weight);
+    }
 };
 
 /* What the arcs that leave a set carry at most; bit v of the set is node v. */
@@ -57,7 +63,8 @@ void try_network(std::mt19937 &chance) {
     const auto below = [&chance](uint32_t most) { return std::uniform_int_distribution<uint32_t>(0, most - 1)(chance); };
     Network net{2 + below(5), {}, {}, {}};
     for (uint32_t arcs = below(14); arcs > 0; arcs--) {
-        net.src.push_back(below(net.nodes)), net.dst.push_back(below(net.nodes)), net.cap.push_back(below(6));
+        const uint32_t from = below(net.nodes), to = below(net.nodes);
+        net.add(from, to, below(6));
     }
     const std::array<uint32_t, 1> source{0}, sink{1};
     uint64_t least = UINT64_MAX, near = 0, far = ~uint64_t{0}, links = UINT64_MAX, pair = UINT64_MAX;
@@ -85,31 +92,75 @@ void try_network(std::mt19937 &chance) {
     check(provedflow::edge_connectivity(net.nodes, net.src, net.dst, false, source, sink) == pair, "that of the pair");
 }
 
-void try_grid(std::mt19937 &chance, uint32_t width, uint32_t height, uint32_t depth) {
-    const auto weight = [&chance] { return std::uniform_int_distribution<uint64_t>(0, 9)(chance); };
-    provedflow::Grid grid(width, height, depth);
-    Network net{grid.pixels() + 2, {}, {}, {}};
-    const auto add = [&net](uint32_t src, uint32_t dst, uint64_t cap) {
-        net.src.push_back(src), net.dst.push_back(dst), net.cap.push_back(cap);
-    };
-    for (uint32_t pixel = 0; pixel < grid.pixels(); pixel++) {
-        const uint64_t source = weight(), sink = weight();
-        grid.add_terminals(pixel, source, sink);
-        add(grid.pixels(), pixel, source), add(pixel, grid.pixels() + 1, sink);
-        if (pixel + 1 < grid.pixels()) {
-            const uint64_t there = weight(), back = weight();
-            grid.join(pixel, pixel + 1, there, back);
-            add(pixel, pixel + 1, there), add(pixel + 1, pixel, back);
-        }
-    }
-    const uint64_t source = uint64_t{1} << grid.pixels();
+/* Whether this is a minimum cut of a grid, whose network has the source and the sink as its last nodes. */
+bool is_cut(const provedflow::Cut &cut, const Network &net) {
+    const uint64_t source = uint64_t{1} << (net.nodes - 2);
     uint64_t least = UINT64_MAX;
     for (uint64_t set = 0; set < source; set++) {
         least = std::min(least, leaving(net, set | source));
     }
-    const auto cut = grid.cut();
-    check(cut.value.number() == least && leaving(net, bits_of(cut.side) | source) == least, "the cut of a grid");
-    check(cut.side.size() == grid.pixels() && grid.at(width - 1, height - 1, depth - 1) + 1 == grid.pixels(), "pixels");
+    return cut.side.size() + 2 == net.nodes && cut.value.number() == least && leaving(net, bits_of(cut.side) | source) == least;
+}
+
+void try_grid(std::mt19937 &chance, uint32_t width, uint32_t height, uint32_t depth) {
+    const auto weight = [&chance] { return std::uniform_int_distribution<uint64_t>(0, 9)(chance); };
+    provedflow::Grid grid(width, height, depth);
+    Network net{grid.pixels() + 2, {}, {}, {}};
+    for (uint32_t pixel = 0; pixel < grid.pixels(); pixel++) {
+        const uint64_t source = weight(), sink = weight();
+        grid.add_terminals(pixel, source, sink);
+        net.add(grid.pixels(), pixel, source), net.add(pixel, grid.pixels() + 1, sink);
+        if (pixel + 1 < grid.pixels()) {
+            const uint64_t there = weight(), back = weight();
+            grid.join(pixel, pixel + 1, there, back);
+            net.add(pixel, pixel + 1, there), net.add(pixel + 1, pixel, back);
+        }
+    }
+    check(is_cut(grid.cut(), net), "the cut of a grid");
+    check(grid.at(width - 1, height - 1, depth - 1) + 1 == grid.pixels(), "pixels");
+}
+
+/* Makes a call until no memory is refused, which is once more at most. */
+template <class Call> void insist(Call call) {
+    if (throws<std::bad_alloc>(call)) {
+        call();
+    }
+}
+
+/* Joins pixels by more edges than a grid has room for at first, and copies the grid. */
+void try_memory() {
+    Network net{4, {2, 1}, {0, 3}, {9, 8}};
+    for (uint32_t i = 0; i < 24; i++) {
+        net.add(0, 1, i % 3), net.add(1, 0, i % 2);
+    }
+    bool has_refused = true;
+    for (long refused = 1; has_refused; refused++) {
+        provedflow::Grid grid(2, 1), copy(1, 1);
+        grid.add_terminals(0, net.cap[0], 0), grid.add_terminals(1, 0, net.cap[1]);
+        until_refused = refused;
+        for (std::size_t i = 2; i < net.cap.size(); i += 2) {
+            insist([&] { grid.join(0, 1, net.cap[i], net.cap[i + 1]); });
+        }
+        insist([&] { copy = grid; });
+        insist([&] { check(is_cut(copy.cut(), net), "the cut of a grid, with a request for memory refused"); });
+        has_refused = until_refused == 0;
+        until_refused = 0;
+    }
+}
+
+void try_elements() {
+    const uint32_t src[] = {0, 0, 1}, dst[] = {1, 1, 2};
+    const std::vector<unsigned long> cap{4, 5, 7};
+    const std::vector<unsigned long long> wide(cap.begin(), cap.end());
+    const auto flow = [&](const auto &units, auto source, auto sink) {
+        return provedflow::maximum_flow(3, src, dst, units, source, sink).value.number();
+    };
+    const auto refused = [&](auto source, auto sink) {
+        return throws<provedflow::Refused>([&] { flow(wide, source, sink); });
+    };
+    check(flow(cap, 0, 2) == 7 && flow(wide, std::uint8_t{0}, 1ULL) == 9, "terminals as numbers, both words of 64 bits");
+    check(provedflow::check(3, src, dst, wide, 0, 1, std::vector<unsigned long long>{4, 5, 0}).verdict == 0, "a flow");
+    check(refused(-1, 2) && refused(0, 3) && refused(0, -1L) && refused(0, (1L << 32) + 2), "numbers that are no node");
 }
 
 void try_refusals() {
@@ -143,6 +194,13 @@ void try_refusals() {
 
 } // namespace
 
+[[gnu::noinline]] void *operator new(std::size_t size) {
+    void *piece = until_refused > 0 && --until_refused == 0 ? nullptr : std::malloc(size);
+    return piece ? piece : throw std::bad_alloc();
+}
+[[gnu::noinline]] void operator delete(void *piece) noexcept { std::free(piece); }
+[[gnu::noinline]] void operator delete(void *piece, std::size_t) noexcept { std::free(piece); }
+
 int main() {
     std::mt19937 chance(1970);
     for (int round = 0; round < 400; round++) {
@@ -152,6 +210,8 @@ int main() {
         try_grid(chance, 4, 3, 1);
         try_grid(chance, 2, 2, 3);
     }
+    try_memory();
+    try_elements();
     try_refusals();
     std::printf("lists: %d passed, %d failed\n", passed, failed);
     return failed != 0;

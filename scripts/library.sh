@@ -1,7 +1,7 @@
 #!/usr/bin/env bash
 # Makes the library for C and C++ and puts it into a folder with its header: library.sh DIR [ARCHIVE]
-# DIR gets libprovedflow.so.0 with the link libprovedflow.so, libprovedflow.a, the headers for C and C++, and a file by
-# which CMake finds them. ARCHIVE is what was built of the crate flow_c; without it scripts/build.sh proves and
+# DIR gets libprovedflow.so.0 with the link libprovedflow.so, libprovedflow.a, the headers for C and C++, and the files
+# by which CMake finds them. ARCHIVE is what was built of the crate flow_c; without it scripts/build.sh proves and
 # builds the crate.
 # To its code comes the kit's heap, which calls malloc, realloc and free, and nothing else: there is no C of ours in the
 # library. It needs the C library alone, its code may lie anywhere in memory, and of its names only provedflow_* can be
@@ -52,6 +52,6 @@ for nm in "nm -D $scratch/libprovedflow.so.0" "nm -g $scratch/provedflow.o"; do
 done
 
 install -m 644 "$scratch/libprovedflow.so.0" "$scratch/libprovedflow.a" c/provedflow.h c/provedflow.hpp \
-  c/provedflow-config.cmake "$folder"
+  c/*.cmake "$folder"
 ln -sf libprovedflow.so.0 "$folder/libprovedflow.so"
 echo "$folder/libprovedflow.so.0"

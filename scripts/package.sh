@@ -139,7 +139,9 @@ TEXT
 root=$scratch/libprovedflow-dev
 put 644 c/provedflow.h usr/include/provedflow.h
 put 644 c/provedflow.hpp usr/include/provedflow.hpp
-put 644 c/provedflow-config.cmake "$place/cmake/provedflow/provedflow-config.cmake"
+for file in provedflow-config.cmake provedflow-config-version.cmake; do
+  put 644 "c/$file" "$place/cmake/provedflow/$file"
+done
 put 644 "$libraries/libprovedflow.a" "$place/libprovedflow.a"
 ln -s libprovedflow.so.0 "$root/$place/libprovedflow.so"
 cat > "$scratch/provedflow.pc" << TEXT

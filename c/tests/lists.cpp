@@ -92,32 +92,51 @@ void try_network(std::mt19937 &chance) {
     check(provedflow::edge_connectivity(net.nodes, net.src, net.dst, false, source, sink) == pair, "that of the pair");
 }
 
-/* Whether this is a minimum cut of a grid, whose network has the source and the sink as its last nodes. */
-bool is_cut(const provedflow::Cut &cut, const Network &net) {
+/* Whether these are the minimum cuts of a grid, whose network has the source and the sink as its last nodes. */
+bool is_cut(const provedflow::Cut &near, const provedflow::Cut &far, const Network &net) {
     const uint64_t source = uint64_t{1} << (net.nodes - 2);
-    uint64_t least = UINT64_MAX;
+    uint64_t least = UINT64_MAX, within = 0, around = 0;
     for (uint64_t set = 0; set < source; set++) {
-        least = std::min(least, leaving(net, set | source));
+        const uint64_t sum = leaving(net, set | source);
+        within = sum < least ? set : sum == least ? within & set : within;
+        around = sum < least ? set : sum == least ? around | set : around;
+        least = std::min(least, sum);
     }
-    return cut.side.size() + 2 == net.nodes && cut.value.number() == least && leaving(net, bits_of(cut.side) | source) == least;
+    return near.side.size() + 2 == net.nodes && far.side.size() + 2 == net.nodes && near.value.number() == least
+           && far.value.number() == least && bits_of(near.side) == within && bits_of(far.side) == around;
 }
 
+/* Cuts a grid from both ends; then more is joined and added, and it is cut again. */
 void try_grid(std::mt19937 &chance, uint32_t width, uint32_t height, uint32_t depth) {
     const auto weight = [&chance] { return std::uniform_int_distribution<uint64_t>(0, 9)(chance); };
     provedflow::Grid grid(width, height, depth);
     Network net{grid.pixels() + 2, {}, {}, {}};
-    for (uint32_t pixel = 0; pixel < grid.pixels(); pixel++) {
-        const uint64_t source = weight(), sink = weight();
-        grid.add_terminals(pixel, source, sink);
-        net.add(grid.pixels(), pixel, source), net.add(pixel, grid.pixels() + 1, sink);
-        if (pixel + 1 < grid.pixels()) {
-            const uint64_t there = weight(), back = weight();
-            grid.join(pixel, pixel + 1, there, back);
-            net.add(pixel, pixel + 1, there), net.add(pixel + 1, pixel, back);
+    for (uint64_t round = 0; round < 4; round++) {
+        for (uint32_t pixel = 0; pixel < grid.pixels(); pixel++) {
+            const uint64_t source = weight() >> 2 * round, sink = weight() >> round;
+            grid.add_terminals(pixel, source, sink);
+            net.add(grid.pixels(), pixel, source), net.add(pixel, grid.pixels() + 1, sink);
+            if (pixel + 1 < grid.pixels() && round != 1) {
+                const uint64_t there = weight() / 2, back = round == 0 ? weight() : 0;
+                grid.join(pixel, pixel + 1, there, back);
+                net.add(pixel, pixel + 1, there), net.add(pixel + 1, pixel, back);
+            }
         }
+        const provedflow::Cut cut = grid.cut();
+        check(is_cut(cut, grid.cut(provedflow::Nearest::sinks), net), "the cut of a grid");
     }
-    check(is_cut(grid.cut(), net), "the cut of a grid");
     check(grid.at(width - 1, height - 1, depth - 1) + 1 == grid.pixels(), "pixels");
+}
+
+/* A flow of 5 from one end to the other, and then as much as edges of 64 bits let through, the other way. */
+void try_wide_grid() {
+    const uint64_t most = UINT64_MAX;
+    provedflow::Grid grid(3, 1);
+    grid.join(0, 1, most, most), grid.join(2, 1, most, most);
+    grid.add_terminals(0, 5, 0), grid.add_terminals(2, 0, 5);
+    check(grid.cut().value.number() == 5, "the cut of a grid with wide edges");
+    grid.add_terminals(0, 0, most), grid.add_terminals(2, most, 0);
+    check(grid.cut().value == provedflow::Value{1, 4}, "2^64 - 1 + 5, whichever side all of it is on");
 }
 
 /* Makes a call until no memory is refused, which is once more at most. */
@@ -141,12 +160,25 @@ void try_memory() {
         for (std::size_t i = 2; i < net.cap.size(); i += 2) {
             insist([&] { grid.join(0, 1, net.cap[i], net.cap[i + 1]); });
         }
-        insist([&] { copy = grid; });
-        insist([&] { check(is_cut(copy.cut(), net), "the cut of a grid, with a request for memory refused"); });
+        if (throws<std::bad_alloc>([&] { copy = grid; })) {
+            check(copy.pixels() == 1 && copy.cut().value.number() == 0, "a grid whose copying fails stays as it was");
+            copy = grid;
+        }
+        provedflow::Cut near, far;
+        insist([&] { near = copy.cut(); });
+        insist([&] { far = copy.cut(provedflow::Nearest::sinks); });
+        check(is_cut(near, far, net), "the cut of a grid, with a request for memory refused");
         has_refused = until_refused == 0;
         until_refused = 0;
     }
 }
+
+/* A list with more elements than any memory holds. */
+struct Endless {
+    uint32_t one = 0;
+    const uint32_t *data() const { return &one; }
+    std::size_t size() const { return SIZE_MAX / 8; }
+};
 
 void try_elements() {
     const uint32_t src[] = {0, 0, 1}, dst[] = {1, 1, 2};
@@ -161,6 +193,9 @@ void try_elements() {
     check(flow(cap, 0, 2) == 7 && flow(wide, std::uint8_t{0}, 1ULL) == 9, "terminals as numbers, both words of 64 bits");
     check(provedflow::check(3, src, dst, wide, 0, 1, std::vector<unsigned long long>{4, 5, 0}).verdict == 0, "a flow");
     check(refused(-1, 2) && refused(0, 3) && refused(0, -1L) && refused(0, (1L << 32) + 2), "numbers that are no node");
+    check(throws<provedflow::Refused>([&] { provedflow::maximum_flow(3, Endless{}, dst, cap, 0, 1); })
+              && throws<provedflow::Refused>([&] { provedflow::minimum_cut(3, Endless{}, dst, cap, 0, 1); }),
+          "too many arcs, before their memory is asked for");
 }
 
 void try_refusals() {
@@ -210,6 +245,7 @@ int main() {
         try_grid(chance, 4, 3, 1);
         try_grid(chance, 2, 2, 3);
     }
+    try_wide_grid();
     try_memory();
     try_elements();
     try_refusals();

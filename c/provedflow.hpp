@@ -1,6 +1,6 @@
 /* provedflow.hpp: maximum flows, minimum cuts and edge connectivity. For C++ from 2017 on, over provedflow.h.
  *
- * The library's calls are proved. What this header puts around them is C++, and tested only. Answers own their memory. A
+ * The exports of the library are proved. What this header puts around them is tested only. Answers own their memory. A
  * list that cannot be taken throws Refused, and refused memory std::bad_alloc; nothing was written then. What
  * provedflow.h says of networks, limits and what the caller must ensure holds here too.
  */
@@ -156,8 +156,8 @@ using Nodes = List<std::uint32_t>;
 using Units = List<std::uint64_t>;
 
 /* Finds a maximum flow from the sources to the sinks. */
-inline Flow maximum_flow(std::uint32_t nodes, const Nodes &src, const Nodes &dst, const Units &cap, const Nodes &sources,
-                         const Nodes &sinks) {
+inline Flow maximum_flow(std::uint32_t nodes, const Nodes &src, const Nodes &dst, const Units &cap,
+                         const Nodes &sources, const Nodes &sinks) {
     detail::expect_limits(nodes, src.size());
     Flow found{Value{}, std::vector<std::uint64_t>(src.size())};
     detail::expect_done(provedflow_flow_lists(
@@ -184,8 +184,8 @@ inline Cut minimum_cut(std::uint32_t nodes, const Nodes &src, const Nodes &dst, 
 inline std::uint64_t edge_connectivity(std::uint32_t nodes, const Nodes &src, const Nodes &dst, bool undirected) {
     std::uint64_t links = 0;
     const std::uint32_t none = 0;
-    detail::expect_done(provedflow_links_lists(nodes, src.data(), src.size(), dst.data(), dst.size(), &none, 0, &none, 0,
-                                               undirected ? 1 : 0, 0, &links));
+    detail::expect_done(provedflow_links_lists(nodes, src.data(), src.size(), dst.data(), dst.size(), &none, 0, &none,
+                                               0, undirected ? 1 : 0, 0, &links));
     return links;
 }
 

@@ -74,7 +74,8 @@ def test_program(name, compiler, kind, sanitized, made, tmp_path):
 @pytest.mark.parametrize("compiler", ["g++", "clang++"])
 def test_classes(compiler, sanitized, made, tmp_path):
     need(compiler)
-    said(compiler, *CLASSES, *SANITIZED[sanitized], TESTS / "lists.cpp", made / "libprovedflow.a", "-o", tmp_path / "lists")
+    said(compiler, *CLASSES, *SANITIZED[sanitized], TESTS / "lists.cpp", made / "libprovedflow.a", "-o",
+         tmp_path / "lists")
     assert re.search(r"^lists: [1-9]\d* passed, 0 failed\n\Z", said(tmp_path / "lists"), re.M)
 
 

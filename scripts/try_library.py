@@ -13,8 +13,8 @@ import sys
 def report(name, *words):
     """Runs a file of tests by pytest, tells how many checks it made, and answers its status."""
     file = pathlib.Path(__file__).resolve().with_name(f"test_{name}.py")
-    done = subprocess.run(["pytest", "-q", "-rs", "-p", "no:cacheprovider", *words, file], stdout=subprocess.PIPE, text=True,
-                          check=False)
+    done = subprocess.run(["pytest", "-q", "-rs", "-p", "no:cacheprovider", *words, file], stdout=subprocess.PIPE,
+                          text=True, check=False)
     counted = re.search(r"^(\d+) checks", done.stdout, re.M)
     print(done.stdout)
     print(f"{name}: {counted[1] if counted else 0} passed, {done.returncode} failed")

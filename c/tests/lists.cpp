@@ -190,7 +190,7 @@ void try_elements() {
     const auto refused = [&](auto source, auto sink) {
         return throws<provedflow::Refused>([&] { flow(wide, source, sink); });
     };
-    check(flow(cap, 0, 2) == 7 && flow(wide, std::uint8_t{0}, 1ULL) == 9, "terminals as numbers, both words of 64 bits");
+    check(flow(cap, 0, 2) == 7 && flow(wide, std::uint8_t{0}, 1ULL) == 9, "one terminal, both words of 64 bits");
     check(provedflow::check(3, src, dst, wide, 0, 1, std::vector<unsigned long long>{4, 5, 0}).verdict == 0, "a flow");
     check(refused(-1, 2) && refused(0, 3) && refused(0, -1L) && refused(0, (1L << 32) + 2), "numbers that are no node");
     check(throws<provedflow::Refused>([&] { provedflow::maximum_flow(3, Endless{}, dst, cap, 0, 1); })

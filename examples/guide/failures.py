@@ -68,32 +68,20 @@ class Spare:
         return sum(starts.values())
 
     def _way(self, starts, ends):
-        """The half-arcs of a way with room, looked for from both sides, or None."""
-        heads, room, edges = self.heads, self.room, [starts, ends]
-        found = [dict.fromkeys(starts), dict.fromkeys(ends)]
-        while edges[0] and edges[1]:
-            against, new = int(len(edges[1]) < len(edges[0])), []
-            here, there = found[against], found[1 - against]
-            for node in edges[against]:
-                for half in self.leaving[node]:
-                    head = heads[half]
-                    if room[half ^ against] and head not in here:
-                        here[head] = half ^ against
-                        if head in there:
-                            return self._joined(found, head)
-                        new.append(head)
-            edges[against] = new
+        """The half-arcs of a shortest way with room, or None."""
+        found, nodes = dict.fromkeys(starts), list(starts)
+        for node in nodes:
+            if node in ends:
+                way = []
+                while found[node] is not None:
+                    way.append(found[node])
+                    node = self.heads[way[-1] ^ 1]
+                return way[::-1]
+            for half in self.leaving[node]:
+                if self.room[half] and self.heads[half] not in found:
+                    found[self.heads[half]] = half
+                    nodes.append(self.heads[half])
         return None
-
-    def _joined(self, found, met):
-        """The way through a node that was found from both sides."""
-        ways = [], []
-        for turn, way in enumerate(ways):
-            node = met
-            while found[turn][node] is not None:
-                way.append(found[turn][node])
-                node = self.heads[way[-1] ^ 1 ^ turn]
-        return ways[0][::-1] + ways[1]
 
 
 def sites_of(given):

@@ -1,10 +1,5 @@
 #!/usr/bin/env python3
-"""Cuts an object out of a picture, where a few strokes say what is object and what is background.
-
-    python3 examples/segmentation/segment.py [PICTURE STROKES]
-
-README.md describes the model, and --help lists the options.
-"""
+"""Cuts an object out of a picture, where strokes say what is object and what is background; see README.md."""
 
 import argparse
 import sys
@@ -26,6 +21,16 @@ STEP, LINK = 900, 35_000
 there, between two pixels side by side, where --outline is 10. Between slanting ones it costs 7 tenths of that."""
 FIXED = 2 ** 40  # What it costs to take a marked pixel for the other kind: more than all else about a pixel.
 SAMPLES, SHOWN = 12, 1600  # How many colours stand for the strokes of a kind, and how wide the sheet is at the most.
+
+
+def colours_of(path):
+    """A picture in colours. Greys of more than 8 bits are scaled to 8 by the number of bits that the brightest has."""
+    picture = ImageOps.exif_transpose(Image.open(path))
+    if picture.mode.startswith("I"):
+        grey = np.asarray(picture).clip(0)
+        most = 2 ** max(int(grey.max()).bit_length(), 1) - 1
+        picture = Image.fromarray((grey * (255 / most)).astype(np.uint8))
+    return picture.convert("RGB")
 
 
 def marks_of(path, picture):
@@ -92,7 +97,7 @@ def sheet_of(picture, marks, mask):
 
 
 def main():
-    words = argparse.ArgumentParser(description="Cuts an object out of a picture.")
+    words = argparse.ArgumentParser(description=__doc__)
     words.add_argument("picture", nargs="?", default=HERE / "picture.png", help="else the example's own")
     words.add_argument("strokes", nargs="?", default=HERE / "strokes.png",
                        help="a picture of the same size, red on the object and blue on the background")
@@ -102,9 +107,9 @@ def main():
     words.add_argument("--marked-only", action="store_true", help="drop the pieces of the object without a stroke")
     words.add_argument("--out", metavar="FOLDER", help="where the results go; else out/segmentation")
     given = words.parse_args()
-    if not 0 < given.outline <= 10 ** 6 or (given.most or 1) < 1:
+    if not 0 < given.outline <= 10 ** 6 or given.most is not None and given.most < 1:
         words.error("give an outline above 0 and up to a million, and pixels from 1")
-    picture = ImageOps.exif_transpose(Image.open(given.picture)).convert("RGB")
+    picture = colours_of(given.picture)
     marks = marks_of(given.strokes, picture)
     if given.most:
         picture.thumbnail((given.most, given.most))

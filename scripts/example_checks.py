@@ -1,50 +1,42 @@
-"""What the checks of the examples share: counts, scratch files, and scripts that are run."""
+"""What the tests of the examples share: scripts that are run, and files that they read."""
 
-import importlib.util
 import os
+import pathlib
+import re
 import subprocess
 import sys
 
-ROOT = os.path.dirname(os.path.dirname(os.path.abspath(__file__)))
-EXAMPLES = os.path.join(ROOT, "examples")
-sys.path[:0] = [os.path.join(EXAMPLES, folder) for folder in ("common", "guide", "redundancy", "roads", "scheduling")]
-sys.path.append(os.path.join(ROOT, "python"))
-sys.dont_write_bytecode = True
+import pytest
+
+ROOT = pathlib.Path(__file__).resolve().parent.parent
+EXAMPLES = ROOT / "examples"
+SECONDS = 60  # What a script on small data may take.
+sys.path[:0] = [str(EXAMPLES / folder) for folder in ("common", "guide", "redundancy", "scheduling")]
+sys.path.append(str(ROOT / "python"))
 
 
-class Checks:
-    """What passed and what failed."""
-
-    def __init__(self):
-        self.passed = 0
-        self.failed = 0
-
-    def equal(self, name, found, expected):
-        if found == expected:
-            self.passed += 1
-        else:
-            self.failed += 1
-            print(f"examples: {name}: {repr(found):.600} where {repr(expected):.600} is right")
+@pytest.fixture(autouse=True)
+def built(flow, library, tmp_path, monkeypatch):
+    """Puts the program on the PATH, and says where the library is."""
+    (tmp_path / "bin").mkdir()
+    (tmp_path / "bin/flow").symlink_to(flow)
+    monkeypatch.setenv("PATH", str(tmp_path / "bin"), prepend=os.pathsep)
+    monkeypatch.setenv("PROVEDFLOW_LIBRARY", str(library))
 
 
-def missing(*modules):
-    """The first of these modules that isn't installed, or None."""
-    return next((module for module in modules if importlib.util.find_spec(module) is None), None)
-
-
-def python(*words, cwd=ROOT):
-    """Runs a Python script: its status, what it wrote, and its complaint."""
-    done = subprocess.run([sys.executable, "-B", *words], capture_output=True, text=True, check=False, cwd=cwd)
+def run(words, cwd, **options):
+    """Runs a script of the examples: its status, what it wrote, and its complaint."""
+    done = subprocess.run([sys.executable, "-B", EXAMPLES / words[0], *words[1:]], text=True, check=False, cwd=cwd,
+                          timeout=SECONDS, **{"stdout": subprocess.PIPE, "stderr": subprocess.PIPE, **options})
     return done.returncode, done.stdout, done.stderr
 
 
-def example(script, scratch, *words):
-    """Runs an example in a scratch folder: its status, its words but for the last line, and its complaint."""
-    status, said, complaint = python(os.path.join(EXAMPLES, script), *words, "--out", "out", cwd=scratch)
-    return status, "".join(said.splitlines(True)[:-1]), complaint
+def write(folder, **files):
+    """Writes tables into a folder: people=".." goes into people.csv."""
+    for name, text in files.items():
+        (folder / f"{name}.csv").write_text(text, encoding="utf-8", newline="")
 
 
-def write(folder, name, text):
-    os.makedirs(folder, exist_ok=True)
-    with open(os.path.join(folder, name), "w", encoding="utf-8") as file:
-        file.write(text)
+def untried(script, commands):
+    """The options that the help of a script lists and that are in none of these commands."""
+    return set(re.findall(r"--[a-z-]+", run([script, "--help"], ROOT)[1])) - set(" ".join(commands).split())

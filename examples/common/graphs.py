@@ -1,10 +1,8 @@
-"""Networks out of tables and GraphML as NetworkX graphs, as arrays for provedflow, and drawn by matplotlib."""
+"""Networks out of tables, GraphML and GML as NetworkX graphs, as arrays for provedflow, and drawn by matplotlib."""
 
 import os
-import re
 import textwrap
 import unicodedata
-from fractions import Fraction
 
 import script
 import tables
@@ -20,7 +18,6 @@ matplotlib.use("Agg")
 plt.rcParams["text.parse_math"] = False
 
 PREFIXES = {"k": 10 ** 3, "K": 10 ** 3, "M": 10 ** 6, "G": 10 ** 9, "T": 10 ** 12}
-AMOUNT = re.compile(r"(\d+(?:[.,]\d+)?(?:[eE]\+?\d{1,2})?)\s*(\D.*)?", re.ASCII)
 BLACK, GREY, RED, BLUE, ORANGE, GREEN = "#222222", "#B0B0B0", "#C00000", "#0072B2", "#D98000", "#2E8B57"
 AROUND = [(0, 1, "center", "bottom"), (0, -1, "center", "top"), (1, 0, "left", "center"), (-1, 0, "right", "center"),
           (1, 1, "left", "bottom"), (-1, 1, "right", "bottom"), (1, -1, "left", "top"), (-1, -1, "right", "top")]
@@ -28,7 +25,7 @@ AROUND = [(0, 1, "center", "bottom"), (0, -1, "center", "top"), (1, 0, "left", "
 
 def add_options(parser, *columns):
     """The options that say where the network is, and what the columns of its table are called."""
-    parser.add_argument("network", nargs="?", help="a table of links (CSV), or a GraphML file; else the example's own")
+    parser.add_argument("network", nargs="?", help="a table of links (CSV), GraphML or GML; else the example's own")
     parser.add_argument("--places", metavar="TABLE", help="a table of the places, with the column place, and x and y")
     for column in columns:
         parser.add_argument(f"--{column}", metavar="COLUMN", help=f"what the column {column} is called")
@@ -37,53 +34,61 @@ def add_options(parser, *columns):
 
 def read(words):
     """The network as a MultiGraph, or a MultiDiGraph where links lead one way. Places have the attributes of their row
-    or node, in small letters, and links `name`, `where` and `capacity`, a text."""
+    or node, in small letters. `links_of` has the links, with their `name`, `where` and `capacity`, a text."""
     path, names = words.network, vars(words)
-    if path.lower().endswith((".graphml", ".xml")):
-        graph = read_graphml(words)
+    if path.lower().endswith((".graphml", ".xml", ".gml")):
+        graph = read_graph(words)
     else:
-        graph = (nx.MultiDiGraph if words.one_way else nx.MultiGraph)()
         columns = [column for column in ("from", "to", "capacity") if column in names]
-        for row in tables.read_table(path, *columns, names=names):
-            graph.add_edge(row.name("from"), row.name("to"), name=row["name"], where=f"row {row.number}",
-                           capacity=row["capacity"])
+        links = [(row.name("from"), row.name("to"), {"name": row["name"], "where": f"row {row.number}",
+                                                     "capacity": row["capacity"]})
+                 for row in tables.read_table(path, *columns, names=names)]
+        graph = (nx.MultiDiGraph if words.one_way else nx.MultiGraph)(links=links, points=",.")
+        graph.add_edges_from(links)
     if words.places:
         rows = tables.once(tables.read_table(words.places, "place"), "place")
-        for *ends, where in graph.edges(data="where"):
+        for *ends, data in links_of(graph):
             for end in (end for end in ends if end not in rows):
-                raise script.Refused(f"{path}: {where}: '{end}' isn't in {words.places}")
+                raise script.Refused(f"{path}: {data['where']}: '{end}' isn't in {words.places}")
         graph.add_nodes_from((place, row.texts) for place, row in rows.items())
     if not graph.number_of_edges():
         raise script.Refused(f"{path} has no links")
     return graph
 
 
-def read_graphml(words):
-    """The links of a GraphML file. A place is called by its attribute name or label where each has one of its own, else
-    by its id."""
+def read_graph(words):
+    """The network of a GraphML or GML file. A place is called by its attribute name or label where each has one of its
+    own, else by its id. Numbers that the file tells from texts have a decimal dot."""
     path, name = words.network, vars(words).get("capacity")
     try:
-        found = nx.read_graphml(path)
+        found = nx.read_gml(path, label=None) if path.lower().endswith(".gml") else nx.read_graphml(path)
     except (nx.NetworkXError, SyntaxError, ValueError, KeyError) as failure:
-        raise script.Refused(f"{path} isn't GraphML that NetworkX can read: {failure}") from None
+        raise script.Refused(f"{path} isn't GraphML or GML that NetworkX can read: {failure}") from None
     called = {node: plain(node) for node in found}
     for key in ("label", "name"):
         texts = {node: plain(data.get(key, "")) for node, data in found.nodes(data=True)}
         called = texts if len({*texts.values()} - {""}) == len(texts) else called
     directed = words.one_way or found.is_directed() and not words.both_ways
-    graph = (nx.MultiDiGraph if directed else nx.MultiGraph)()
-    graph.add_nodes_from((called[node], {key.casefold(): value for key, value in data.items() if key != "name"})
-                         for node, data in found.nodes(data=True))
     there = sorted({str(key) for *_, data in found.edges(data=True) for key in data})
     wanted = [name] if name else ["capacity", *tables.OTHER_NAMES["capacity"]]
     key = next((key for name in wanted for key in there if key.casefold() == name.casefold()), None)
     if "capacity" in vars(words) and key is None:
         raise script.Refused(f"{path}: no edge has the attribute {wanted[0]}; there are "
                              f"{script.some(there) or 'none'}, and --capacity names one")
-    graph.add_edges_from((called[one], called[other], {
+    links = [(called[one], called[other], {
         "name": plain(data.get("name", "")), "where": f"edge {number}", "capacity": plain(data.get(key, ""))})
-        for number, (one, other, data) in enumerate(found.edges(data=True), start=1))
+        for number, (one, other, data) in enumerate(found.edges(data=True), start=1)]
+    typed = any(not isinstance(data.get(key, ""), str) for *_, data in found.edges(data=True))
+    graph = (nx.MultiDiGraph if directed else nx.MultiGraph)(links=links, points="." if typed else ",.")
+    graph.add_nodes_from((called[node], {key.casefold(): value for key, value in data.items() if key != "name"})
+                         for node, data in found.nodes(data=True))
+    graph.add_edges_from(links)
     return graph
+
+
+def links_of(graph):
+    """The links that are left, as (one end, other end, attributes), in the order and direction of their rows."""
+    return [link for link in graph.graph["links"] if link[0] in graph]
 
 
 def plain(text):
@@ -94,20 +99,21 @@ def plain(text):
 def amounts(path, graph):
     """The capacities of the links as exact numbers of a unit, and the unit: 2.5 Gbit and 800 Mbit are 2.5 and 0.8 of
     Gbit, and numbers may stand without a unit."""
-    found = {text: AMOUNT.fullmatch(text) for *_, text in graph.edges(data="capacity")}
-    for *_, data in graph.edges(data=True):
-        if not found[data["capacity"]]:
-            raise script.Refused(f"{path}: {data['where']}: the capacity '{data['capacity']}' isn't a number from 0, "
-                                 "as 52.5 or 2.5 Gbit")
-    texts = {part.group(2) or "" for part in found.values()}
+    links, read = links_of(graph), {}
+    found = tables.numbers((data["capacity"] for *_, data in links), graph.graph["points"])
+    for *_, data in links:
+        try:
+            read[data["capacity"]] = tables.only_number(data["capacity"], found[data["capacity"]])
+        except script.Refused as failure:
+            raise script.Refused(f"{path}: {data['where']}: the capacity {failure}") from None
+    texts = {unit for _, unit in read.values()}
     stem = os.path.commonprefix([text[::-1] for text in texts])[::-1]
     if len(texts) > 1 and not (stem and all(text[:-len(stem)] in ("", *PREFIXES) for text in texts)):
         raise script.Refused(f"{path}: the capacities have different units: {script.some(sorted(texts))}")
     factors = {text: PREFIXES.get(text[:-len(stem)], 1) if len(texts) > 1 else 1 for text in texts}
-    unit = max(texts, key=factors.get)
-    exact = {text: Fraction(part.group(1).replace(",", ".")) * factors[part.group(2) or ""] / factors[unit]
-             for text, part in found.items()}
-    return [exact[text] for *_, text in graph.edges(data="capacity")], unit
+    best = max(texts, key=factors.get)
+    exact = {text: number * factors[unit] / factors[best] for text, (number, unit) in read.items()}
+    return [exact[data["capacity"]] for *_, data in links], best
 
 
 def arcs(graph, path, given, more):
@@ -127,7 +133,7 @@ def arcs(graph, path, given, more):
 def ends_of(graph):
     """The ends of the links by number, in an array with two rows."""
     number = {place: index for index, place in enumerate(graph)}
-    return np.array([(number[one], number[other]) for one, other in graph.edges()], np.uint32).T.copy()
+    return np.array([(number[one], number[other]) for one, other, _ in links_of(graph)], np.uint32).T.copy()
 
 
 def parts(graph):

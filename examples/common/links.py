@@ -19,7 +19,10 @@ def given(description):
     words.add_argument("table", help="a CSV file with the columns from, to and capacity")
     words.add_argument("sources", help="the names of the sources, separated by commas")
     words.add_argument("sinks", help="the names of the sinks, separated by commas")
-    return words.parse_args()
+    given = words.parse_args()
+    if given.scale < 1:
+        words.error("--scale is a number from 1")
+    return given
 
 
 class Links:

@@ -9,7 +9,9 @@ and column. Texts are brought into one form of Unicode (NFC), so that names that
 
 import codecs
 import csv
+import functools
 import io
+import itertools
 import os
 import re
 import sys
@@ -22,15 +24,47 @@ GREATEST = 2 ** 64 - 1  # The greatest capacity that `flow` takes.
 OTHER_NAMES = {"from": ("source", "src", "one"), "to": ("target", "dst", "other"), "capacity": ("weight", "cap"),
                "place": ("site", "node")}
 """What a column may be called too. Small letters and capitals are the same."""
-NUMBER = re.compile(r"\d+([.,]\d+)?([eE]\+?\d{1,2})?")
+WAYS = {mark + point: re.compile(
+    rf"([0-9]+(?:[{point}][0-9]+)?(?:e[+-]?[0-9]{{1,2}})?|[1-9][0-9]{{0,2}}(?:[{mark}][0-9]{{3}})+(?:[{point}][0-9]+)?)"
+    r"\s*((?!e[+-]?[0-9])(?:/?[^\W\d_]|[%‰€$£¥]).*)?", re.IGNORECASE)
+    for mark, point in ((",", "."), (".", ","), (" '’", "."), (" '’", ","))}
+"""The ways to write a number and its unit, by what separates thousands and, last, what separates decimals."""
+
+
+def numbers(texts, points=",."):
+    """For each text of a column what it can be: pairs of a number from 0, in Python's way, and its unit. All texts are
+    written in one way, with one of these decimal points, which those with two separators or without groups of three
+    tell. Where two ways are left that differ, a text has two pairs; where none is, it has none."""
+    texts, left, found = dict.fromkeys(texts), {way: form for way, form in WAYS.items() if way[-1] in points}, {}
+    for text in texts:
+        if not (text.isascii() and text.isdigit()):  # Digits alone are the same in every way.
+            fits = {way: fit for way, form in left.items() if (fit := form.fullmatch(text))}
+            left, found[text] = {way: left[way] for way in fits} or left, fits
+    read = {text: {(re.sub(f"[{way[:-1]}]", "", fit[1]).replace(way[-1], "."), fit[2] or "")
+                   for way, fit in fits.items() if way in left} for text, fits in found.items()}
+    return {text: read.get(text, {(text, "")}) for text in texts}
+
+
+def only_number(text, found):
+    """The number and the unit of a text, where it can be one number alone."""
+    if len(found) == 1:
+        (digits, unit), = found
+        return Fraction(digits), unit
+    if not any(form.fullmatch(text) for form in WAYS.values()):
+        raise Refused(f"'{text}' isn't a number from 0, as 52 or 52.5")
+    if not found:
+        raise Refused(f"'{text}' separates thousands or decimals unlike the rows before it")
+    less, more = sorted(float(digits) for digits, _ in found)
+    shown, other = re.match(r"[\d.,]+", text)[0], "," if "." in text else "."
+    raise Refused(f"'{text}' can be {more:g} or {less:g}: write {shown}{other}0 or {shown}0")
 
 
 class Row:
     """A row: `row[column]` is its text, empty where the table has no such column. Blanks around a text don't count, and
-    a run of blanks within it is one blank."""
+    a run of blanks within it is one blank. `numbers` tells what the texts of a column of the table can be."""
 
-    def __init__(self, path, number, texts, mark):
-        self.path, self.number, self.texts, self.mark = path, number, texts, mark
+    def __init__(self, path, number, texts, numbers_of):
+        self.path, self.number, self.texts, self.numbers_of = path, number, texts, numbers_of
 
     def __getitem__(self, column):
         return self.texts.get(column, "")
@@ -44,14 +78,17 @@ class Row:
         return self[column] or self.refuse(column, "it is empty")
 
     def whole(self, column, most=GREATEST, scale=None):
-        """The whole number from 0 up to the most, once it is multiplied with the scale, if there is one. A comma is a
-        decimal comma where it separates no columns."""
+        """The whole number from 0 up to the most, once it is multiplied with the scale, if there is one."""
         text = self.name(column)
-        if not (text.isascii() and NUMBER.fullmatch(text)) or self.mark == "," in text:
+        try:
+            number, unit = only_number(text, self.numbers_of(column)[text])
+        except Refused as failure:
+            self.refuse(column, failure)
+        if unit:
             self.refuse(column, f"'{text}' isn't a number from 0, as 52 or 52.5")
-        number = Fraction(text.replace(",", ".")) * (scale or 1)
+        number *= scale or 1
         if number.denominator > 1:
-            more = next(10 ** digits for digits in range(1, 99) if (number * 10 ** digits).denominator == 1)
+            more = next(10 ** digits for digits in itertools.count(1) if (number * 10 ** digits).denominator == 1)
             hint = f"; --scale {scale * more} counts in smaller units" if scale else ""
             self.refuse(column, f"'{text}' isn't whole{hint}")
         return int(number) if number <= most else self.refuse(column, f"'{text}' isn't between 0 and {most}")
@@ -60,7 +97,7 @@ class Row:
 def read_table(path, *columns, names=(), known=None):
     """The rows of a table with these columns. `names` says what some are called in this table; a note on standard error
     names columns that aren't among the `known` ones."""
-    mark, rows = _fields(path)
+    rows = _fields(path)
     if not rows:
         raise Refused(f"{path}: row 1 must name the columns {', '.join(columns)}, but the file is empty")
     (_, header), *rows = rows
@@ -69,7 +106,8 @@ def read_table(path, *columns, names=(), known=None):
     if strange:
         print(f"{os.path.basename(sys.argv[0])}: {path}: the column {', '.join(strange)} is unknown and ignored; known "
               f"are {', '.join([*columns, *known])}", file=sys.stderr, flush=True)
-    found = [Row(path, number, dict(zip(keys, fields)), mark) for number, fields in rows]
+    numbers_of = functools.cache(lambda column: numbers(row[column] for row in found))
+    found = [Row(path, number, dict(zip(keys, fields)), numbers_of) for number, fields in rows]
     for row, (number, fields) in zip(found, rows):
         for column in set(columns) - set(row.texts):
             row.refuse(column, f"the row ends before it: it has {len(fields)} of {len(keys)} columns")
@@ -105,9 +143,9 @@ def _keys(path, header, columns, names):
 
 
 def _fields(path):
-    """The separator of columns, and the number and the texts of each row that isn't empty, out of a file in UTF-8, or
-    in UTF-16 with its mark. Excel's line `sep=;` names the separator, and Excel doesn't count it as a row; else it is
-    the first row's most frequent one outside quotes."""
+    """The number and the texts of each row that isn't empty, out of a file in UTF-8, or in UTF-16 with its mark. The
+    line `sep=;` of Excel names the separator of columns, and Excel doesn't count it as a row; else it is the first
+    row's most frequent one outside quotes."""
     with open(path, "rb") as file:
         raw, number = file.read(), 0
     wide = raw.startswith((codecs.BOM_UTF16_LE, codecs.BOM_UTF16_BE))
@@ -126,7 +164,7 @@ def _fields(path):
                 rows.append((number, [" ".join(field.split()) for field in fields]))
     except csv.Error as failure:
         raise Refused(f"{path}: row {number + 1} isn't a row of a table: {failure}") from None
-    return mark, rows
+    return rows
 
 
 def terminals(sources, sinks, names, where):

@@ -1,10 +1,5 @@
 #!/usr/bin/env python3
-"""Finds the weakest spots of a network: how many links must fail to split it, which ones, and which new link helps.
-
-    python3 examples/redundancy/redundancy.py [LINKS] [--places TABLE]
-
-README.md describes the model, and --help lists the options.
-"""
+"""Finds the weakest spots of a network: which links must fail to split it, and which new link helps; see README.md."""
 
 import argparse
 import os
@@ -126,7 +121,7 @@ def draw(picture, graph, weak, inside, new):
 
 
 def main():
-    parser = argparse.ArgumentParser(description="Finds the weakest spots of a network.")
+    parser = argparse.ArgumentParser(description=__doc__)
     graphs.add_options(parser, "from", "to")
     parser.set_defaults(one_way=False, both_ways=True)
     words = parser.parse_args()
@@ -141,8 +136,8 @@ def main():
     if len(graph) < 2:
         raise script.Refused(f"{words.network}: a network has two places or more")
     weak, (where, measured) = weakest(list(graph), graphs.ends_of(graph)), graphs.spots(graph)
-    edges, new = list(graph.edges()), new_link(graph, where, weak.spots)
-    inside = [edges[link] for link in weak.links]
+    links, new = graphs.links_of(graph), new_link(graph, where, weak.spots)
+    inside = [links[link][:2] for link in weak.links]
     tell(graph, weak, inside, f"{'a short one' if measured else 'for instance'}: {' to '.join(new)}")
     picture = graphs.Picture(where, f"The loss of {count(weak.least, 'link')} can split this network")
     draw(picture, graph, weak, inside, new)

@@ -1,10 +1,5 @@
 #!/usr/bin/env python3
-"""Finds the bottleneck of a road network, and the roads whose upgrade helps.
-
-    python3 examples/roads/roads.py [ROADS] [--places TABLE] [--sources NAMES] [--sinks NAMES]
-
-README.md describes the model, and --help lists the options.
-"""
+"""Finds the bottleneck of a road network, and the roads whose upgrade helps. README.md describes the model."""
 
 import argparse
 import os
@@ -28,7 +23,7 @@ class Roads:
 
     def __init__(self, words):
         graph = graphs.read(words)
-        self.graph, self.edges, self.more = graph, list(graph.edges(data=True)), words.more
+        self.graph, self.edges, self.more = graph, graphs.links_of(graph), words.more
         self.given, unit = graphs.amounts(words.network, graph)
         self.unit = unit if words.unit is None else words.unit
         named = [getattr(words, f"{role}s") or self.listed(role) for role in ("source", "sink")]
@@ -67,7 +62,8 @@ class Roads:
     def name(self, place):
         """What a link is called, by its number."""
         one, other, data = self.edges[place]
-        return data["name"] or f"{self.title(one)} to {self.title(other)}"
+        row = f" in {data['where']}" if self.graph.number_of_edges(one, other) > 1 else ""
+        return data["name"] or f"{self.title(one)} to {self.title(other)}{row}"
 
     def amount(self, units, unit=None):
         """So many units of 1/scale as a decimal number."""
@@ -124,21 +120,22 @@ def draw(roads, path):
 
 
 def main():
-    parser = argparse.ArgumentParser(description="Finds the bottleneck of a road network.")
+    parser = argparse.ArgumentParser(description=__doc__)
     graphs.add_options(parser, "from", "to", "capacity")
     parser.add_argument("--sources", metavar="NAMES", help="where the way starts, separated by commas")
     parser.add_argument("--sinks", metavar="NAMES", help="where it ends")
     parser.add_argument("--unit", metavar="WORDS", help="what the capacities count")
-    parser.add_argument("--more", metavar="NUMBER", type=Fraction, default="500", help="what an upgrade adds; else 500")
+    parser.add_argument("--more", metavar="NUMBER", default="500", help="what an upgrade adds; else 500")
     ways = parser.add_mutually_exclusive_group()
     ways.add_argument("--one-way", action="store_true", help="the roads of a table lead from the first place alone")
-    ways.add_argument("--both-ways", action="store_true", help="the edges of GraphML can be used both ways")
+    ways.add_argument("--both-ways", action="store_true", help="the edges of GraphML and GML can be used both ways")
     words = parser.parse_args()
     if words.network is None:
         words.network, words.places = os.path.join(HERE, "roads.csv"), os.path.join(HERE, "places.csv")
         words.unit = words.unit or "vehicles an hour"
-    if words.more <= 0:
-        parser.error("an upgrade is a number above 0")
+    words.more, unit = tables.only_number(words.more, tables.numbers([words.more])[words.more])
+    if unit or not words.more:
+        parser.error("--more is a number above 0, without a unit")
     roads, path = Roads(words), script.output(words, "roads", "roads.png")
     tell(roads)
     draw(roads, path)

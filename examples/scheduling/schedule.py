@@ -1,10 +1,5 @@
 #!/usr/bin/env python3
-"""Gives the shifts of a week to people, and says which can't be staffed and why.
-
-    python3 examples/scheduling/schedule.py [PEOPLE SHIFTS]
-
-README.md describes the model and the columns of both tables.
-"""
+"""Gives the shifts of a week to people, and says which can't be staffed and why. README.md describes the model."""
 
 import argparse
 import csv
@@ -21,7 +16,7 @@ from script import count
 
 import graphs
 from graphs import np, plt
-from provedflow import maximum_flow, minimum_cut
+from provedflow import minimum_cut
 
 SOURCE, SINK = 0, 1
 CANT, COULD, WORKS, WISHED = range(4)
@@ -61,19 +56,6 @@ class Week:
         """The minimum cut of the network with these capacities."""
         return minimum_cut(self.src, self.dst, high, SOURCE, SINK, self.nodes, nearest=nearest)
 
-    def flow(self, low, high, value):
-        """A flow of this value within limits, or None. What is least is taken for granted: one node more gives it where
-        it arrives, and another takes it where it left (section 6 of the guide)."""
-        src, dst = np.append(self.src, SINK), np.append(self.dst, SOURCE)
-        low, high = np.append(low, value), np.append(high, value)
-        needed = np.bincount(dst, low, self.nodes) - np.bincount(src, low, self.nodes)
-        gives, takes = np.flatnonzero(needed > 0), np.flatnonzero(needed < 0)
-        src = np.concatenate([src, np.full(len(gives), self.nodes), takes]).astype(np.uint32)
-        dst = np.concatenate([dst, gives, np.full(len(takes), self.nodes + 1)]).astype(np.uint32)
-        room = np.concatenate([high - low, needed[gives], -needed[takes]]).astype(np.uint64)
-        found = maximum_flow(src, dst, room, self.nodes, self.nodes + 1, self.nodes + 2)
-        return low[:-1] + found.flows[:len(low) - 1].astype(np.int64) if found.value == needed[gives].sum() else None
-
     def check_least(self):
         """Sees that everybody can get the least, and that the shifts can; then both can at once."""
         for part, names, ends, words in (
@@ -89,39 +71,25 @@ class Week:
                 raise script.Refused(f"no roster keeps the least: {', '.join(np.array(names)[inside])} "
                                      + words.format(needed, needed - missing))
 
-    def fair(self):
-        """How many shifts each person works, where everybody has the same number as far as it goes and as many places
-        as can be are filled: round by round everybody may work one shift more, and keeps what there was before. What
-        each shift needs at least can be kept beside that at the end."""
-        low = self.low.copy()
-        low[self.of_shifts] = 0
-        for level in range(1, min(int(self.high[self.of_people].max()), len(self.days)) + 1):
-            high = self.high.copy()
-            high[self.of_people] = np.maximum(self.low[self.of_people], np.minimum(high[self.of_people], level))
-            low[self.of_people] = self.flow(low, high, self.cut(high).value)[self.of_people]
-        return low[self.of_people]
-
     def roster(self):
-        """The pairs of person and shift, and the wishes that are granted: in each round everybody's next wish, where it
-        can be granted beside all wishes before; every second round begins with the last person."""
-        low, high, granted = self.low.copy(), self.high.copy(), []
-        low[self.of_people] = high[self.of_people] = self.fair()
-        value, place = int(low[self.of_people].sum()), {pair: place for place, pair in enumerate(self.pairs)}
-
-        def grant(pairs):
-            arcs = [self.of_pairs.start + place[pair] for pair in pairs]
-            low[arcs] = 1
-            if arcs and self.flow(low, high, value) is None:
-                low[arcs] = 0
-                middle = len(pairs) // 2
-                return grant(pairs[:middle]) + grant(pairs[middle:]) if middle else []
-            return pairs
-
-        for turn in range(max(map(len, self.wishes.values()))):
-            asked = [(name, wishes[turn]) for name, wishes in self.wishes.items() if turn < len(wishes)]
-            granted += grant(asked[::-1] if turn % 2 else asked)
-        flow = self.flow(low, high, value)[self.of_pairs]
-        return [pair for pair, units in zip(self.pairs, flow) if units], granted
+        """The pairs of person and shift, and those of them that were wished: a flow of least cost, in which each aim
+        outweighs all that come after it. These are what everybody and each shift needs at least; places; equal numbers,
+        where a person's next shift costs more than the one before; wishes; and of as many wishes the first ones."""
+        turns, base = max(map(len, self.wishes.values())), 1 + len(self.people)
+        arc_of = {pair: (self.node[pair[0], self.day[pair[1]]], self.node[None, pair[1]]) for pair in self.pairs}
+        worth = {arc_of[name, shift]: base ** turns + base ** (turns - 1 - turn)
+                 for name, wishes in self.wishes.items() for turn, shift in enumerate(wishes)}
+        equal = 1 + sum(worth.values())
+        place = equal * (1 + len(self.people) * len(self.days) ** 2)
+        least, network = place * (1 + len(self.pairs)), graphs.nx.MultiDiGraph([(SINK, SOURCE)])
+        for src, dst, low, high in zip(*(row.tolist() for row in (self.src, self.dst, self.low, self.high))):
+            for unit in range(min(high, max(len(self.people), len(self.days)))):
+                cost = (equal * (2 * unit + 1) if src == SOURCE else -place if dst == SINK
+                        else -worth.get((src, dst), 0))
+                network.add_edge(src, dst, capacity=1, weight=cost - least * (unit < low))
+        _, flow = graphs.nx.network_simplex(network)
+        pairs = [pair for pair, (src, dst) in arc_of.items() if flow[src][dst][0]]
+        return pairs, [pair for pair in pairs if arc_of[pair] in worth]
 
 
 def limits(row, most):
@@ -201,7 +169,7 @@ def draw(path, week, pairs, granted):
 
 
 def main():
-    parser = argparse.ArgumentParser(description="Gives the shifts of a week to people.")
+    parser = argparse.ArgumentParser(description=__doc__)
     for table in ("people", "shifts"):
         parser.add_argument(table, nargs="?", default=os.path.join(HERE, f"{table}.csv"), help="else the example's own")
     parser.add_argument("--out", metavar="FOLDER", help="where the roster goes; else out/scheduling")

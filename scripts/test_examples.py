@@ -80,9 +80,10 @@ def data(tmp_path_factory):
           grid="from,to\n" + "".join(f"{one},{other}\n" for one, other in GRID * 2))
     grey, strokes = np.full((6, 8), 20, np.uint8), np.zeros((6, 8, 4), np.uint8)
     grey[:, 4:], strokes[1:5, 1], strokes[1:5, 6] = 230, (255, 0, 0, 255), (10, 0, 250, 255)
-    piece, wide = np.where((np.arange(8) > 5) & (np.arange(6) == 0)[:, None], 20, grey), grey.astype(np.uint16)
+    piece, floats = np.where((np.arange(8) > 5) & (np.arange(6) == 0)[:, None], 20, grey), grey.astype(np.float32) / 255
     for name, values in (("picture.png", grey), ("strokes.png", strokes), ("other.png", grey[1:]), ("piece.png", piece),
-                         ("bits16.png", wide * 257), ("bits16.tif", wide * 257), ("bits12.png", wide * 4095 // 255)):
+                         ("bits16.png", (floats * 65535).astype(np.uint16)), ("floats.tif", floats),
+                         ("bits12.tif", (floats * 4095).astype(np.uint16))):
         Image.fromarray(values).save(folder / name)
     for name, large in (("picture.png", "large.png"), ("strokes.png", "large_strokes.png")):
         Image.open(folder / name).resize((1000, 1000)).save(folder / large)
@@ -129,7 +130,6 @@ CASES = {
     "segmentation/segment.py": (
         ("piece.png strokes.png --outline 0.1", "26 of 48 pixels are object\n"),
         ("piece.png strokes.png --outline 0.1 --marked-only", "24 of 48 pixels are object\n"),
-        ("bits12.png strokes.png --outline 0.1", "24 of 48 pixels are object\n"),
         ("picture.png other.png", "other.png is 8 by 5 pixels, and the picture is 8 by 6\n"),
         ("picture.png picture.png", "no stroke marks the object; such strokes have the colour (255, 0, 0)\n"),
         ("picture.png none.png", "segment.py: there is no file none.png\n"),
@@ -159,7 +159,7 @@ def test_a_large_picture_and_its_sheet(data, checks):
     checks(2)
 
 
-@pytest.mark.parametrize("picture", ("picture.png", "bits16.png", "bits16.tif"))
+@pytest.mark.parametrize("picture", ("picture.png", "bits16.png", "bits12.tif", "floats.tif"))
 @pytest.mark.parametrize("neighbours, value", ((4, 2832), (8, 6 * 236 + 10 * 165)))
 def test_a_dark_and_a_light_half(data, checks, picture, neighbours, value):
     """The dark half is the object: 24 pixels, 4 at each row's left.

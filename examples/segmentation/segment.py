@@ -26,10 +26,10 @@ SAMPLES, SHOWN = 12, 1600  # How many colours stand for the strokes of a kind, a
 def colours_of(path):
     """A picture in colours. Greys of more than 8 bits are scaled to 8 by the number of bits that the brightest has."""
     picture = ImageOps.exif_transpose(Image.open(path))
-    if picture.mode.startswith("I"):
-        grey = np.asarray(picture).clip(0)
+    if picture.mode[0] in "IF":
+        grey = np.nan_to_num(np.asarray(picture)).clip(0)
         most = 2 ** max(int(grey.max()).bit_length(), 1) - 1
-        picture = Image.fromarray((grey * (255 / most)).astype(np.uint8))
+        picture = Image.fromarray(np.rint(grey * (255 / most)).astype(np.uint8))
     return picture.convert("RGB")
 
 

@@ -85,8 +85,8 @@ def data(tmp_path_factory):
                          ("bits16.png", (floats * 65535).astype(np.uint16)), ("floats.tif", floats),
                          ("bits12.tif", (floats * 4095).astype(np.uint16))):
         Image.fromarray(values).save(folder / name)
-    for name, large in (("picture.png", "large.png"), ("strokes.png", "large_strokes.png")):
-        Image.open(folder / name).resize((1000, 1000)).save(folder / large)
+    for name in ("picture.png", "strokes.png"):
+        Image.open(folder / name).resize((1000, 1000)).save(folder / f"large_{name}")
     return folder
 
 
@@ -98,6 +98,7 @@ CASES = {
         ("yed.graphml --sources 'Süd West' --sinks Ost --capacity label --both-ways", "West to Ost: 1.9 Gbit\n"),
         ("yed.graphml --sources 'Süd West' --sinks Ost", "from Süd West to Ost: 1.125\n"),
         ("yed.graphml --capacity speed", "yed.graphml: no edge has the attribute speed; there are label, weight, and"),
+        ("net.gml", "net.gml: no edge has the attribute capacity; there are value, and --capacity names one\n"),
         ("net.gml --sources A --sinks C --capacity value --more 0.5", "helps: A to B\n  A to B with 0.5 more: 1.625\n"),
         ("bad.gml", "roads.py: bad.gml isn't GraphML or GML that NetworkX can read: "),
         ("ways.csv --sources C --sinks B --one-way", "from C to B: 4\n"),
@@ -154,7 +155,7 @@ def test_each_option_is_tried(script):
 
 
 def test_a_large_picture_and_its_sheet(data, checks):
-    assert "900 by 900 pixels" in example("segmentation/segment.py large.png large_strokes.png --most 900", data)[1]
+    assert "900 by 900 pixels" in example("segmentation/segment.py large_picture.png large_strokes.png --most 900", data)[1]
     assert Image.open(data / "out/sheet.png").width == 1600
     checks(2)
 
@@ -176,28 +177,28 @@ def test_a_dark_and_a_light_half(data, checks, picture, neighbours, value):
     checks(3)
 
 
-def test_roads_of_random_networks(tmp_path, checks):
-    """Random networks against NetworkX: the value, and the roads whose upgrade raises it."""
-    chance = random.Random(1956)
-    for _ in range(8):
-        roads = [(*chance.sample("ABCDEFGH", 2), chance.randrange(1, 40)) for _ in range(14)]
-        roads += [("A", "B", 3), ("G", "H", 3)]
+@pytest.mark.parametrize("trial", range(8))
+def test_roads_of_a_random_network(tmp_path, checks, trial):
+    """A random network against NetworkX: the value, and the roads whose upgrade raises it."""
+    chance = random.Random(trial)
+    roads = [(*chance.sample("ABCDEFGH", 2), chance.randrange(1, 40)) for _ in range(14)]
+    roads += [("A", "B", 3), ("G", "H", 3)]
 
-        def value(upgraded):
-            graph = nx.Graph()
-            for place, (one, other, units) in enumerate(roads):
-                before = graph.get_edge_data(one, other, {"capacity": 0})["capacity"]
-                graph.add_edge(one, other, capacity=before + units + 5 * (place == upgraded))
-            return str(nx.maximum_flow_value(graph, "A", "H") / 10).removesuffix(".0")
+    def value(upgraded):
+        graph = nx.Graph()
+        for place, (one, other, units) in enumerate(roads):
+            before = graph.get_edge_data(one, other, {"capacity": 0})["capacity"]
+            graph.add_edge(one, other, capacity=before + units + 5 * (place == upgraded))
+        return str(nx.maximum_flow_value(graph, "A", "H") / 10).removesuffix(".0")
 
-        write(tmp_path, roads="sep=;\nSource;TARGET;weight;Name\n" + "".join(
-            f"{one};{other};{units // 10},{units % 10};{number}\n" for number, (one, other, units) in enumerate(roads)))
-        _, said = example("roads/roads.py roads.csv --sources A --sinks H --more 0.5 --unit t", tmp_path)
-        assert re.search("from A to H: (.*) t", said).group(1) == value(None)
-        told = {int(name): new for name, new in re.findall(r"^  (\d+) with 0.5 t more: (.*) t$", said, re.M)}
-        values = {place: value(place) for place in range(len(roads))}
-        assert told == {place: new for place, new in values.items() if new != value(None)}
-    checks(16)
+    write(tmp_path, roads="sep=;\nSource;TARGET;weight;Name\n" + "".join(
+        f"{one};{other};{units // 10},{units % 10};{number}\n" for number, (one, other, units) in enumerate(roads)))
+    _, said = example("roads/roads.py roads.csv --sources A --sinks H --more 0.5 --unit t", tmp_path)
+    assert re.search("from A to H: (.*) t", said).group(1) == value(None)
+    told = {int(name): new for name, new in re.findall(r"^  (\d+) with 0.5 t more: (.*) t$", said, re.M)}
+    values = {place: value(place) for place in range(len(roads))}
+    assert told == {place: new for place, new in values.items() if new != value(None)}
+    checks(2)
 
 
 def crossing(links, side):

@@ -17,7 +17,7 @@ sys.path.append(str(ROOT / "python"))
 
 @pytest.fixture(autouse=True)
 def built(flow, library, tmp_path, monkeypatch):
-    """Puts the program on the PATH, and says where the library is."""
+    """Puts the program on the PATH, and says where the library is, for each test of a file that imports this."""
     (tmp_path / "bin").mkdir()
     (tmp_path / "bin/flow").symlink_to(flow)
     monkeypatch.setenv("PATH", str(tmp_path / "bin"), prepend=os.pathsep)

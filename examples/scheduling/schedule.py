@@ -15,7 +15,7 @@ import tables
 from script import count
 
 import graphs
-from graphs import np, plt
+from graphs import np, nx, plt
 from provedflow import minimum_cut
 
 SOURCE, SINK = 0, 1
@@ -81,13 +81,13 @@ class Week:
                  for name, wishes in self.wishes.items() for turn, shift in enumerate(wishes)}
         equal = 1 + sum(worth.values())
         place = equal * (1 + len(self.people) * len(self.days) ** 2)
-        least, network = place * (1 + len(self.pairs)), graphs.nx.MultiDiGraph([(SINK, SOURCE)])
+        least, network = place * (1 + len(self.pairs)), nx.MultiDiGraph([(SINK, SOURCE)])
         for src, dst, low, high in zip(*(row.tolist() for row in (self.src, self.dst, self.low, self.high))):
             for unit in range(min(high, max(len(self.people), len(self.days)))):
                 cost = (equal * (2 * unit + 1) if src == SOURCE else -place if dst == SINK
                         else -worth.get((src, dst), 0))
                 network.add_edge(src, dst, capacity=1, weight=cost - least * (unit < low))
-        _, flow = graphs.nx.network_simplex(network)
+        _, flow = nx.network_simplex(network)
         pairs = [pair for pair, (src, dst) in arc_of.items() if flow[src][dst][0]]
         return pairs, [pair for pair in pairs if arc_of[pair] in worth]
 

@@ -57,8 +57,7 @@ EDGE = """<edge source="{}" target="{}"><data key="e"><y:PolyLineEdge><y:EdgeLab
 </y:PolyLineEdge></data><data key="w">1.125</data></edge>"""
 GML = """graph [ node [ id 7 label "A" ] node [ id 8 label "B" ] node [ id 9 label "C" ]
 edge [ source 7 target 8 value 1.125 ] edge [ source 9 target 8 value 2 ] ]"""
-GRID = [(10 * row + column, 10 * row + column + step) for row in range(10) for column in range(10)
-        for step in (1, 10) if (step == 10 and row < 9) or (step == 1 and column < 9)]
+GRID = "".join(f"{one},{other}\n" for one, other in nx.convert_node_labels_to_integers(nx.grid_2d_graph(10, 10)).edges)
 
 
 @pytest.fixture(scope="module")
@@ -76,8 +75,7 @@ def data(tmp_path_factory):
           twice="from,to,capacity\nB,A,3\nA,B,4\nC,B,5\n", dot="from;to;capacity\nA;B;7\nA;B;1.000\n",
           comma='from,to,capacity\nA,B,"1,200"\n', million='from,to,capacity\nA,B,"1,000,000"\nA,B,"1,200"\n',
           spots="place,x,y,role\nA,1,5,source\nB,2,5,\nC,3,5,\nD,4,5,\nE,5,5,sink\n", ring="from,to\nA,B\nB,C\nC,A\n",
-          parts="from,to\nA,B\nB,C\nD,E\n", one="from,to\nA,A\n",
-          grid="from,to\n" + "".join(f"{one},{other}\n" for one, other in GRID * 2))
+          parts="from,to\nA,B\nB,C\nD,E\n", one="from,to\nA,A\n", grid="from,to\n" + GRID * 2)
     grey, strokes = np.full((6, 8), 20, np.uint8), np.zeros((6, 8, 4), np.uint8)
     grey[:, 4:], strokes[1:5, 1], strokes[1:5, 6] = 230, (255, 0, 0, 255), (10, 0, 250, 255)
     piece, floats = np.where((np.arange(8) > 5) & (np.arange(6) == 0)[:, None], 20, grey), grey.astype(np.float32) / 255
@@ -155,7 +153,8 @@ def test_each_option_is_tried(script):
 
 
 def test_a_large_picture_and_its_sheet(data, checks):
-    assert "900 by 900 pixels" in example("segmentation/segment.py large_picture.png large_strokes.png --most 900", data)[1]
+    said = example("segmentation/segment.py large_picture.png large_strokes.png --most 900", data)[1]
+    assert "900 by 900 pixels" in said
     assert Image.open(data / "out/sheet.png").width == 1600
     checks(2)
 

@@ -10,7 +10,7 @@ circulants, permutations, lattices, trees and hubs that few links join, parts of
 three, five or seven links at each node, at random, so that forests need all arcs. Both are held against the greatest
 flows from one node to each other and back. Each network is asked directed and undirected, by the library, and each
 hundredth also by the program. A ring of 300,000 nodes in no order is asked by the program, since rows of so many
-are filled slice by slice. The last line is 'multigraphs: N passed, M failed'.
+are filled slice by slice. Of fewer than two nodes the library tells just that. The last line is 'multigraphs: N passed, M failed'.
 """
 import ctypes
 import os
@@ -214,6 +214,13 @@ def large_ring():
     return [("large ring", told, true) for told, true in found if told != true], len(found)
 
 
+def too_few_nodes():
+    """What is wrong with the answers for no node and for one, and how many there are."""
+    library = Library(os.path.abspath(sys.argv[2]))
+    found = [(library.links(nodes, [], undirected), "status 1") for nodes in (0, 1) for undirected in (0, 1)]
+    return [("too few nodes", told, true) for told, true in found if told != true], len(found)
+
+
 def main():
     given = [int(word) for word in sys.argv[3:]]
     smalls, composeds, regulars, first = given + [100_000, 1_000, 200, 1736][len(given):]
@@ -221,7 +228,7 @@ def main():
                (("composed", composeds), ("regular", regulars), ("small", smalls))
                for at in range(first, first + count, BATCH)]
     with ProcessPoolExecutor(len(os.sched_getaffinity(0))) as pool:
-        done = [*pool.map(try_batch, batches), large_ring()]
+        done = [*pool.map(try_batch, batches), large_ring(), too_few_nodes()]
     failed = [each for wrong, _ in done for each in wrong]
     print(*(f"failed: {each}\n" for each in failed[:20]), sep="", end="")
     print(f"multigraphs: {sum(tried for _, tried in done) - len(failed)} passed, {len(failed)} failed")

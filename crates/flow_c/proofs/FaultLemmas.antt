@@ -13,40 +13,39 @@ use Rattle.flow_c.specs.declared.refusals.Refusal.TheVariants.{Nodes, Lengths, B
 use Rattle.flow_c.specs.Refusals.{HasBadEnd, HasBadTerminal, HasBadTerminals, IsReason, status_number}
 use Rattle.flow_c.specs.Refusals.{IsTold, AreWithin, AreArcs, AreEnds}
 
-module _ (L : Type 0) (n : ℕ) (src dst sources sinks : List ℕ) (r : Refusal) where
-  -- why arcs are refused
-  pub arcs_reason : (r ≡ Memory) ⊎ ((r ≡ BadEnd) × HasBadEnd n src dst) → IsReason L n src dst sources sinks r
-  arcs_reason h = elim h [
-    | inl memory ↦ subst (IsReason L n src dst sources sinks) (sym memory) tt
-    | inr bad ↦ subst (IsReason L n src dst sources sinks) (sym bad.0) bad.1
-  ]
+-- why terminals are refused, where the arcs are good
+pub terminals_reason : (L : Type 0) (n : ℕ) (src dst sources sinks : List ℕ) (r : Refusal) → AreArcs L n src dst
+    → (r ≡ Memory) ⊎ ((r ≡ Terminal) × (HasBadTerminal n [] sources ⊎ HasBadTerminal n (from_one sources) sinks))
+    → IsReason L n src dst sources sinks r
+terminals_reason L n src dst sources sinks r arcs h = elim h [
+  | inl memory ↦ subst (IsReason L n src dst sources sinks) (sym memory) arcs
+  | inr bad ↦ subst (IsReason L n src dst sources sinks) (sym bad.0) (arcs.nodes_least, inr (inr bad.1))
+]
 
-  -- why terminals are refused
-  pub terminals_reason : (r ≡ Memory) ⊎ ((r ≡ Terminal)
-      × (HasBadTerminal n [] sources ⊎ HasBadTerminal n (from_one sources) sinks))
-      → IsReason L n src dst sources sinks r
-  terminals_reason h = elim h [
-    | inl memory ↦ subst (IsReason L n src dst sources sinks) (sym memory) tt
-    | inr bad ↦ subst (IsReason L n src dst sources sinks) (sym bad.0) (inr (inr bad.1))
-  ]
-
--- where the lists ought to have more lengths, they are refused for the same reason
-pub reason_more : (L M : Type 0) (n : ℕ) (src dst sources sinks : List ℕ) (r : Refusal) → (M → L)
+-- where the lists have to have more lengths, and have them, they are refused for the same reason
+pub reason_more : (L M : Type 0) (n : ℕ) (src dst sources sinks : List ℕ) (r : Refusal) → (M → L) → M
     → IsReason L n src dst sources sinks r → IsReason M n src dst sources sinks r
-reason_more L M n src dst sources sinks Nodes more h = h
-reason_more L M n src dst sources sinks Lengths more h = λ m. h (more m)
-reason_more L M n src dst sources sinks BadEnd more h = h
-reason_more L M n src dst sources sinks Terminal more h = h
-reason_more L M n src dst sources sinks Memory more h = h
+reason_more L M n src dst sources sinks Nodes less more h = h
+reason_more L M n src dst sources sinks Lengths less more h = λ m. h (less m)
+reason_more L M n src dst sources sinks BadEnd less more h = h
+reason_more L M n src dst sources sinks Terminal less more h = h
+reason_more L M n src dst sources sinks Memory less more h = record {
+  nodes_least = h.nodes_least;
+  nodes_most = h.nodes_most;
+  lengths = more;
+  src_within = h.src_within;
+  dst_within = h.dst_within;
+}
 
 -- the status of a refusal tells its reason
-pub told_by : (L : Type 0) (n : ℕ) (src dst sources sinks : List ℕ) (r : Refusal)
-    → IsReason L n src dst sources sinks r → IsTold L n src dst sources sinks (status_number r)
-told_by L n src dst sources sinks Nodes h = search rules
-told_by L n src dst sources sinks Lengths h = search rules
-told_by L n src dst sources sinks BadEnd h = search rules
-told_by L n src dst sources sinks Terminal h = search rules
-told_by L n src dst sources sinks Memory h = search rules
+pub told_by : (L B : Type 0) (n : ℕ) (src dst sources sinks : List ℕ) (r : Refusal)
+    → (FEWEST_NODES ≤ n → HasBadTerminals n sources sinks → B)
+    → IsReason L n src dst sources sinks r → IsTold L n src dst B (status_number r)
+told_by L B n src dst sources sinks Nodes bad h = search rules
+told_by L B n src dst sources sinks Lengths bad h = search rules
+told_by L B n src dst sources sinks BadEnd bad h = search rules
+told_by L B n src dst sources sinks Terminal bad h = let b = bad h.0 h.1 in search rules
+told_by L B n src dst sources sinks Memory bad h = search rules
 
 -- no refusal has the status of a success
 pub never_none : (r : Refusal) → status_number r ≡ 0 → ⊥
@@ -85,32 +84,37 @@ no_bad_terminals n sources sinks g bad = elim bad [
 ]
 
 -- good lists are refused for want of memory alone
-pub good_lists : (L : Type 0) (n k : ℕ) (src dst sources sinks : List ℕ) → (L → length dst ≡ length src)
-    → IsTold L n src dst sources sinks k → AreArcs L n src dst → AreEnds n sources sinks → (k ≡ 0) ⊎ (k ≡ 5)
-good_lists L n zero src dst sources sinks same told arcs ends = inl refl
-good_lists L n (suc zero) src dst sources sinks same told arcs ends = elim (told.nodes refl) [
+pub good_lists : (L B : Type 0) (n k : ℕ) (src dst : List ℕ) → (L → length dst ≡ length src)
+    → IsTold L n src dst B k → AreArcs L n src dst → (B → ⊥) → (k ≡ 0) ⊎ (k ≡ 5)
+good_lists L B n zero src dst same told arcs good = inl refl
+good_lists L B n (suc zero) src dst same told arcs good = elim (told.nodes refl) [
   | inl low ↦ let least = arcs.nodes_least in absurd (omega (arith, low, least))
   | inr high ↦ let most = arcs.nodes_most in absurd (omega (arith, high, most))
 ]
-good_lists L n (suc (suc zero)) src dst sources sinks same told arcs ends = absurd (told.lengths refl arcs.lengths)
-good_lists L n (suc (suc (suc zero))) src dst sources sinks same told arcs ends =
+good_lists L B n (suc (suc zero)) src dst same told arcs good = absurd (told.lengths refl arcs.lengths)
+good_lists L B n (suc (suc (suc zero))) src dst same told arcs good =
     absurd (no_bad_end n src dst (same arcs.lengths) arcs.src_within arcs.dst_within (told.ends refl))
-good_lists L n (suc (suc (suc (suc zero)))) src dst sources sinks same told arcs ends =
-    absurd (no_bad_terminals n sources sinks ends (told.terminals refl))
-good_lists L n (suc (suc (suc (suc (suc zero))))) src dst sources sinks same told arcs ends = inr refl
-good_lists L n (suc (suc (suc (suc (suc (suc k)))))) src dst sources sinks same told arcs ends =
+good_lists L B n (suc (suc (suc (suc zero)))) src dst same told arcs good =
+    absurd (good (told.terminals refl))
+good_lists L B n (suc (suc (suc (suc (suc zero))))) src dst same told arcs good = inr refl
+good_lists L B n (suc (suc (suc (suc (suc (suc k)))))) src dst same told arcs good =
     let most = told.most in absurd (omega (arith, most))
 
 -- so where they are refused, it is for want of memory
 pub good_refused : (L : Type 0) (n : ℕ) (src dst sources sinks : List ℕ) (r : Refusal) → (L → length dst ≡ length src)
     → IsReason L n src dst sources sinks r → AreArcs L n src dst → AreEnds n sources sinks
     → (status_number r ≡ 0) ⊎ (status_number r ≡ 5)
-good_refused L n src dst sources sinks r same h =
-    good_lists L n (status_number r) src dst sources sinks same (told_by L n src dst sources sinks r h)
+good_refused L n src dst sources sinks r same h arcs ends =
+    good_lists L (HasBadTerminals n sources sinks) n (status_number r) src dst same
+    (told_by L _ n src dst sources sinks r (λ _ bad. bad) h) arcs (no_bad_terminals n sources sinks ends)
 
 -- the first two nodes are terminals of whatever network
 pub first_two : (n : ℕ) → FEWEST_NODES ≤ n → AreEnds n (0 ∷ []) (1 ∷ [])
 first_two n least = grind (arith, common_steps)
+
+-- so they aren't bad
+pub no_bad_two : (n : ℕ) → FEWEST_NODES ≤ n → HasBadTerminals n (0 ∷ []) (1 ∷ []) → ⊥
+no_bad_two n least = no_bad_terminals n (0 ∷ []) (1 ∷ []) (first_two n least)
 
 -- the nodes of a list that are taken are nodes
 taken_within : (n : ℕ) (before given taken : List ℕ) → AreTaken n before given taken → AreWithin n given

@@ -1,5 +1,5 @@
 -- Why lists are refused, and the status that tells it.
-use Rattle.std.specs.Prelude.{◌≡◌, ℕ, ◌<◌, ◌≤◌, ◌⊎◌, ◌++◌, [], ⊤, List, length, slice_index}
+use Rattle.std.specs.Prelude.{◌≡◌, ℕ, ◌<◌, ◌≤◌, ◌⊎◌, ◌++◌, [], List, length, slice_index}
 use Rattle.std.specs.List.{All}
 use Rattle.flow_net.specs.declared.limits.TheConstants.{FEWEST_NODES, MOST_NODES, MOST_ARCS_BOTH_WAYS}
 use Rattle.flow_net.specs.Limits.{AreDistinct}
@@ -38,13 +38,26 @@ abbrev pub HasBadTerminals : ℕ → List ℕ → List ℕ → Type 0
 HasBadTerminals n sources sinks = (length sources ≡ 0) ⊎ ((length sinks ≡ 0)
     ⊎ (HasBadTerminal n [] sources ⊎ HasBadTerminal n (from_one sources) sinks))
 
--- the reason of a refusal, where the lists ought to have such lengths
+-- the numbers of a list are nodes
+abbrev pub AreWithin : ℕ → List ℕ → Type 0
+AreWithin n vs = All (λ v. v < n) vs
+
+-- the lists are a network of nodes 0 to n - 1, and have such lengths
+pub record AreArcs (Lens : Type 0) (n : ℕ) (src dst : List ℕ) : Type 0 where
+  pub nodes_least : FEWEST_NODES ≤ n
+  pub nodes_most : n ≤ MOST_NODES
+  pub lengths : Lens
+  pub src_within : AreWithin n src
+  pub dst_within : AreWithin n dst
+
+-- the reason of a refusal, where the lists ought to have such lengths: all else is tested before memory is asked for,
+-- but for which nodes the terminals are
 abbrev pub IsReason : Type 0 → ℕ → List ℕ → List ℕ → List ℕ → List ℕ → Refusal → Type 0
 IsReason Lens n src dst sources sinks Nodes = IsBadCount n
 IsReason Lens n src dst sources sinks Lengths = Lens → ⊥
 IsReason Lens n src dst sources sinks BadEnd = HasBadEnd n src dst
-IsReason Lens n src dst sources sinks Terminal = HasBadTerminals n sources sinks
-IsReason Lens n src dst sources sinks Memory = ⊤
+IsReason Lens n src dst sources sinks Terminal = (FEWEST_NODES ≤ n) × HasBadTerminals n sources sinks
+IsReason Lens n src dst sources sinks Memory = AreArcs Lens n src dst
 
 -- the same of the lists that are lent
 abbrev pub IsReasonFor : Type 0 → Lent → Refusal → Type 0
@@ -59,25 +72,14 @@ status_number BadEnd = 3
 status_number Terminal = 4
 status_number Memory = 5
 
--- what a status other than 0 tells, where the lists ought to have such lengths
-pub record IsTold (Lens : Type 0) (n : ℕ) (src dst sources sinks : List ℕ) (status : ℕ) : Type 0 where
+-- what a status other than 0 tells, where the lists ought to have such lengths and the terminals may be bad so
+pub record IsTold (Lens : Type 0) (n : ℕ) (src dst : List ℕ) (BadTerminals : Type 0) (status : ℕ) : Type 0 where
   pub nodes : status ≡ 1 → IsBadCount n
   pub lengths : status ≡ 2 → Lens → ⊥
   pub ends : status ≡ 3 → HasBadEnd n src dst
-  pub terminals : status ≡ 4 → HasBadTerminals n sources sinks
+  pub terminals : status ≡ 4 → BadTerminals
+  pub memory : status ≡ 5 → AreArcs Lens n src dst
   pub most : status ≤ 5
-
--- the numbers of a list are nodes
-abbrev pub AreWithin : ℕ → List ℕ → Type 0
-AreWithin n vs = All (λ v. v < n) vs
-
--- the lists are a network of nodes 0 to n - 1, and have such lengths
-pub record AreArcs (Lens : Type 0) (n : ℕ) (src dst : List ℕ) : Type 0 where
-  pub nodes_least : FEWEST_NODES ≤ n
-  pub nodes_most : n ≤ MOST_NODES
-  pub lengths : Lens
-  pub src_within : AreWithin n src
-  pub dst_within : AreWithin n dst
 
 -- the lists are terminals of such a network: a source and a sink or more, all of them nodes, and none twice
 pub record AreEnds (n : ℕ) (sources sinks : List ℕ) : Type 0 where

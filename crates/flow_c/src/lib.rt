@@ -7,10 +7,11 @@
 //! A call answers a status: 0, the answer was written; 1, fewer than [`FEWEST_NODES`](flow_net::FEWEST_NODES) or more
 //! than [`MOST_NODES`](flow_net::MOST_NODES) nodes; 2, too many arcs or a list of another length than it ought to have;
 //! 3, an end of an arc is no node; 4, no source, no sink, one that is no node, or one that stands there twice; 5,
-//! memory was refused. Unless it is 0 nothing is written. Each number that is lent is tested before it is used.
+//! memory was refused, for which nobody asks before the arcs have passed their tests. Unless it is 0 nothing is written.
+//! Each number that is lent is tested before it is used.
 #![tactic(auto)]
 
-ghost use Rattle.std.specs.Prelude.{◌≡◌, ◌≢◌, ◌+◌, ◌*◌, ◌^◌, ◌≤◌, ◌⊎◌, [], ◌∷◌, length};
+ghost use Rattle.std.specs.Prelude.{◌≡◌, ◌≢◌, ◌+◌, ◌*◌, ◌^◌, ◌≤◌, ◌⊎◌, length};
 ghost use Rattle.flow_net.specs.NodeSets.{one_of, IsLeastOver};
 ghost use Rattle.flow_net.specs.Cuts.{IsCut};
 ghost use Rattle.flow_net.specs.Connectivity.{IsProper};
@@ -19,7 +20,7 @@ ghost use Rattle.flow_tools.specs.connecting.Counts.{counted};
 ghost use Rattle.flow_tools.specs.solving.Solutions.{IsSolution};
 ghost use Rattle.flow_c.specs.Lists.{listed, listed_net, from_one, ones, is_yes, IsCutInto};
 ghost use Rattle.flow_c.specs.Checks.{IsChecked};
-ghost use Rattle.flow_c.specs.Refusals.{AreLengths, AreArcs, AreEnds, AreGood, IsTold, status_number};
+ghost use Rattle.flow_c.specs.Refusals.{AreLengths, AreArcs, AreEnds, AreGood, IsTold, HasBadTerminals, status_number};
 
 mod checking;
 mod lists;
@@ -67,7 +68,7 @@ pub extern "C" fn provedflow_flow_lists(
     ensures taken { result ≡ 0 → AreGood (AreLengths src.now dst.now cap.now × (length flow.old ≡ length src.now))
         nodes src.now dst.now sources.now sinks.now }
     ensures told { IsTold (AreLengths src.now dst.now cap.now × (length flow.old ≡ length src.now))
-        nodes src.now dst.now sources.now sinks.now result }
+        nodes src.now dst.now (HasBadTerminals nodes sources.now sinks.now) result }
     ensures refused { AreArcs (AreLengths src.now dst.now cap.now × (length flow.old ≡ length src.now))
         nodes src.now dst.now → AreEnds nodes sources.now sinks.now → (result ≡ 0) ⊎ (result ≡ 5) }
 {
@@ -113,7 +114,7 @@ pub extern "C" fn provedflow_cut_lists(
     ensures taken { result ≡ 0 → AreGood (AreLengths src.now dst.now cap.now × (length flow.old ≡ length src.now)
         × (length side.old ≡ nodes)) nodes src.now dst.now sources.now sinks.now }
     ensures told { IsTold (AreLengths src.now dst.now cap.now × (length flow.old ≡ length src.now)
-        × (length side.old ≡ nodes)) nodes src.now dst.now sources.now sinks.now result }
+        × (length side.old ≡ nodes)) nodes src.now dst.now (HasBadTerminals nodes sources.now sinks.now) result }
     ensures refused { AreArcs (AreLengths src.now dst.now cap.now × (length flow.old ≡ length src.now)
         × (length side.old ≡ nodes)) nodes src.now dst.now → AreEnds nodes sources.now sinks.now
         → (result ≡ 0) ⊎ (result ≡ 5) }
@@ -163,10 +164,8 @@ pub extern "C" fn provedflow_links_lists(
     ensures links { result ≢ 0 → links.new ≡ links.old }
     ensures taken { result ≡ 0 → AreArcs ((length src.now ≤ MOST_ARCS) × (length dst.now ≡ length src.now))
         nodes src.now dst.now × (pair ≢ 0 → AreEnds nodes sources.now sinks.now) }
-    ensures told_pair { pair ≢ 0 → IsTold ((length src.now ≤ MOST_ARCS) × (length dst.now ≡ length src.now))
-        nodes src.now dst.now sources.now sinks.now result }
-    ensures told_whole { pair ≡ 0 → IsTold ((length src.now ≤ MOST_ARCS) × (length dst.now ≡ length src.now))
-        nodes src.now dst.now (0 ∷ []) (1 ∷ []) result }
+    ensures told { IsTold ((length src.now ≤ MOST_ARCS) × (length dst.now ≡ length src.now))
+        nodes src.now dst.now ((pair ≢ 0) × HasBadTerminals nodes sources.now sinks.now) result }
     ensures refused { AreArcs ((length src.now ≤ MOST_ARCS) × (length dst.now ≡ length src.now))
         nodes src.now dst.now → (pair ≢ 0 → AreEnds nodes sources.now sinks.now)
         → (result ≡ 0) ⊎ (result ≡ 5) }
@@ -225,7 +224,7 @@ pub extern "C" fn provedflow_check_lists(
     ensures taken { result ≡ 0 → AreGood (AreLengths src.now dst.now cap.now × (length flow.now ≡ length src.now))
         nodes src.now dst.now sources.now sinks.now }
     ensures told { IsTold (AreLengths src.now dst.now cap.now × (length flow.now ≡ length src.now))
-        nodes src.now dst.now sources.now sinks.now result }
+        nodes src.now dst.now (HasBadTerminals nodes sources.now sinks.now) result }
     ensures refused { AreArcs (AreLengths src.now dst.now cap.now × (length flow.now ≡ length src.now))
         nodes src.now dst.now → AreEnds nodes sources.now sinks.now → (result ≡ 0) ⊎ (result ≡ 5) }
 {

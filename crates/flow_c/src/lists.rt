@@ -1,16 +1,16 @@
 //! Networks from lists that a caller lends.
 ghost use Rattle.std.specs.Prelude.{◌≡◌, ◌⊎◌, ℕ, ◌<◌, ◌≤◌, ◌++◌, ◌↔◌, [], length, slice_index, IsTrue, IfOk, IfErr};
-ghost use Rattle.std.specs.Prelude.{MatchResult};
+ghost use Rattle.std.specs.Prelude.{MatchBool, MatchResult};
 ghost use Rattle.flow_net.specs.NodeSets.{one_of};
 ghost use Rattle.flow_net.specs.Limits.{AreDistinct};
 ghost use Rattle.flow_net.specs.MarkedNodes.{marked};
 ghost use Rattle.flow_net.specs.declared.limits.TheConstants.{FEWEST_NODES, MOST_NODES};
 ghost use Rattle.flow_c.specs.Lists.{capacities, listed_net, network_of, from_one, AreTaken};
-ghost use Rattle.flow_c.specs.Refusals.{IsReasonFor, HasBadEnd, HasBadTerminal, AreLengthsOf, AreGoodFor, AreWithin};
-ghost use Rattle.flow_c.specs.declared.refusals.Refusal.TheVariants.{BadEnd, Terminal, Memory};
+ghost use Rattle.flow_c.specs.Refusals.{IsReasonFor, HasBadTerminal, AreLengthsOf, AreArcs, AreGoodFor, AreWithin};
+ghost use Rattle.flow_c.specs.declared.refusals.Refusal.TheVariants.{Terminal, Memory};
 
 use crate::refusals::Refusal;
-use flow_net::{Arc, FEWEST_NODES, MOST_ARCS_BOTH_WAYS, MOST_NODES, Network};
+use flow_net::{Arc, FEWEST_NODES, MOST_ARCS_BOTH_WAYS, MOST_NODES, Network, OutOfMemory};
 use flow_tools::{FlowNetwork, filled};
 use std::alloc::Global;
 
@@ -50,32 +50,26 @@ fn has_caps(lent: Lent<'_>, cap: Option<&[u64]>) -> bool
     }
 }
 
+/// Whether the numbers of a list are nodes.
+fn are_nodes(vs: &[u32], nodes: u32) -> bool
+    ensures { MatchBool result (AreWithin nodes vs.now) ((i : ℕ) × (i < length vs.now) × (nodes ≤ slice_index vs.now i)) }
+{
+    vs.iter().all(|v| *v < nodes)
+}
+
 /// The network of the lists of arcs.
-fn read_arcs(alloc: Global, lent: Lent<'_>, cap: Option<&[u64]>) -> Result<Network, Refusal>
-    requires least { FEWEST_NODES ≤ lent.nodes }
-    requires most { lent.nodes ≤ MOST_NODES }
-    requires lengths { AreLengthsOf lent (capacities lent cap) }
-    ensures net { IfOk result (λ net. net ≡ listed_net lent.entry.nodes lent.entry.src.now lent.entry.dst.now
+fn read_arcs(alloc: Global, lent: Lent<'_>, cap: Option<&[u64]>) -> Result<Network, OutOfMemory>
+    requires arcs { AreArcs (AreLengthsOf lent (capacities lent cap)) lent.nodes lent.src.now lent.dst.now }
+    ensures { IfOk result (λ net. net ≡ listed_net lent.entry.nodes lent.entry.src.now lent.entry.dst.now
         (capacities lent.entry cap.entry)) }
-    ensures ends { IfOk result (λ _. AreWithin lent.entry.nodes lent.entry.src.now
-        × AreWithin lent.entry.nodes lent.entry.dst.now) }
-    ensures refused { IfErr result (λ r. (r ≡ Memory)
-        ⊎ ((r ≡ BadEnd) × HasBadEnd lent.entry.nodes lent.entry.src.now lent.entry.dst.now)) }
 {
     let mut net = Network::new(alloc, lent.nodes);
     for i in 0..lent.src.len() {
-        let (src, dst) = (lent.src[i], lent.dst[i]);
-        if src >= lent.nodes || dst >= lent.nodes {
-            return Err(Refusal::BadEnd);
-        }
-        let arc = Arc {
-            src: src + 1,
-            dst: dst + 1,
+        net.push(Arc {
+            src: lent.src[i] + 1,
+            dst: lent.dst[i] + 1,
             cap: cap_at(lent, cap, i),
-        };
-        if net.push(arc).is_err() {
-            return Err(Refusal::Memory);
-        }
+        })?;
     }
     Ok(net)
 }
@@ -148,6 +142,9 @@ pub(crate) fn read_network(
     }
     if lent.sources.is_empty() || lent.sinks.is_empty() {
         return Err(Refusal::Terminal);
+    }
+    if !are_nodes(lent.src, lent.nodes) || !are_nodes(lent.dst, lent.nodes) {
+        return Err(Refusal::BadEnd);
     }
     let net = read_arcs(alloc, lent, cap)?;
     let (s, t) = read_both(alloc, lent)?;

@@ -12,6 +12,6 @@ returns-in-Err c =
       high = λ _. refl;
       low = λ _. refl;
       taken = λ e. absurd (never_none r e);
-      told = told_by _ _ _ _ _ _ r h.refused;
+      told = told_by _ _ _ _ _ _ _ r (λ _ bad. bad) h.refused;
       refused = good_refused _ _ _ _ _ _ r (λ l. l.0.1) h.refused;
     })

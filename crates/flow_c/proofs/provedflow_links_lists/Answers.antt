@@ -1,6 +1,6 @@
 -- `provedflow_links_lists`: a refusal is told, with nothing written; good lists are refused for want of memory alone.
-use Rattle.std.proofs.Common.{◌∙◌, refl, sym}
-use Rattle.flow_c.proofs.FaultLemmas.{never_none, told_by, good_refused, first_two}
+use Rattle.std.proofs.Common.{◌∙◌, refl, sym, [], ◌∷◌}
+use Rattle.flow_c.proofs.FaultLemmas.{never_none, told_by, good_refused, first_two, no_bad_two}
 use Rattle.flow_c.proofs.provedflow_links_lists.Goals as goal
 use Rattle.flow_c.proofs.provedflow_links_lists.Goals.{then-pair, else-pair}
 
@@ -12,15 +12,12 @@ returns-in-Err c =
       whole = λ e _. absurd (never_none r e);
       links = λ _. refl;
       taken = λ e. absurd (never_none r e);
-      told_pair = λ other. elim c.if-pair.branch [
+      told = elim c.if-pair.branch [
         | then-pair w ↦
-            told_by _ _ _ _ _ _ r (rw (sym w.found-is ∙ c.in-Err.is) at w.count_links-found.ensures.refused)
-        | else-pair w ↦ absurd (other w.if-pair.false)
-      ];
-      told_whole = λ none. elim c.if-pair.branch [
-        | then-pair w ↦ absurd (w.if-pair.true none)
+            told_by _ _ _ _ _ _ _ r (λ _ bad. (w.if-pair.true, bad))
+            (rw (sym w.found-is ∙ c.in-Err.is) at w.count_links-found.ensures.refused)
         | else-pair w ↦
-            told_by _ _ _ _ _ _ r
+            told_by _ _ _ _ _ (0 ∷ []) (1 ∷ []) r (λ least bad. absurd (no_bad_two c.args.nodes least bad))
             (rw (sym w.found-is ∙ c.in-Err.is) at w.count_links-found-else-pair.ensures.refused)
       ];
       refused = λ arcs ends. elim c.if-pair.branch [

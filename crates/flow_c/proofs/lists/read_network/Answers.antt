@@ -4,7 +4,7 @@ use Rattle.std.proofs.lemmas.Grind.{common_steps}
 use Rattle.std.specs.Prelude.{◌==◌}
 use Rattle.std.proofs.lemmas.List.{length-map}
 use Rattle.flow_c.proofs.ListLemmas.{passed_on}
-use Rattle.flow_c.proofs.FaultLemmas.{arcs_reason, terminals_reason, taken_ends}
+use Rattle.flow_c.proofs.FaultLemmas.{terminals_reason, taken_ends}
 use Rattle.flow_c.proofs.lists.read_network.Goals as goal
 
 -- a list as long as one that isn't empty
@@ -19,15 +19,15 @@ returns-clause-taken c =
         nodes_least = omega arith;
         nodes_most = omega arith;
         lengths = search rules;
-        src_within = c.in_ok-net.ensures.ends.0;
-        dst_within = c.in_ok-net.ensures.ends.1;
+        src_within = search rules;
+        dst_within = search rules;
       },
       taken_ends _ _ _ _ _ some_source some_sink c.in_ok-s.ensures.0 c.in_ok-s.ensures.1,
     )
 
 pub new-requires : goal.new-requires
 new-requires c =
-    let taken = c.in_ok-s.ensures in let nodes = ap (λ n. n.nodes) c.in_ok-net.ensures.net in
+    let taken = c.in_ok-s.ensures in let nodes = ap (λ n. n.nodes) c.in_ok-net.ensures in
     let s = ap length taken.0.all ∙ length-map c.args.lent.sources.now (λ v. suc v) in
     let t = ap length taken.1.all ∙ length-map c.args.lent.sinks.now (λ v. suc v) in
     record {
@@ -38,14 +38,10 @@ new-requires c =
       distinct = taken.1.distinct;
     }
 
-pub returns-in_err-net-clause-refused : goal.returns-in_err-net-clause-refused
-returns-in_err-net-clause-refused c =
-    passed_on _ _ _ _ c.from_residual.ensures.1 (arcs_reason _ _ _ _ _ _ _ c.in_err-net.ensures.refused)
-
 pub returns-in_err-s-clause-refused : goal.returns-in_err-s-clause-refused
 returns-in_err-s-clause-refused c =
-    passed_on _ _ _ _ c.from_residual-in_err-s.ensures.1 (terminals_reason _ _ _ _ _ _ _ c.in_err-s.ensures)
+    passed_on _ _ _ _ c.from_residual-in_err-s.ensures.1 (terminals_reason _ _ _ _ _ _ _ (search rules) c.in_err-s.ensures)
 
 pub returns-clause-network : goal.returns-clause-network
 returns-clause-network c =
-    let taken = c.in_ok-s.ensures in rw (c.in_ok-net.ensures.net, taken.0.all, taken.1.all) at c.new.ensures
+    let taken = c.in_ok-s.ensures in rw (c.in_ok-net.ensures, taken.0.all, taken.1.all) at c.new.ensures

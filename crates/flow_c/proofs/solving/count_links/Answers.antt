@@ -18,7 +18,7 @@ returns-in_err-network-clause-refused c =
     let count : length (ones src) ≡ length src = length-replicate (length src) 1 in
     passed_on _ _ _ _ c.from_residual.ensures.1
     (reason_more _ _ _ _ _ _ _ _ (λ l. let few = l.0 in (omega (arith, few), l.1, count))
-    c.in_err-network.ensures.refused)
+    (c.if-lent.false, c.if-lent-2.false) c.in_err-network.ensures.refused)
 
 pub returns-clause-ok : goal.returns-clause-ok
 returns-clause-ok c = rw (c.in_ok-network.ensures.network) at c.in_ok-links.ensures

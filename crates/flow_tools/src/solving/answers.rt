@@ -2,7 +2,7 @@
 //!
 //! All memory is asked for before a solver begins, except for an answer that is read from a renumbered copy: the arcs
 //! of the copy are freed before that.
-ghost use Rattle.std.specs.Prelude.{◌≡◌, ℕ, not, List, ◌≤◌, length, IfOk};
+ghost use Rattle.std.specs.Prelude.{◌≡◌, ℕ, ◌+◌, ◌*◌, not, List, ◌≤◌, length, IfOk};
 ghost use Rattle.flow_net.specs.Nets.{Instance};
 ghost use Rattle.flow_net.specs.Flows.{Fits};
 ghost use Rattle.flow_net.specs.MarkedNodes.{marked};
@@ -142,17 +142,19 @@ pub fn solve_value(alloc: Global, network: FlowNetwork) -> Result<u128, OutOfMem
     Ok(find_flow(solved, &mut table, work.as_mut_slice()))
 }
 
-/// Finds a flow of the greatest value, and answers that value.
+/// Finds a flow of the greatest value, within the steps of [`Levels`], and answers that value.
 fn find_flow(network: &FlowNetwork, table: &mut FlowTable, work: &mut [u32]) -> u128
     requires fits { Fits network.now.net table.old.flows }
     requires cells { work_cells network.now.net ≤ length work.old }
-    ensures { IsSolution network.now result table.new.flows }
+    ensures solution { IsSolution network.now result table.new.flows }
+    ensures steps { table.new.steps
+        ≤ table.old.steps + 4 * network.now.net.nodes * network.now.net.nodes * length network.now.net.arcs }
 {
     let (net, s, t) = (network.net(), network.sources(), network.sinks());
     Levels::greatest_flow(net, s, t, table, work)
 }
 
-/// The same, and marks the source side of a minimum cut.
+/// The same, and marks the source side of a minimum cut, by as many looks more as there are half-arcs.
 fn find_cut(
     network: &FlowNetwork,
     table: &mut FlowTable,
@@ -165,6 +167,9 @@ fn find_cut(
     requires side { length side.old ≡ network.now.net.nodes }
     ensures solution { IsSolution network.now result table.new.flows }
     ensures cut { IsMarkedCut network.now (is_sink nearest) result side.new }
+    ensures steps { table.new.steps
+        ≤ table.old.steps + 4 * network.now.net.nodes * network.now.net.nodes * length network.now.net.arcs
+        + 2 * length network.now.net.arcs }
 {
     let (net, s, t) = (network.net(), network.sources(), network.sinks());
     // Brings the network's limits, `IsNet`, into the proof.

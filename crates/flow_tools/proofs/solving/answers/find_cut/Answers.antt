@@ -29,3 +29,9 @@ returns-in-Sink-clause-cut c =
     (λ v within.
     let most : v ≤ length old = omega (arith, within.1, size) in
     rw (c.mark_others.ensures.marks v within.0 most) (false_of_not (marked old v) _ (side.nodes v within))))
+
+pub returns-in-Source-clause-steps : goal.returns-in-Source-clause-steps
+returns-in-Source-clause-steps c = rw c.net-net.ensures.net at c.cut_nearest_sources.ensures.steps
+
+pub returns-in-Sink-clause-steps : goal.returns-in-Sink-clause-steps
+returns-in-Sink-clause-steps c = rw c.net-net.ensures.net at c.cut_nearest_sinks-value.ensures.steps

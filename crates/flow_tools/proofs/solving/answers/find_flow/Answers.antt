@@ -1,8 +1,8 @@
 -- `find_flow`: what the method finds, of the network and its terminals.
 use Rattle.flow_tools.proofs.solving.answers.find_flow.Goals as goal
 
-pub returns : goal.returns
-returns c =
+pub returns-clause-solution : goal.returns-clause-solution
+returns-clause-solution c =
     let e = c.greatest_flow.ensures in
     let net = c.net-net.ensures.net in let s = c.sources-s.ensures.sources in let t = c.sinks-t.ensures.sinks in
     record {
@@ -11,3 +11,6 @@ returns c =
       valued = rw (net, s) at e.value;
       no_loops = rw net at e.loops;
     }
+
+pub returns-clause-steps : goal.returns-clause-steps
+returns-clause-steps c = rw c.net-net.ensures.net at c.greatest_flow.ensures.steps

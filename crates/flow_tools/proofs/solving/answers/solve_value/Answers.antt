@@ -12,5 +12,5 @@ returns c =
     let arranged = c.in_ok-table.field-0.arranged in (
       flows_of arranged flows,
       solution_of c.args.network arranged value flows c.in_ok-table.ensures.same
-          (subst (λ o. IsSolution o value flows) c.lend_solved-solved.ensures c.find_flow.ensures),
+          (subst (λ o. IsSolution o value flows) c.lend_solved-solved.ensures c.find_flow.ensures.solution),
     )

@@ -19,8 +19,8 @@
  *   - No call is made from a signal handler, nor in a forked child of a process with threads.
  * Everything else is tested before it is used: the number of nodes, the ends of arcs, the terminals.
  *
- * Each function returns a status. If it isn't PROVEDFLOW_OK, nothing was written. Valid lists are refused only if
- * memory is refused.
+ * Each function returns a status. If it isn't PROVEDFLOW_OK, nothing was written. It is proved that valid lists get
+ * PROVEDFLOW_OK or PROVEDFLOW_MEMORY, and tested that the latter means refused memory.
  *
  * Link with -lprovedflow; the library needs the C library alone.
  */
@@ -30,6 +30,10 @@
 #include <stddef.h>
 #include <stdint.h>
 #include <stdlib.h>
+
+#if SIZE_MAX < 0xFFFFFFFFFFFFFFFF
+#error "provedflow.h needs a size_t of 64 bits"
+#endif
 
 /* The version of this header. */
 #define PROVEDFLOW_VERSION "0.1.0"
@@ -125,10 +129,10 @@ static inline uint32_t provedflow_flow(uint32_t nodes, size_t arcs, const uint32
 /* Finds a minimum cut: the same as provedflow_flow, and for each node on which side of the cut it lies.
  *
  * side has room for one byte for each node, and gets 1 for a node on the source side, and 0 for one on the other. It
- * may not be NULL: then the status is PROVEDFLOW_LENGTHS. Where there are several minimum cuts, it is the one nearest
- * the sources, whose source side lies within that of each other; where nearest_sinks isn't 0, it is the one nearest the
- * sinks. The value is the capacity of the arcs that lead from the source side to the other. flow, high and low may be
- * NULL. */
+ * may not be NULL: then the status is PROVEDFLOW_LENGTHS, or PROVEDFLOW_NODES for 0 nodes. Where there are several
+ * minimum cuts, it is the one nearest the sources, whose source side lies within that of each other; where
+ * nearest_sinks isn't 0, it is the one nearest the sinks. The value is the capacity of the arcs that lead from the
+ * source side to the other. flow, high and low may be NULL. */
 static inline uint32_t provedflow_cut(uint32_t nodes, size_t arcs, const uint32_t *src, const uint32_t *dst,
                                       const uint64_t *cap, size_t n_sources, const uint32_t *sources, size_t n_sinks,
                                       const uint32_t *sinks, uint32_t nearest_sinks, uint64_t *flow, uint8_t *side,

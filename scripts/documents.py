@@ -11,8 +11,9 @@ scratch folder of its own, with a copy of examples/ and with FLOW on the PATH as
 command before. In a block fenced as ```console checkout, they run in the repository itself, where standard output
 alone is compared, with the repository's path shown as /path/to/flow, and they must leave no file behind that git would
 take. Links to files of the repository must lead somewhere, and each file of the crates must stand on the page that
-tells what stands where, by its path. Figures of speed stand on the pages that the benchmarks write, and in no other's
-prose. Each check that fails is printed; the last line counts them.
+tells what stands where, by its path. The README names the logic of the kit that is there by its sum. Figures of speed
+stand on the pages that the benchmarks write, and in no other's prose. Each check that fails is printed; the last line
+counts them.
 """
 import difflib
 import os
@@ -175,6 +176,12 @@ def check_names():
                   f"{'/'.join([crate, *path])} is not named in docs/ARCHITECTURE.md")
 
 
+def check_logic():
+    """Looks in the README for the sum of the kit's logic, the last word of `rt version`."""
+    logic = subprocess.run(["rt", "version"], capture_output=True, text=True, check=True).stdout.split()[-1]
+    check(f"logic `{logic}`" in (REPOSITORY / "README.md").read_text(), f"the README doesn't name the logic {logic}")
+
+
 def main():
     library = pathlib.Path(sys.argv[2]).resolve() if sys.argv[1:2] == ["--library"] and sys.argv[2:] else None
     words = sys.argv[3:] if library else sys.argv[1:]
@@ -188,6 +195,7 @@ def main():
         check_links(document)
     if not named:
         check_names()
+        check_logic()
         check_speed()
     print(f"documents: {counts[True]} passed, {counts[False]} failed")
     return 1 if counts[False] else 0

@@ -19,8 +19,8 @@
  *   - No call is made from a signal handler, nor in a forked child of a process with threads.
  * Everything else is tested before it is used: the number of nodes, the ends of arcs, the terminals.
  *
- * Each function returns a status. If it isn't PROVEDFLOW_OK, nothing was written. It is proved that valid lists get
- * PROVEDFLOW_OK or PROVEDFLOW_MEMORY, and tested that the latter means refused memory.
+ * Each function returns a status. If it isn't PROVEDFLOW_OK, nothing was written. Valid lists get PROVEDFLOW_OK or
+ * PROVEDFLOW_MEMORY, as is proved of the exports; that the latter means refused memory is tested.
  *
  * Link with -lprovedflow; the library needs the C library alone.
  */

@@ -10,7 +10,8 @@ circulants, permutations, lattices, trees and hubs that few links join, parts of
 three, five or seven links at each node, at random, so that forests need all arcs. Both are held against the greatest
 flows from one node to each other and back. Each network is asked directed and undirected, by the library, and each
 hundredth also by the program. A ring of 300,000 nodes in no order is asked by the program, since rows of so many
-are filled slice by slice. Of fewer than two nodes the library tells just that. The last line is 'multigraphs: N passed, M failed'.
+are filled slice by slice. Of fewer than two nodes the library tells just that. The last line is
+'multigraphs: N passed, M failed'.
 """
 import ctypes
 import os

@@ -7,8 +7,8 @@
 //! A call answers a status: 0, the answer was written; 1, fewer than [`FEWEST_NODES`](flow_net::FEWEST_NODES) or more
 //! than [`MOST_NODES`](flow_net::MOST_NODES) nodes; 2, too many arcs or a list of another length than it ought to have;
 //! 3, an end of an arc is no node; 4, no source, no sink, one that is no node, or one that stands there twice; 5,
-//! memory was refused, for which nobody asks before the arcs have passed their tests. Unless it is 0 nothing is written.
-//! Each number that is lent is tested before it is used.
+//! memory was refused, which is asked for once the arcs have passed their tests. Unless it is 0 nothing is written. Each
+//! number that is lent is tested before it is used.
 #![tactic(auto)]
 
 ghost use Rattle.std.specs.Prelude.{◌≡◌, ◌≢◌, ◌+◌, ◌*◌, ◌^◌, ◌≤◌, ◌⊎◌, length};

@@ -52,7 +52,8 @@ fn has_caps(lent: Lent<'_>, cap: Option<&[u64]>) -> bool
 
 /// Whether the numbers of a list are nodes.
 fn are_nodes(vs: &[u32], nodes: u32) -> bool
-    ensures { MatchBool result (AreWithin nodes vs.now) ((i : ℕ) × (i < length vs.now) × (nodes ≤ slice_index vs.now i)) }
+    ensures { MatchBool result (AreWithin nodes vs.now)
+        ((i : ℕ) × (i < length vs.now) × (nodes ≤ slice_index vs.now i)) }
 {
     vs.iter().all(|v| *v < nodes)
 }

@@ -54,6 +54,34 @@ def graph_of(nodes, source, sink, arcs):
             "its links by provedflow.networkx.edge_connectivity": lambda: ("links", ours.edge_connectivity(links))}
 
 
+def floats_of(edges, draw):
+    """The calls on a random graph whose capacities are floats."""
+    import networkx as nx
+    from provedflow import networkx as ours
+    chance, graph = random.Random(SEED), nx.gnm_random_graph(edges // 10, edges, SEED, directed=True)
+    for _, _, attributes in graph.edges(data=True):
+        attributes["capacity"] = draw(chance)
+    return {"provedflow.networkx.maximum_flow": lambda: round(ours.maximum_flow(graph, 0, 1)[0], 6),
+            "NetworkX": lambda: round(nx.maximum_flow(graph, 0, 1)[0], 6)}
+
+
+def grid_of(pixels):
+    """The calls on a noisy picture of discs, by floats and by whole numbers."""
+    import numpy as np
+    from provedflow.pixels import Grid
+    chance, side = np.random.default_rng(SEED), round(pixels ** 0.5)
+    rows, columns = np.mgrid[:side, :side] * (8 / side)
+    picture = np.clip(128 + 90 * np.sin(rows) * np.sin(columns) + chance.normal(0, 25, (side, side)), 0, 255)
+
+    def cut(rounded):
+        grid = Grid((side, side), 4)
+        grid.join(lambda here, there, step: rounded(np.exp(-(here - there) ** 2 / 200)), of=picture.astype(np.uint8))
+        grid.add_terminals(rounded(picture / 364), rounded((255 - picture) / 364))
+        return float(grid.cut().mask.mean().round(3))
+    return {"Grid of floats": lambda: cut(lambda weights: weights),
+            "Grid of the same in integers": lambda: cut(lambda weights: (weights * 1e9).astype(np.int64))}
+
+
 def image(arcs):
     """A picture of discs to be cut out, of the benchmarks' family segmentation-4."""
     from grids import segmentation
@@ -65,6 +93,11 @@ PROBLEMS = {
     "random network, 50,000 arcs": lambda: matrix_of(*random_arcs(50_000)),
     "random network, 1,000,000 arcs": lambda: matrix_of(*random_arcs(1_000_000)),
     "random graph, 400,000 edges": lambda: graph_of(*random_arcs(400_000)),
+    "floats, 3,000 edges, exponential": lambda: floats_of(3_000, lambda chance: chance.expovariate(1)),
+    "floats, 60,000 edges, exponential": lambda: floats_of(60_000, lambda chance: chance.expovariate(1)),
+    "floats, 60,000 edges, log-uniform": lambda: floats_of(60_000, lambda chance: 10 ** chance.uniform(-9, 9)),
+    "floats, 60,000 edges, Pareto": lambda: floats_of(60_000, lambda chance: chance.paretovariate(1)),
+    "picture of 1,000,000 pixels": lambda: grid_of(1_000_000),
 }
 
 

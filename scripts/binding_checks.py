@@ -1,48 +1,39 @@
-"""What the trials of the package for Python share."""
+"""What the tests of the package for Python share."""
 
-import importlib.util
 import os
 import pathlib
+import re
 import subprocess
 import sys
+from fractions import Fraction
+
+import pytest
 
 ROOT = pathlib.Path(__file__).resolve().parent.parent
 PACKAGE = ROOT / "python"
+sys.path[:0] = [str(PACKAGE)]
 
 
-class Checks:
-    """What passed and what failed, and what was left out."""
+@pytest.fixture(autouse=True, scope="session")
+def named_library(library):
+    """Names the library to the package, here and in processes of their own."""
+    os.environ["PROVEDFLOW_LIBRARY"] = str(library)
 
-    def __init__(self):
-        self.passed = self.failed = 0
 
-    def true(self, name, good, why=""):
-        """Counts a check, and tells one that fails."""
-        if good:
-            self.passed += 1
-        else:
-            self.failed += 1
-            print(f"bindings: {name}: {why}")
+def refused(kind, words, call, *given, **named):
+    """Asserts that a call raises an error of just this kind, whose text has these words."""
+    with pytest.raises(kind, match=re.escape(words)) as failure:
+        call(*given, **named)
+    assert failure.type is kind
 
-    def equal(self, name, found, wanted):
-        """Counts a check that two things are the same."""
-        self.true(name, found == wanted, f"{found!r} where {wanted!r} is right")
 
-    def raises(self, name, kind, words, call):
-        """Counts a check that a call raises an error of just this kind, whose text has these words."""
-        try:
-            found = f"it answers {call()!r}"
-        except Exception as failure:
-            self.true(name, type(failure) is kind and words in str(failure), f"{type(failure).__name__}: {failure}")
-            return
-        self.true(name, False, found)
-
-    def has(self, module, what):
-        """Whether a library of Python is installed; tells loudly what isn't tried for want of it."""
-        there = importlib.util.find_spec(module) is not None
-        if not there:
-            print(f"SKIPPED: {what}, since {module} isn't installed")
-        return there
+def exact_value(nodes, arcs):
+    """The least cost of a cut between the first node and the last one, exactly; None where each cut is infinite."""
+    costs = []
+    for code in range(1, 1 << nodes - 1, 2):
+        paid = [weight for u, v, weight in arcs if code >> u & 1 and not code >> v & 1]
+        costs += [] if float("inf") in paid else [sum(map(Fraction, paid))]
+    return min(costs, default=None)
 
 
 def python(*words, path="", **environment):

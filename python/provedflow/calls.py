@@ -3,30 +3,41 @@
 from __future__ import annotations
 
 import ctypes
-import operator
 import threading
-from typing import TYPE_CHECKING, Any, NamedTuple, Optional, Union
+from array import array
+from itertools import compress
+from typing import TYPE_CHECKING, Any, Literal, NamedTuple, Optional, Union
 
-from provedflow.arrays import AMOUNT, NODE, Buffer, answer, numpy_of, read, room, terminals
+from provedflow.arrays import (
+    AMOUNT, INFINITE, NODE, Buffer, answer, as_given, numpy_of, read, room, terminals, whole)
 from provedflow.library import (
     ARC, MEMORY, MOST_ARCS, MOST_LINKS, MOST_NODES, OK, TERMINALS, FlowError, library)
+from provedflow.weights import Unbounded, Unit
 
 if TYPE_CHECKING:
-    from array import array
-    from collections.abc import Sequence
+    from collections.abc import Iterable
+    from typing import SupportsIndex
 
     import numpy
+    from numpy.typing import NDArray
 
-    Numbers = Union[Sequence[int], array[int], memoryview, numpy.ndarray[Any, Any]]
-    Nodes = Union[int, Numbers]
+    Numbers = Union[Iterable[SupportsIndex], NDArray[Any]]
+    Weights = Union[Iterable[Union[float, SupportsIndex]], NDArray[Any]]
+    Nodes = Union[SupportsIndex, Numbers]
+    Nearest = Literal["source", "sources", "sink", "sinks"]
 
 
 class Flow(NamedTuple):
     """A flow of the greatest value: the value, and what each arc carries, in the order of the arcs: an array of 64 bits
-    each, or a list of ints."""
+    each, or a list."""
 
-    value: int
-    flows: Any
+    value: Union[int, Any]
+    flows: Union[list[Any], NDArray[Any]]
+
+    @property
+    def gap(self) -> float:
+        """By how much less the value may be than the greatest; 0 where no weight was rounded."""
+        return getattr(self.value, "gap", 0)
 
 
 class Cut(NamedTuple):
@@ -34,9 +45,14 @@ class Cut(NamedTuple):
     other; for each node whether it lies on the source side, an array of bool or a list of bools; what each arc carries.
     """
 
-    value: int
-    side: Any
-    flows: Any
+    value: Union[int, Any]
+    side: Union[list[bool], NDArray[numpy.bool_]]
+    flows: Union[list[Any], NDArray[Any]]
+
+    @property
+    def gap(self) -> float:
+        """By how much more the value may be than the least; 0 where no weight was rounded."""
+        return getattr(self.value, "gap", 0)
 
 
 class Verdict(NamedTuple):
@@ -56,35 +72,39 @@ LONG = 20_000
 """The fewest arcs of a call that is made in a thread of its own. Starting one costs too much for smaller calls."""
 
 
-def maximum_flow(src: Numbers, dst: Numbers, capacities: Numbers, sources: Nodes, sinks: Nodes,
-                 nodes: Optional[int] = None) -> Flow:
+def maximum_flow(src: Numbers, dst: Numbers, capacities: Weights, sources: Nodes, sinks: Nodes,
+                 nodes: Optional[SupportsIndex] = None) -> Flow:
     """Finds the greatest value of a flow from the sources to the sinks, and such a flow.
 
     - src, dst: the two ends of each arc, nodes from 0; arrays of one length, the number of arcs.
-    - capacities: how much each arc may carry, from 0 to 2^64 - 1, in any unit; an array of the same length.
+    - capacities: how much each arc may carry, in any unit; an array of the same length. Whole numbers go from 0 to
+      2^64 - 1. Where one is a float, all are floats, each answer is one, and infinity is no limit.
     - sources, sinks: a node, or an array of different nodes; no node is both.
     - nodes: how many nodes there are; by default one more than the greatest named, and at least 2.
 
-    Returns Flow(value, flows). Takes some 100 bytes for each arc while it runs.
+    Returns Flow(value, flows). Takes some 100 bytes for each arc while it runs. Floats are rounded down to multiples of
+    a unit with which the value has up to 63 bits. The greatest value is at most `gap` more than the value.
 
-    Raises FlowError (a ValueError) if that is no network with its terminals, TypeError if something isn't a whole
-    number, MemoryError, and LibraryNotFound.
+    Raises FlowError (a ValueError) if that is no network with its terminals, or where no cut is finite, TypeError if
+    something is no such number, MemoryError, and LibraryNotFound.
 
     >>> maximum_flow([0, 0, 1], [1, 1, 2], [2 ** 64 - 1, 5, 2 ** 63], 0, 2)
     Flow(value=9223372036854775808, flows=[9223372036854775808, 0, 9223372036854775808])
+    >>> maximum_flow([0, 0, 1], [1, 1, 2], [0.5, 0.25, float("inf")], 0, 2)
+    Flow(value=0.75, flows=[0.5, 0.25, 0.75])
     """
-    given = Network(src, dst, sources, sinks, nodes, capacities)
-    flows, words = room(given.numpy, AMOUNT, given.arcs), Words()
-    given.ask("provedflow_flow_lists", *given.lists(), flows, *words.addresses())
-    return Flow(words.value(), answer(flows))
+    given = Network(src, dst, sources, sinks, nodes, capacities=capacities)
+    found = given.solve("sources" if given.unit else None)
+    return Flow(given.value(found, False), given.flows(found))
 
 
-def minimum_cut(src: Numbers, dst: Numbers, capacities: Numbers, sources: Nodes, sinks: Nodes,
-                nodes: Optional[int] = None, *, nearest: str = "sources") -> Cut:
+def minimum_cut(src: Numbers, dst: Numbers, capacities: Weights, sources: Nodes, sinks: Nodes,
+                nodes: Optional[SupportsIndex] = None, *, nearest: Nearest = "sources") -> Cut:
     """Finds a minimum cut between the sources and the sinks: the parameters are those of `maximum_flow`.
 
     Of several minimum cuts it is the one nearest the sources, whose source side lies within that of each other; with
-    nearest="sinks" the one nearest the sinks ("source" and "sink" mean the same).
+    nearest="sinks" the one nearest the sinks ("source" and "sink" mean the same). Floats are counted as they are
+    rounded: the value is what the cut costs in the weights given, and the least lies no more than `gap` below.
 
     Returns Cut(value, side, flows). Raises what `maximum_flow` raises.
 
@@ -93,21 +113,16 @@ def minimum_cut(src: Numbers, dst: Numbers, capacities: Numbers, sources: Nodes,
     >>> minimum_cut([0, 1, 2], [1, 2, 3], [4, 1, 1], 0, 3, nearest="sinks").side
     [True, True, True, False]
     """
-    if nearest not in NEAREST:
-        raise ValueError(f"nearest has to be 'sources' or 'sinks', and is {nearest!r}")
-    given = Network(src, dst, sources, sinks, nodes, capacities)
-    flows, words = room(given.numpy, AMOUNT, given.arcs), Words()
-    side = room(given.numpy, "B", given.nodes)
-    given.ask("provedflow_cut_lists", *given.lists(), NEAREST[nearest], flows, side, *words.addresses())
-    marks = answer(side)
-    return Cut(words.value(), marks.view("bool") if given.numpy else list(map(bool, marks)), answer(flows))
+    given = Network(src, dst, sources, sinks, nodes, capacities=capacities)
+    found = given.solve(nearest)
+    return Cut(given.value(found, True), found.side, given.flows(found))
 
 
-def edge_connectivity(src: Numbers, dst: Numbers, nodes: Optional[int] = None, *, sources: Optional[Nodes] = None,
-                      sinks: Optional[Nodes] = None, directed: bool = True) -> int:
+def edge_connectivity(src: Numbers, dst: Numbers, nodes: Optional[SupportsIndex] = None, *,
+                      sources: Optional[Nodes] = None, sinks: Optional[Nodes] = None, directed: bool = True) -> int:
     """Finds how many arcs must fail before some node is cut off from another.
 
-    It is the least number of arcs that leave a set of nodes that is neither empty nor all. With sources and sinks it is
+    It is the least number of arcs that leave a set of nodes that is neither empty nor all, and 0 for one node. With sources and sinks it is
     how many must fail before every sink is cut off from every source: only sets count that have all sources inside and
     all sinks outside. With directed=False arcs have no direction: those count that have exactly one end in the set.
 
@@ -128,17 +143,20 @@ def edge_connectivity(src: Numbers, dst: Numbers, nodes: Optional[int] = None, *
     if pair and (sources is None or sinks is None):
         raise ValueError("give both sources and sinks, or neither")
     given = Network(src, dst, sources if pair else (), sinks if pair else (), nodes)
+    if given.nodes == 1 and not pair:  # the library takes 2 or more
+        given.check_ends()
+        return 0
     links = ctypes.c_uint64()
     given.ask("provedflow_links_lists", *given.lists(), int(not directed), int(pair), ctypes.byref(links))
     return links.value
 
 
 def check(src: Numbers, dst: Numbers, capacities: Numbers, sources: Nodes, sinks: Nodes, flows: Numbers,
-          nodes: Optional[int] = None) -> Verdict:
+          nodes: Optional[SupportsIndex] = None) -> Verdict:
     """Checks whether a flow, wherever it comes from, has the greatest value.
 
     - flows: what each arc carries, whole numbers from 0 to 2^64 - 1; an array as long as src.
-    - the others: as of `maximum_flow`.
+    - the others: as of `maximum_flow`; capacities are whole numbers too.
 
     Returns Verdict(word, value, place). Its word is the first of these that applies: 'over' if an arc carries more than
     its capacity, 'unbalanced' if what enters a node that is no terminal isn't what leaves it, 'feasible' if another
@@ -150,7 +168,7 @@ def check(src: Numbers, dst: Numbers, capacities: Numbers, sources: Nodes, sinks
     >>> check([0, 1], [1, 2], [4, 3], 0, 2, [2, 1])
     Verdict(word='unbalanced', value=None, place=1)
     """
-    given = Network(src, dst, sources, sinks, nodes, capacities, read(flows, AMOUNT, "flows"))
+    given = Network(src, dst, sources, sinks, nodes, capacities=capacities, flows=flows)
     verdict, words = ctypes.c_uint32(), Words()
     given.ask("provedflow_check_lists", *given.lists(), ctypes.byref(verdict), *words.addresses())
     word = WORDS[verdict.value]
@@ -178,44 +196,109 @@ class Words:
         return self.value() - (self.words[0] >> 63 << 128)
 
 
-class Network:
-    """The lists of a call."""
+class Found(NamedTuple):
+    """What the library has found: a value, the side of a cut, and the flows, as it counts them."""
 
-    def __init__(self, src, dst, sources, sinks, nodes, capacities=None, flows=None):
-        given = (src, dst, sources, sinks) + (() if capacities is None else (capacities,))
-        self.numpy = numpy_of(given)
+    value: int
+    side: Any
+    flows: Buffer
+
+
+class Network:
+    """The lists of a call. Capacities that are floats are counted in a unit.
+
+    - amounts: the capacities and the flows, as far as the call has them; where there are flows too, both are whole.
+    """
+
+    def __init__(self, src, dst, sources, sinks, nodes, **amounts):
+        src, dst, sources, sinks, *given = map(as_given, (src, dst, sources, sinks, *amounts.values()))
+        self.numpy = numpy_of([src, dst, sources, sinks, *given])
         self.src, self.dst = read(src, NODE, "src"), read(dst, NODE, "dst")
-        self.capacities = None if capacities is None else read(capacities, AMOUNT, "capacities")
-        self.flows = flows
+        self.amounts = {name: read(thing, AMOUNT, name, "flows" not in amounts) for name, thing in zip(amounts, given)}
         self.sources, self.sinks = terminals(sources, "sources"), terminals(sinks, "sinks")
-        self.arcs = self.src.length
-        self.nodes = self.count_nodes() if nodes is None else operator.index(nodes)
+        self.arcs = len(self.src)
+        self.nodes = self.count_nodes() if nodes is None else whole(nodes, "nodes")
         self.check_lengths()
+        weights, self.unit = self.amounts.get("capacities", self.src), None
+        if not isinstance(weights, Buffer):
+            self.weigh(weights)
+
+    def weigh(self, weights):
+        """Counts weights that are floats in the unit that two cuts give: the nearest to the terminals that have no
+        infinite weight."""
+        self.check_ends()
+        src, dst = self.src.keeper, self.dst.keeper
+        if self.numpy:
+            src, dst, weights = map(self.numpy.asarray, (src, dst, weights))
+            endless = weights == INFINITE
+            some = [things[endless] for things in (src, dst, endless)]
+        else:
+            endless = [weight == INFINITE for weight in weights]
+            some = [list(compress(things, endless)) for things in (src, dst, endless)]
+        self.weights = src, dst, weights
+        infinite = Network(*some[:2], self.sources.keeper, self.sinks.keeper, self.nodes, capacities=some[2])
+        found = [infinite.solve(nearest) for nearest in ("sources", "sinks")]
+        if found[0].value:
+            raise Unbounded
+        self.unit = Unit(self.numpy, *(self.leaving(side) for _, side, _ in found))
+        units = self.unit.units(weights)
+        self.amounts["capacities"] = Buffer(units if self.numpy else array(AMOUNT, units))
+
+    def leaving(self, side):
+        """The weights of the arcs that leave a side."""
+        src, dst, weights = self.weights
+        if self.numpy:
+            return weights[side[src] & ~side[dst]]
+        return [weight for u, v, weight in zip(src, dst, weights) if side[u] and not side[v]]
 
     def lists(self):
         """The lists as the library takes them, with the number of nodes before them."""
-        arcs = [self.src, self.dst, *([] if self.capacities is None else [self.capacities])]
-        return [self.nodes, *arcs, self.sources, self.sinks, *([] if self.flows is None else [self.flows])]
+        amounts = list(self.amounts.values())
+        return [self.nodes, self.src, self.dst, *amounts[:1], self.sources, self.sinks, *amounts[1:]]
+
+    def solve(self, nearest=None):
+        """A maximum flow, or with a terminal that it is nearest a minimum cut too, as the library counts."""
+        if nearest is not None and nearest not in NEAREST:
+            raise ValueError(f"nearest has to be 'sources' or 'sinks', and is {nearest!r}")
+        flows, words = room(self.numpy, AMOUNT, self.arcs), Words()
+        if nearest is None:
+            self.ask("provedflow_flow_lists", *self.lists(), flows, *words.addresses())
+            return Found(words.value(), None, flows)
+        side = room(self.numpy, "B", self.nodes)
+        self.ask("provedflow_cut_lists", *self.lists(), NEAREST[nearest], flows, side, *words.addresses())
+        marks = answer(side)
+        return Found(words.value(), marks.view("bool") if self.numpy else list(map(bool, marks)), flows)
+
+    def value(self, found, of_cut):
+        """The value of a flow or a cut that was found."""
+        if self.unit is None:
+            return found.value
+        return self.unit.value(found.value, self.unit.lost(self.leaving(found.side)), of_cut)
+
+    def flows(self, found):
+        """The flows that were found, as an answer to the caller."""
+        return answer(found.flows) if self.unit is None else self.unit.amounts(answer(found.flows))
 
     def count_nodes(self):
         """One more than the greatest node that is named, and at least 2."""
-        return max([2] + [1 + int(max_of(ends)) for ends in (self.src, self.dst, self.sources, self.sinks)])
+        return max([2] + [1 + max_of(ends) for ends in (self.src, self.dst, self.sources, self.sinks)])
+
+    def check_ends(self):
+        """Checks that the ends of all arcs are nodes, as the library does too."""
+        if max(max_of(self.src), max_of(self.dst)) >= self.nodes:
+            raise FlowError(self.bad_arc())
 
     def check_lengths(self):
         """Checks that the lists fit each other and the limits, as the library's exports require."""
-        lengths = {"dst": self.dst.length}
-        if self.capacities is not None:
-            lengths["capacities"] = self.capacities.length
-        if self.flows is not None:
-            lengths["flows"] = self.flows.length
-        for name, length in lengths.items():
-            if length != self.arcs:
-                raise FlowError(f"src has {self.arcs} elements and {name} has {length}; both need one for each arc")
-        most = MOST_LINKS if self.capacities is None else MOST_ARCS
+        for name, things in {"dst": self.dst, **self.amounts}.items():
+            if len(things) != self.arcs:
+                raise FlowError(f"src has {self.arcs} elements and {name} has {len(things)}; both need one for each arc")
+        most = MOST_ARCS if self.amounts else MOST_LINKS
         if self.arcs > most:
             raise FlowError(f"there are {self.arcs} arcs, and at most {most} are taken")
-        if not 2 <= self.nodes <= MOST_NODES:
-            raise FlowError(f"there are {self.nodes} nodes, and 2 to {MOST_NODES} are taken")
+        least = 2 if self.amounts or self.sources.length else 1
+        if not least <= self.nodes <= MOST_NODES:
+            raise FlowError(f"there are {self.nodes} nodes, and {least} to {MOST_NODES} are taken")
 
     def ask(self, name, *words):
         """Calls the library, and raises an error if it refuses the lists."""
@@ -275,4 +358,4 @@ def max_of(buffer):
     """The greatest element of a list, or 0."""
     if not buffer.length:
         return 0
-    return buffer.keeper.max() if hasattr(buffer.keeper, "max") else max(buffer.keeper)
+    return int(buffer.keeper.max() if hasattr(buffer.keeper, "max") else max(buffer.keeper))

@@ -1,4 +1,4 @@
-"""Capacities of any kind of numbers, brought to whole numbers of 64 bits, and flows of these brought back."""
+"""Capacities of NetworkX's graphs: numbers of any kind, as floats or brought to whole numbers of 64 bits exactly."""
 
 import math
 from array import array
@@ -21,14 +21,22 @@ class TooMuch(nx.NetworkXError, NotImplementedError):
 
 
 def edges_of(G, capacity):
-    """The edges that can carry something, each with its capacity. Checks that each capacity is a number."""
+    """The edges that can carry something, each with its capacity. Checks that each capacity is a number. Where a finite
+    one is a float, all are."""
     edges = list(G.edges(data=capacity, default=INFINITE))
-    if any(type(amount) is not int for _, _, amount in edges):
+    kinds = {type(amount) for _, _, amount in edges}
+    if not kinds <= {int, float}:
         edges = [(u, v, number_of(amount)) for u, v, amount in edges]
-        for u, v, amount in edges:
-            if not is_number(amount):
-                raise nx.NetworkXError(f"the capacity of the edge ({u!r}, {v!r}) has to be a number, and is {amount!r}")
-    return [edge for edge in edges if edge[2] > 0 and edge[0] != edge[1]]
+    for u, v, amount in edges if kinds != {int} else ():
+        if not (amount == amount if type(amount) is float else is_number(amount)):
+            raise nx.NetworkXError(f"the capacity of the edge ({u!r}, {v!r}) has to be a number, and is {amount!r}")
+    edges = [edge for edge in edges if edge[2] > 0 and edge[0] != edge[1]]
+    if kind_of(amount for _, _, amount in edges) is not float:
+        return edges
+    try:
+        return [(u, v, float(amount)) for u, v, amount in edges]
+    except OverflowError:
+        raise nx.NetworkXError("beside a float, a capacity has to be less than 2^1024") from None
 
 
 def number_of(amount):
@@ -58,8 +66,8 @@ def as_fraction(amount):
 
 
 def kind_of(amounts):
-    """The kind of the answers: int where all capacities are whole, float where one is a float, else Fraction."""
-    kinds = set(map(type, amounts))
+    """The kind of the answers: int where all finite capacities are whole, float where one is a float, else Fraction."""
+    kinds = {type(amount) for amount in amounts if amount != INFINITE}
     if all(issubclass(kind, Integral) for kind in kinds):
         return int
     if any(issubclass(kind, Real) and not issubclass(kind, Rational) for kind in kinds):
@@ -76,25 +84,11 @@ def whole_amounts(capacities, kind):
     return [int(amount * scale) for amount in amounts], scale
 
 
-def in_kind(amount, kind):
-    """An exact amount as an answer; a float is the nearest one."""
-    return amount if kind is Fraction else kind(amount)
-
-
-def edge_flow(units, full, capacity, scale, kind):
-    """The flow of an edge of so many units of 1/scale: equal to the capacity only where the edge is really full."""
-    amount = in_kind(Fraction(units, scale), kind)
-    return math.nextafter(amount, 0) if kind is float and units != full and amount >= capacity else amount
-
-
-def limit_of(cutoff, scale):
-    """A cutoff in whole numbers of a unit; None where there is none."""
-    return None if cutoff is None or cutoff == INFINITE else math.ceil(max(as_fraction(cutoff), 0) * scale)
-
-
 def split(srcs, dsts, amounts, scale):
     """The arcs as arrays, one of more than the greatest capacity as several beside each other, and how many each is;
-    None where each is one. The amounts are whole numbers of 1/scale."""
+    None where each is one. The amounts are floats or whole numbers of 1/scale."""
+    if any(type(amount) is float for amount in amounts):
+        return (array("I", srcs), array("I", dsts), amounts), None
     if max(amounts, default=0) <= GREATEST_CAPACITY:
         return (array("I", srcs), array("I", dsts), array("Q", amounts)), None
     parts = [max(1, -(-amount // GREATEST_CAPACITY)) for amount in amounts]

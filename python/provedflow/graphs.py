@@ -1,5 +1,6 @@
 """Graphs of NetworkX as arrays, and the residual networks that its own functions read."""
 
+import math
 from array import array
 from fractions import Fraction
 
@@ -7,13 +8,12 @@ import networkx as nx
 
 from provedflow import calls
 from provedflow.capacities import (
-    INFINITE, TooMuch, as_fraction, edge_flow, edges_of, in_kind, joined, kind_of, limit_of, number_of, split,
-    whole_amounts)
-from provedflow.library import MOST_ARCS, MOST_LINKS, MOST_NODES
+    INFINITE, TooMuch, as_fraction, edges_of, joined, kind_of, number_of, split, whole_amounts)
+from provedflow.library import MOST_ARCS, MOST_LINKS, MOST_NODES, FlowError
 
 
 class Problem:
-    """The arcs of a graph, with capacities brought to whole numbers."""
+    """The arcs of a graph, with capacities that are floats or brought to whole numbers."""
 
     def __init__(self, G, capacity):
         check_kind(G)
@@ -22,9 +22,10 @@ class Problem:
         self.edges = edges_of(G, capacity)
         self.both_ways = not G.is_directed()
         given = [amount for _, _, amount in self.edges]
-        self.kind = kind_of(amount for amount in given if amount != INFINITE)
+        self.kind = kind_of(given)
         self.endless = self.endless_rows() if INFINITE in given else {}
-        amounts, self.scale = self.finite_amounts(given)
+        self.unit = None  # of floats, which each call has its own for
+        amounts, self.scale = (given, 1) if self.kind is float else self.finite_amounts(given)
         srcs, dsts = [self.numbers[u] for u, _, _ in self.edges], [self.numbers[v] for _, v, _ in self.edges]
         if self.both_ways:
             srcs, dsts, amounts = srcs + dsts, dsts + srcs, amounts * 2
@@ -50,23 +51,29 @@ class Problem:
         most = 1 + sum(amounts) * (2 if self.both_ways else 1)
         return [most if amount == INFINITE else units for amount, units in zip(given, amounts)], scale
 
-    def lists(self, s, t):
-        """The arguments of a call about two nodes. Checks that no path of infinite edges leads from s to t."""
+    def solve(self, s, t, nearest=None):
+        """A maximum flow, or with a terminal that it is nearest a minimum cut: the value, and all that was found. Checks
+        that no path of infinite edges leads from s to t."""
         check_ends(self.G, s, t)
         check_bounded(s, t, self.endless)
-        return (*self.arcs, self.numbers[s], self.numbers[t], len(self.numbers))
+        network = network_of(self.arcs, self.numbers[s], self.numbers[t], len(self.numbers))
+        found = network.solve(nearest or ("sources" if network.unit else None))
+        self.unit, value = network.unit, network.value(found, nearest is not None)
+        return value if self.unit else self.answer(value), found
 
     def cut(self, s, t):
         """The value of the minimum cut nearest t, and its two sides."""
-        found = calls.minimum_cut(*self.lists(s, t), nearest="sinks")
+        value, found = self.solve(s, t, "sinks")
         sides = set(), set()
         for node, side in zip(self.numbers, found.side):
             sides[not side].add(node)
-        return self.answer(found.value), sides
+        return value, sides
 
     def answer(self, units):
         """A number of units as an answer."""
-        return units if self.kind is int and self.scale == 1 else in_kind(Fraction(units, self.scale), self.kind)
+        if self.unit:
+            return math.ldexp(units, -self.unit.shift)
+        return units if self.kind is int else Fraction(units, self.scale)
 
     def flow_dict(self, G, flows):
         """The flow of each edge as in NetworkX: of two opposite arcs only the one that carries more has its surplus."""
@@ -78,20 +85,9 @@ class Problem:
                 rows[v][u] = max(0, back - units)
             rows[u][v] = max(0, units - back)
         if self.kind is not int:
-            self.set_in_kind(rows, ways)
+            for row in rows.values():
+                row.update((v, self.answer(units)) for v, units in row.items())
         return rows
-
-    def set_in_kind(self, rows, ways):
-        """Sets the flows, which are in units, to answers."""
-        amounts = {(u, v): self.edge_answer(rows[u][v], most) for u, v, most in ways}
-        nothing = self.answer(0)
-        for u, row in rows.items():
-            row.update((v, amounts.get((u, v), nothing)) for v in row)
-
-    def edge_answer(self, units, most):
-        """The flow of an edge as an answer."""
-        full = INFINITE if most == INFINITE else as_fraction(most) * self.scale
-        return edge_flow(units, full, most, self.scale, self.kind)
 
 
 class EdgeUnits:
@@ -181,35 +177,55 @@ def send(rows, s, t, cutoff):
     arcs = [(u, v, attr) for u, row in rows.items() for v, attr in row.items() if attr["capacity"] > 0]
     given = [number_of(attr["capacity"]) for _, _, attr in arcs]
     kind = kind_of(given)
-    amounts, scale = whole_amounts(given, kind)
+    amounts, scale = (given, 1) if kind is float else whole_amounts(given, kind)
     numbers = {node: number for number, node in enumerate(rows)}
     src, dst, units = [numbers[u] for u, _, _ in arcs], [numbers[v] for _, v, _ in arcs], list(amounts)
-    source, nodes, limit = numbers[s], len(numbers), limit_of(cutoff, scale)
-    if limit is not None:  # one node more becomes the source, with an arc to the old one that takes no more
-        src, dst, units = src + [nodes], dst + [source], units + [min(limit, sum(amounts))]
+    source, nodes = numbers[s], len(numbers)
+    if cutoff is not None and cutoff != INFINITE:  # one node more becomes the source, with an arc that takes no more
+        limit = max(as_fraction(cutoff), 0) * scale
+        src, dst, units = src + [nodes], dst + [source], units + [float(limit) if kind is float else math.ceil(limit)]
         source, nodes = nodes, nodes + 1
     check_size(nodes, len(units))
     lists, parts = split(src, dst, units, scale)
-    value, flows = calls.maximum_flow(*lists, source, numbers[t], nodes)
-    for (u, v, attr), carried in zip(arcs, joined(flows, parts)):
+    network = network_of(lists, source, numbers[t], nodes)
+    found = network.solve("sinks" if network.unit else None)
+    value = network.value(found, False)
+    for (u, v, attr), carried in zip(arcs, joined(found.flows.keeper, parts)):
         if carried:
             attr["flow"] += carried
             rows[v][u]["flow"] -= carried
-    if kind is not int:
-        set_in_kind(rows, arcs, amounts, scale, kind)
-    return in_kind(Fraction(value, scale), kind)
+    if network.unit:
+        inside = {u for u, side in zip(rows, found.side) if side}
+        set_floats(rows, arcs, network.unit, inside)
+    elif kind is Fraction:
+        value = Fraction(value, scale)
+        for row in rows.values():
+            for attr in row.values():
+                attr["flow"] = Fraction(attr["flow"], scale)
+    return value
 
 
-def set_in_kind(rows, arcs, amounts, scale, kind):
-    """Sets the flows of a residual network, which are whole numbers of 1/scale, to answers of a kind."""
-    for (u, v, attr), amount in zip(arcs, amounts):
-        if attr["flow"] > 0:
-            attr["flow"] = edge_flow(attr["flow"], amount, attr["capacity"], scale, kind)
-            rows[v][u]["flow"] = 0 - attr["flow"]
-    nothing = in_kind(Fraction(0), kind)
+def set_floats(rows, arcs, unit, inside):
+    """Sets the flows of a residual network, which are in units, to floats. The flow of an edge is its capacity only
+    where it is full; edges of less than a unit are so where they leave the minimum cut."""
+    for (u, v, attr), most in zip(arcs, unit.units([attr["capacity"] for _, _, attr in arcs])):
+        flow, capacity = attr["flow"], float(attr["capacity"])
+        is_full = type(flow) is int and flow == most and (most or u in inside and v not in inside)
+        if is_full or type(flow) is int and flow > 0:
+            partly = min(math.ldexp(flow, -unit.shift), math.nextafter(capacity, 0))
+            attr["flow"] = capacity if is_full else partly
+            rows[v][u]["flow"] = 0.0 - attr["flow"]
     for row in rows.values():
         for attr in row.values():
-            attr["flow"] = attr["flow"] or nothing
+            attr["flow"] = float(attr["flow"])
+
+
+def network_of(lists, source, sink, nodes):
+    """The network of these lists, as the library takes it. Its refusal of floats is one of NetworkX's errors."""
+    try:
+        return calls.Network(*lists[:2], source, sink, nodes, capacities=lists[2])
+    except FlowError as failure:
+        raise nx.NetworkXError(str(failure)) from None
 
 
 def check_ends(G, s, t):

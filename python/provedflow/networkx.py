@@ -20,10 +20,12 @@ capacity each way; an edge without the attribute, or of capacity float("inf"), i
 capacity 0 or less carry nothing; a path of infinite edges from s to t raises NetworkXUnbounded. Multigraphs raise
 NetworkXError, but for `edge_connectivity`, where each of several parallel edges counts.
 
-Capacities may be ints of any size, floats, Fractions and Decimals. They are brought to a common denominator first,
-exactly, so that the problem that is solved is the one given. Where all are whole, so are all answers; where one is a
-float, each answer is the nearest float; else it is a Fraction. A capacity of 2^64 or more becomes several arcs; where
-that makes too many, the NetworkXError says how to round.
+Capacities may be ints of any size, floats, Fractions and Decimals. Where one is a float, all are, and are rounded as
+`provedflow.maximum_flow` says: the value is a float with the attribute `gap`, and each flow the nearest float to what it
+is in units; in the residual network of `flow_func` it is the capacity just where the edge is full. All others are brought
+to a common denominator, exactly, so that the problem that is solved is the one given: where all are whole, so are all
+answers, and else they are Fractions. A capacity of 2^64 or more becomes several arcs; where that makes too many, the
+NetworkXError says how to round.
 
 Raised, beside what is said above: NetworkXError where s or t isn't in the graph, where they are the same, where a
 capacity is None, a text, nan or no number at all (with the edge), and beyond the limits of 268,435,456 nodes and
@@ -79,15 +81,14 @@ def maximum_flow(flowG: Any, _s: Any, _t: Any, capacity: str = "capacity",
     (2.5, {'s': {'a': 2.5}, 'a': {'t': 2.5}, 't': {}})
     """
     problem = Problem(flowG, capacity)
-    found = calls.maximum_flow(*problem.lists(_s, _t))
-    return problem.answer(found.value), problem.flow_dict(flowG, found.flows)
+    value, found = problem.solve(_s, _t)
+    return value, problem.flow_dict(flowG, found.flows.keeper)
 
 
 @collector_paused()
 def maximum_flow_value(flowG: Any, _s: Any, _t: Any, capacity: str = "capacity", flow_func: Any = None) -> Any:
     """Finds the greatest value of a flow; the parameters are those of `maximum_flow`."""
-    problem = Problem(flowG, capacity)
-    return problem.answer(calls.maximum_flow(*problem.lists(_s, _t)).value)
+    return Problem(flowG, capacity).solve(_s, _t)[0]
 
 
 @collector_paused()
@@ -111,7 +112,7 @@ def minimum_cut(flowG: Any, _s: Any, _t: Any, capacity: str = "capacity",
 @collector_paused()
 def minimum_cut_value(flowG: Any, _s: Any, _t: Any, capacity: str = "capacity", flow_func: Any = None) -> Any:
     """Finds the capacity of a minimum cut; the parameters are those of `maximum_flow`."""
-    return maximum_flow_value(flowG, _s, _t, capacity)
+    return Problem(flowG, capacity).solve(_s, _t, "sinks")[0]
 
 
 @collector_paused()

@@ -4,13 +4,14 @@
     from provedflow.pixels import Grid
 
     grid = Grid(picture.shape, neighbours=8)
-    grid.join(lambda here, there, step: 100 // (1 + (here - there) ** 2), of=picture)
+    grid.join(lambda here, there, step: np.exp(-(here - there) ** 2 / 200), of=picture)
     grid.add_terminals(sources, sinks)
     value, mask = grid.cut()
 
 A grid has any number of axes. Each pixel is joined with neighbours by edges, and with two terminals, the source and the
 sink. A cut puts each pixel on one of two sides, and costs the weights of the edges between the sides: the mask is true
-for the pixels on the sink's side, as with PyMaxflow. Weights are whole numbers from 0 to 2^64 - 1.
+for the pixels on the sink's side, as with PyMaxflow. Weights are whole numbers from 0 to 2^64 - 1, or floats, where
+infinity is an edge that must not be cut; where one is a float, all are.
 
 A pixel's weights to both terminals cost one arc: the lesser of the two is paid by every cut, so it is added to the
 value, and only what the other is more becomes an arc. So a grid takes one arc for each pixel and two for each pair of
@@ -23,13 +24,14 @@ from __future__ import annotations
 import operator
 from itertools import product
 from math import prod
-from typing import TYPE_CHECKING, Any, Callable, NamedTuple, Optional, Union
+from typing import TYPE_CHECKING, Any, Callable, Literal, NamedTuple, Optional, Union
 
 import numpy as np
 
 from provedflow.arrays import refuse_masked
 from provedflow.calls import minimum_cut
 from provedflow.library import GREATEST_CAPACITY, MOST_ARCS, MOST_NODES
+from provedflow.weights import Unbounded, Unit, exact_sum
 
 if TYPE_CHECKING:
     from collections.abc import Sequence
@@ -42,8 +44,13 @@ if TYPE_CHECKING:
 class Cut(NamedTuple):
     """What a cut costs, and a mask in the grid's shape: true for a pixel on the sink's side."""
 
-    value: int
+    value: Union[int, Any]
     mask: NDArray[np.bool_]
+
+    @property
+    def gap(self) -> float:
+        """By how much more that may be than the least; 0 where no weight was rounded."""
+        return getattr(self.value, "gap", 0)
 
 
 NEIGHBOURS = {(1, 2): 1, (2, 4): 1, (2, 8): 2, (3, 6): 1, (3, 18): 2, (3, 26): 3}
@@ -110,19 +117,27 @@ class Grid:
     def join(self, weights: Union[Way, tuple[Way, Way]], of: Optional[ArrayLike] = None) -> None:
         """Joins each pixel with its neighbours.
 
-        - weights: one number for all edges; or a function that is called with the arrays `here` and `there` and a step,
-          and answers the weights of these edges, an array of the same shape or a number; or a pair of numbers or such
-          functions, for the ways there and back.
+        - weights: one number for all edges; or an array in the grid's shape, where the weight at a pixel is that of its
+          edges to the pixels at the `steps`, and is ignored where these lead out of the grid; or a function that is
+          called with the arrays `here` and `there` and a step, and answers the weights of these edges, an array of the
+          same shape or a number; or a pair of these, for the ways there and back.
         - of: the picture that `here` and `there` are parts of, an array whose first axes are those of the grid. Whole
-          numbers are passed on in 64 bits (int64), so that no difference of those of a photograph wraps.
+          numbers and bools are passed on in 64 bits (int64), so that no difference of those of a photograph wraps.
         """
         if not self.steps:
             raise ValueError("this grid was made without a number of neighbours: give it one, or use join_step")
         picture = as_picture(of)
         there_and_back = weights if isinstance(weights, tuple) else (weights,)
         for step in self.steps:
-            ways = [way(*pairs(picture, step), step) if callable(way) else way for way in there_and_back]
-            self.join_step(step, *ways)
+            self.join_step(step, *(self.weights_of(way, picture, step) for way in there_and_back))
+
+    def weights_of(self, way, picture, step):
+        """The weights of the edges of a step one way."""
+        if callable(way):
+            return way(*pairs(picture, step), step)
+        refuse_masked(way, "the weights")
+        way = np.asarray(way)
+        return pairs(way, step)[0] if way.shape == self.shape else way
 
     def join_step(self, step: Union[int, tuple[int, ...]], weights: ArrayLike,
                   back: Optional[ArrayLike] = None) -> None:
@@ -130,7 +145,7 @@ class Grid:
 
         - step: how far along each axis, as (0, 1) for the next pixel of a row; or the number of an axis, for the next
           pixel along it. Steps of any length are taken; one that leads out of the grid from everywhere joins nothing.
-        - weights, back: a number, or an array in the shape of `pairs(pixels, step)`, of whole numbers from 0.
+        - weights, back: a number, or an array in the shape of `pairs(pixels, step)`, from 0.
         """
         parts = self.step_of(step)
         shape = tuple(max(0, size - abs(part)) for size, part in zip(self.shape, parts))
@@ -153,82 +168,116 @@ class Grid:
     def add_terminals(self, sources: ArrayLike, sinks: ArrayLike) -> None:
         """Joins each pixel with the source and with the sink; weights that were there before are added.
 
-        - sources, sinks: a number, or an array in the grid's shape, of whole numbers from 0. The source's is what it
-          costs to be on the sink's side, and the other way round.
+        - sources, sinks: a number, or an array in the grid's shape, from 0. The source's is what it costs to be on the
+          sink's side, and the other way round.
         """
         more = as_weights(sources, self.shape, "sources"), as_weights(sinks, self.shape, "sinks")
         sums = [before + weights for before, weights in zip(self.terminals, more)]
-        if any((both < weights).any() for both, weights in zip(sums, more)):
+        if any(both.dtype.kind == "u" and (both < weights).any() for both, weights in zip(sums, more)):
             raise ValueError(f"a pixel's weights to a terminal add up to more than {GREATEST_CAPACITY}")
         self.terminals = sums
 
-    def cut(self, nearest: str = "source") -> Cut:
+    def cut(self, nearest: Literal["source", "sources", "sink", "sinks"] = "source") -> Cut:
         """Finds a minimum cut.
 
         - nearest: if several cuts cost the least, "source" chooses the one with the fewest pixels on the source's side,
           and "sink" the one with the fewest on the sink's; "sources" and "sinks" mean the same.
 
-        Returns Cut(value, mask). Raises MemoryError, and provedflow.LibraryNotFound if the C library isn't there.
+        Returns Cut(value, mask). Floats are rounded as `provedflow.maximum_flow` says: the least lies no more than the
+        answer's `gap` below the value. Raises FlowError where each cut has an infinite weight, MemoryError, and
+        provedflow.LibraryNotFound if the C library isn't there.
         """
+        if any(weights.dtype.kind == "f" for weights in self.weights()):
+            return self.cut_of_floats(nearest)
         pixels = prod(self.shape)
         lesser = np.minimum(*self.terminals)
-        srcs, dsts, weights = self.arcs(lesser)
-        found = minimum_cut(srcs, dsts, weights, pixels, pixels + 1, pixels + 2, nearest=nearest)
+        found = minimum_cut(*self.arcs(), pixels, pixels + 1, pixels + 2, nearest=nearest)
         return Cut(found.value + exact_sum(lesser), ~found.side[:pixels].reshape(self.shape))
 
-    def arcs(self, lesser):
-        """The ends and the capacities of all arcs, those of capacity 0 left out. The source is the node after the last
-        pixel, and the sink the one after that."""
-        pixels = prod(self.shape)
-        nodes = np.arange(pixels, dtype=np.uint32).reshape(self.shape)
-        parts = []
+    def cut_of_floats(self, nearest):
+        """The cut of the grid whose weights are those of this one in whole units."""
+        cuts = [weights.ravel() for weights in self.terminals]
+        if any(np.isinf(weights).any() for weights in self.weights()):
+            infinite = self.changed(lambda weights: np.isinf(weights).astype(np.uint64))
+            found = [infinite.cut(end) for end in ("source", "sink")]
+            if found[0].value:
+                raise Unbounded
+            cuts = [self.paid(mask) for _, mask in found]
+        unit = Unit(np, *cuts)
+        found = self.changed(unit.units).cut(nearest)
+        return Cut(unit.value(found.value, unit.lost(self.paid(found.mask)), True), found.mask)
+
+    def weights(self):
+        """All arrays of weights."""
+        return [*self.terminals, *(weights for _, *ways in self.joined for weights in ways)]
+
+    def changed(self, change):
+        """A grid like this one with other weights."""
+        other = Grid(self.shape)
+        other.terminals = list(map(change, self.terminals))
         for step, there, back in self.joined:
+            new = change(there)
+            other.joined.append((step, new, new if back is there else change(back)))
+        return other
+
+    def paid(self, mask):
+        """The weights that a cut pays."""
+        parts = [self.terminals[0][mask], self.terminals[1][~mask]]
+        for step, there, back in self.joined:
+            here, other = pairs(mask, step)
+            parts += [there[~here & other], back[here & ~other]]
+        return np.concatenate(parts).astype(float, copy=False)
+
+    def arcs(self):
+        """The ends and the capacities of all arcs. The source is the node after the last pixel, and the sink the one
+        after that. Arcs of capacity 0 to these are left out."""
+        nodes = np.arange(prod(self.shape), dtype=np.uint32).reshape(self.shape)
+        sources, sinks = (weights.ravel() for weights in self.terminals)
+        near, far = np.flatnonzero(sources > sinks), np.flatnonzero(sources < sinks)
+        joined = [it for it in self.joined if it[1].any() or it[2].any()]
+        size, start = near.size + far.size + sum(2 * there.size for _, there, _ in joined), near.size + far.size
+        srcs, dsts, capacities = lists = [np.empty(size, kind) for kind in (np.uint32, np.uint32, np.uint64)]
+        srcs[:near.size], srcs[near.size:start] = nodes.size, far
+        dsts[:near.size], dsts[near.size:start] = near, nodes.size + 1
+        capacities[:near.size], capacities[near.size:start] = sources[near] - sinks[near], sinks[far] - sources[far]
+        for step, there, back in joined:
             here, other = pairs(nodes, step)
-            # An arc and its opposite side by side, which the library takes for one edge.
-            parts.append(kept(*(np.stack(both, axis=-1) for both in ((here, other), (other, here), (there, back)))))
-        sources, sinks = (weights - lesser for weights in self.terminals)
-        parts += [kept(np.broadcast_to(np.uint32(pixels), self.shape), nodes, sources),
-                  kept(nodes, np.broadcast_to(np.uint32(pixels + 1), self.shape), sinks)]
-        return [np.concatenate(lists) for lists in zip(*parts)]
+            for arcs, ways in zip(lists, ((here, other), (other, here), (there, back))):
+                # An arc and its opposite side by side, which the library takes for one edge.
+                both = arcs[start:start + 2 * here.size].reshape(*here.shape, 2)
+                both[..., 0], both[..., 1] = ways
+            start += 2 * here.size
+        return lists
 
 
 def as_picture(picture):
     """A picture as an array, whole numbers of it in 64 bits."""
-    refuse_masked(np, picture, "the picture")
+    refuse_masked(picture, "the picture")
     picture = np.asarray(picture)
-    if picture.dtype.kind not in "iu":
+    if picture.dtype.kind not in "biu":
         return picture
     if picture.size and int(picture.max()) >= 2 ** 63:
         raise ValueError(f"a picture has whole numbers of up to 63 bits, and this one goes up to {picture.max()}")
     return picture.astype(np.int64, copy=False)
 
 
-def kept(srcs, dsts, weights):
-    """The arcs between the nodes of two arrays that have a weight."""
-    if weights.all():
-        return srcs.ravel(), dsts.ravel(), weights.ravel()
-    some = weights > 0
-    return srcs[some], dsts[some], weights[some]
-
-
 def as_weights(weights, shape, name):
-    """Weights as an array of this shape of 64 bits each."""
-    refuse_masked(np, weights, name)
+    """Weights as an array of this shape of 64 bits each, floats or whole numbers."""
+    refuse_masked(weights, name)
     weights = np.asarray(weights)
-    if weights.dtype.kind not in "iu" and not (weights.dtype.kind == "O" and weights.size):
-        raise ValueError(f"{name} have to be whole numbers, and are of the kind {weights.dtype}")
-    if weights.dtype.kind == "O" and not all(isinstance(weight, int) for weight in weights.flat):
-        raise ValueError(f"{name} have to be whole numbers")
-    if weights.size and (weights.min() < 0 or int(weights.max()) > GREATEST_CAPACITY):
+    kind, size = weights.dtype.kind, weights.size
+    if kind == "O" and not all(isinstance(weight, int) for weight in weights.flat):
+        raise ValueError(f"{name} have to be whole numbers or floats")
+    if kind not in "biuOf" or weights.dtype.itemsize > 8:
+        raise ValueError(f"{name} have to be whole numbers or floats, and are of the kind {weights.dtype}")
+    if size and kind == "f" and not weights.min() >= 0:  # which nan isn't
+        place = np.unravel_index(weights.argmin(), weights.shape)
+        raise ValueError(f"{name} have to be numbers from 0, and at {tuple(map(int, place))} is {weights[place]}")
+    if size and kind != "f" and (weights.min() < 0 or int(weights.max()) > GREATEST_CAPACITY):
         raise ValueError(f"{name} go from {weights.min()} to {weights.max()}, and 0 to {GREATEST_CAPACITY} are taken")
     if weights.ndim and weights.shape != shape:
         raise ValueError(f"{name} have to have the shape {shape}, and have {weights.shape}")
-    return np.broadcast_to(weights.astype(np.uint64), shape)
-
-
-def exact_sum(weights):
-    """The sum of weights of 64 bits, which may take more."""
-    return (int((weights >> np.uint64(32)).sum()) << 32) + int((weights & np.uint64(2 ** 32 - 1)).sum())
+    return np.broadcast_to(weights.astype(np.float64 if size and kind == "f" else np.uint64), shape)
 
 
 def fits(shape, all_steps):

@@ -1,4 +1,4 @@
-"""`provedflow.networkx` by NetworkX's own tests, and side by side with its functions: binding_networkx.py [WAY]
+"""`provedflow.networkx` by NetworkX's own tests, and side by side with its functions: test_binding_networkx.py WAY
 
 NetworkX's tests are those of the installed package, run by pytest in a process of their own: with WAY `flow_func` it
 takes the place of the flow functions that they try, with `backend` each call that NetworkX can hand on comes here.
@@ -10,17 +10,20 @@ import importlib.metadata
 import random
 import re
 import sys
-import tempfile
+import time
 import unittest.mock
 import warnings
 from collections import Counter
 from decimal import Decimal
 from fractions import Fraction
 
-import networkx as nx
+import pytest
+
+from binding_checks import ROOT, exact_value, named_library, python
+
+nx = pytest.importorskip("networkx")
 
 import provedflow
-from binding_checks import ROOT, python
 from provedflow import graphs, networkx as ours
 from provedflow.networkx import flow_func
 
@@ -59,7 +62,6 @@ class InPlace:
 
 def run_theirs(way):
     """Runs NetworkX's own tests one way, and sees that they come here."""
-    import pytest
     if way == "backend":
         backend_by_hand()
         vars(ours.backend).update((name, counted(function)) for name, function in ours.ALGORITHMS.items())
@@ -85,16 +87,14 @@ def backend_by_hand():
             assert isinstance(outcome(call, backend="provedflow"), NotImplementedError) and call() == 5
 
 
-def their_tests(checks):
+@pytest.mark.parametrize("way", ["flow_func", "backend"] if nx.__version__ >= "3.2" else ["flow_func"])
+def test_theirs(way, tmp_path):
     """NetworkX's own tests, each way in a process of its own. The backend takes NetworkX 3.2."""
-    ways = ("flow_func", "backend") if nx.__version__ >= "3.2" else ("flow_func",)
-    for way in ways if checks.has("pytest", "NetworkX's own tests") else ():
-        with tempfile.TemporaryDirectory() as about:
-            python(f"{ROOT}/scripts/wheel.py", about)
-            named = {f"NETWORKX_{word}": "provedflow" if way == "backend" else ""
-                     for word in ("BACKEND_PRIORITY", "BACKEND_PRIORITY_GENERATORS", "AUTOMATIC_BACKENDS")}
-            status, printed, errors = python(__file__, way, path=about, **named)
-        checks.true(f"NetworkX's own tests by {way}", status == 0, printed[-3000:] + errors[-3000:])
+    python(f"{ROOT}/scripts/wheel.py", str(tmp_path))
+    named = {f"NETWORKX_{word}": "provedflow" if way == "backend" else ""
+             for word in ("BACKEND_PRIORITY", "BACKEND_PRIORITY_GENERATORS", "AUTOMATIC_BACKENDS")}
+    status, printed, errors = python(__file__, way, path=str(tmp_path), **named)
+    assert status == 0, printed[-3000:] + errors[-3000:]
 
 
 def outcome(call, *words, **named):
@@ -148,74 +148,138 @@ def of_edges(*edges):
     return graph
 
 
-def by_hand():
+ROWS = [
+    ([("s", "a", 10 ** 21), ("a", "t", 10 ** 21), ("s", "t", 2 ** 64)], 10 ** 21 + 2 ** 64),
+    ([("s", "a", Fraction(1, 3)), ("s", "b", Fraction(1, 6)), ("a", "t", None), ("b", "t", None)], Fraction(1, 2)),
+    ([("s", "t", Decimal("0.1")), ("s", "a", 2), ("a", "t", Decimal("0.2"))], Fraction(3, 10)),
+    ([("s", "t", 0.1), ("s", "a", 0.1), ("a", "t", 1)], float(2 * Fraction(0.1))),
+    # 0.1 + 0.2 is more than 0.3, where each is what its float stands for, so the cut is the last edge alone.
+    ([("s", "a", 0.1), ("s", "b", 0.2), ("a", "c", None), ("b", "c", None), ("c", "t", 0.3)], 0.3),
+    ([("s", "a", 0.5), ("a", "t", Fraction(1, 4)), ("s", "t", 10 ** 30), ("s", "t", Decimal(2))], 2.25),
+    ([(b"t", 2.5, 9), ("s", 7, 3), (7, (1, "two"), 2), ((1, "two"), "t", INFINITE)], 2)]
+for KIND, AMOUNT in (("int64", 2 ** 62), ("uint64", 3), ("uint8", 255), ("bool_", True), ("float32", 0.25),
+                     ("longdouble", 0.25)):
+    for BESIDE in (None, 7 * AMOUNT):
+        GIVEN = getattr(sys.modules.get("numpy"), KIND, type(AMOUNT))(AMOUNT)
+        ROWS.append(([("s", "a", GIVEN), ("a", "t", BESIDE), ("s", "b", GIVEN), ("b", "t", BESIDE)], 2 * AMOUNT))
+
+
+@pytest.mark.parametrize("edges, value", ROWS)
+def test_by_hand(edges, value):
     """Graphs whose answers can be seen: the edges, and the value from "s" to "t" in its kind. Whole numbers are NumPy's
     where that is installed, and the sum that stands in for an infinite capacity has more bits than they have."""
-    rows = [
-        ([("s", "a", 10 ** 21), ("a", "t", 10 ** 21), ("s", "t", 2 ** 64)], 10 ** 21 + 2 ** 64),
-        ([("s", "a", Fraction(1, 3)), ("s", "b", Fraction(1, 6)), ("a", "t", None), ("b", "t", None)], Fraction(1, 2)),
-        ([("s", "t", Decimal("0.1")), ("s", "a", 2), ("a", "t", Decimal("0.2"))], Fraction(3, 10)),
-        ([("s", "t", 0.1), ("s", "a", 0.1), ("a", "t", 1)], float(2 * Fraction(0.1))),
-        # 0.1 + 0.2 is more than 0.3, where each is what its float stands for, so the cut is the last edge alone.
-        ([("s", "a", 0.1), ("s", "b", 0.2), ("a", "c", None), ("b", "c", None), ("c", "t", 0.3)], 0.3),
-        ([(b"t", 2.5, 9), ("s", 7, 3), (7, (1, "two"), 2), ((1, "two"), "t", INFINITE)], 2)]
-    for kind, amount in (("int64", 2 ** 62), ("uint64", 3), ("uint8", 255), ("bool_", True), ("float32", 0.25),
-                         ("longdouble", 0.25)):
-        for beside in (None, 7 * amount):
-            given = getattr(sys.modules.get("numpy"), kind, type(amount))(amount)
-            rows.append(([("s", "a", given), ("a", "t", beside), ("s", "b", given), ("b", "t", beside)], 2 * amount))
-    for edges, value in rows:
-        for call in (ours.maximum_flow_value, functools.partial(nx.maximum_flow_value, flow_func=flow_func)):
-            found = call(of_edges(*edges), "s", "t")
-            assert found == value and type(found) is type(value), (edges, found)
-    assert ours.minimum_cut(of_edges(*rows[4][0]), "s", "t")[1][1] == {"t"}
+    for call in (ours.maximum_flow_value, ours.minimum_cut_value,
+                 functools.partial(nx.maximum_flow_value, flow_func=flow_func)):
+        found = call(of_edges(*edges), "s", "t")
+        assert found == value and isinstance(found, type(value))
+
+
+def test_cuts_by_hand():
+    assert ours.minimum_cut(of_edges(*ROWS[4][0]), "s", "t")[1][1] == {"t"}
     # 1 + 2^-53 + 2^-60 come to the last edge, which takes 1 + 2^-52, the float nearest to that: more, so it isn't full.
     parts = [("s", node, amount) for node, amount in zip("abc", (1.0, 2.0 ** -53, 2.0 ** -60))]
     graph = of_edges(*parts, ("a", "d", 9), ("b", "d", 9), ("c", "d", 9), ("d", "t", 1 + 2.0 ** -52))
     assert nx.minimum_cut(graph, "s", "t", flow_func=flow_func) == (1 + 2.0 ** -52, ({"s"}, set("abcdt")))
+    assert ours.maximum_flow(graph, "s", "t") == (1 + 2.0 ** -52, {
+        "s": {"a": 1.0, "b": 2.0 ** -53, "c": 2.0 ** -60}, "a": {"d": 1.0}, "b": {"d": 2.0 ** -53},
+        "c": {"d": 2.0 ** -60}, "d": {"t": 1 + 2.0 ** -52}, "t": {}})
     assert ours.edge_connectivity(nx.MultiGraph([(0, 1)] * 3)) == 3 and ours.edge_connectivity(nx.empty_graph(1)) == 0
 
 
-def refusals():
-    """What is no number is told with its edge; what differs too much is refused with how to round it, which then fits,
-    and uses most of the bits there are. The collector of garbage runs where it ran before."""
-    for call in ours.maximum_flow_value, ours.minimum_cut, lambda *words: flow_func(*words).graph["flow_value"]:
-        for amount in (None, "7", float("nan"), [], 1j, Decimal("nan")):
-            text = str(outcome(call, nx.DiGraph([("s", "t", {"capacity": amount})]), "s", "t"))
-            assert f"('s', 't') has to be a number, and is {amount!r}" in text and gc.isenabled(), text
-        for most, least in ((3.7e9, 1e-5), (1e300, 1e-300), (10 ** 30, 1), (3e-15, 1e-30), (1, Fraction(1, 3 ** 90)),
-                            (Decimal("1e25"), Decimal("1e-9"))):
-            edges = [("s", "a", most), ("a", "b", None), ("b", "t", least), ("s", "t", least)]
-            rounded = re.search(r"as (round\(.*\))", str(outcome(call, of_edges(*edges), "s", "t")))[1]
-            given = [(u, v, amount and eval(rounded, {"capacity": amount})) for u, v, amount in edges]
-            found = outcome(call, of_edges(*given), "s", "t")
-            assert given[0][2] > 2 ** 63 // 100 and not isinstance(found, Exception), (most, rounded, found)
+@pytest.mark.parametrize("graph_kind", [nx.DiGraph, nx.Graph])
+def test_floats(graph_kind, checks):
+    """The exact value lies between the bounds of floats of all sizes, by our functions and by NetworkX's over ours."""
+    chance, gaps = random.Random(104), 0
+    checks(400)
+    for _ in range(100):
+        graph = graph_kind()
+        graph.add_nodes_from(range(8))
+        for u, v in (chance.sample(range(8), 2) for _ in range(chance.randint(8, 40))):
+            graph.add_edge(u, v, capacity=chance.random() * 10.0 ** chance.randint(-12, 12))
+        exact = exact_value(8, graph.to_directed().edges(data="capacity"))
+        flow, cut = ours.maximum_flow(graph, 0, 7), ours.minimum_cut(graph, 0, 7)
+        theirs, R = nx.minimum_cut(graph, 0, 7, flow_func=flow_func), flow_func(graph, 0, 7)
+        for value, sign in ((flow[0], 1), (cut[0], -1), (theirs[0], 1)):
+            ends = sorted((Fraction(value), Fraction(value) + sign * Fraction(value.gap)))
+            assert ends[0] <= exact <= ends[1] if value.gap else value == float(exact), (graph.edges(data=True), exact)
+            gaps += value.gap > 0
+        assert theirs[1] == cut[1] and 0 in cut[1][0] and 7 in cut[1][1], graph.edges(data=True)
+        assert all(0 <= amount <= graph[u][v]["capacity"] for u, row in flow[1].items() for v, amount in row.items())
+        assert all(R[u][v]["flow"] == -R[v][u]["flow"] for u, v in R.edges)
+    assert gaps > 50
+
+
+@pytest.mark.parametrize("draw", [lambda chance: chance.expovariate(1), lambda chance: 10 ** chance.uniform(-9, 9),
+                                  lambda chance: chance.paretovariate(1)], ids=["exponential", "log-uniform", "Pareto"])
+def test_floats_are_fast(draw):
+    """A flow of floats takes no longer than NetworkX's own function."""
+    chance, graph = random.Random(5), nx.gnm_random_graph(300, 3000, seed=5, directed=True)
+    for _, _, attr in graph.edges(data=True):
+        attr["capacity"] = draw(chance)
+    times = []
+    for function in (ours.maximum_flow, nx.maximum_flow):
+        start = time.process_time()
+        function(graph, 0, 1)
+        times.append(time.process_time() - start)
+    assert times[0] <= times[1]
+
+
+CALLS = [ours.maximum_flow_value, ours.minimum_cut, lambda *words: flow_func(*words).graph["flow_value"]]
+
+
+@pytest.mark.parametrize("call", CALLS)
+@pytest.mark.parametrize("amount", [None, "7", float("nan"), [], 1j, Decimal("nan")])
+def test_no_numbers(call, amount):
+    """What is no number is told with its edge. The collector of garbage runs where it ran before."""
+    for edges in ([("s", "t", {"capacity": amount})], [("s", "a", {"capacity": 0.5}), ("s", "t", {"capacity": amount})]):
+        text = str(outcome(call, nx.DiGraph(edges), "s", "t"))
+        assert f"('s', 't') has to be a number, and is {amount!r}" in text and gc.isenabled(), text
+
+
+@pytest.mark.parametrize("call", CALLS)
+@pytest.mark.parametrize("most, least", [
+    (10 ** 30, 1), (1, Fraction(1, 3 ** 90)), (Decimal("1e25"), Decimal("1e-9")), (Decimal("1e300"), Decimal("1e-300")),])
+def test_too_different(call, most, least):
+    """What differs too much to be counted exactly is refused with how to round it, which then fits, and uses most of the
+    bits there are."""
+    edges = [("s", "a", most), ("a", "b", None), ("b", "t", least), ("s", "t", least)]
+    rounded = re.search(r"as (round\(.*\))", str(outcome(call, of_edges(*edges), "s", "t")))[1]
+    given = [(u, v, amount and eval(rounded, {"capacity": amount})) for u, v, amount in edges]
+    found = outcome(call, of_edges(*given), "s", "t")
+    assert given[0][2] > 2 ** 63 // 100 and not isinstance(found, Exception), (rounded, found)
+
+
+@pytest.mark.parametrize("call", CALLS)
+@pytest.mark.parametrize("most, least", [(3.7e9, 1e-5), (1e300, 1e-300), (3e-15, 1e-30)])
+def test_different_floats(call, most, least):
+    """Floats may differ as they like."""
+    edges = [("s", "a", most), ("a", "b", None), ("b", "t", least), ("s", "t", least)]
+    found = outcome(call, of_edges(*edges), "s", "t")
+    assert (found[0] if isinstance(found, tuple) else found) == 2 * least
+    text = str(outcome(call, of_edges(("s", "t", 1.7e308), ("s", "a", 1.7e308), ("a", "t", None)), "s", "t"))
+    assert "add up to 2^1023 or more" in text
+    assert "2^1024" in str(outcome(call, of_edges(("s", "t", 0.5), ("s", "a", 10 ** 400)), "s", "t"))
+
+
+def test_collector():
     gc.disable()
     assert not ours.edge_connectivity(nx.empty_graph(3)) and not gc.isenabled()
     gc.enable()
 
 
-def random_graphs():
+@pytest.mark.parametrize("kind", [nx.DiGraph, nx.Graph])
+@pytest.mark.parametrize("amounts", [
+    (0, 1, 2, 8, 10 ** 12, -1), (0.0, 0.25, 0.5, 1.5, 3, -0.5), (Fraction(1, 3), Fraction(5, 7), 2)])
+def test_random_graphs(kind, amounts):
     """Random graphs of 2 to 8 nodes with self-loops, opposite edges, edges without capacity, and those of all kinds."""
     chance = random.Random(1970)
-    for number in range(240):
-        amounts = ((0, 1, 2, 8, 10 ** 12, -1), (0.0, 0.25, 0.5, 1.5, 3, -0.5), (Fraction(1, 3), Fraction(5, 7), 2))
-        nodes, graph = range(chance.randint(2, 8)), (nx.DiGraph, nx.Graph)[number % 2]()
+    for _ in range(40):
+        nodes, graph = range(chance.randint(2, 8)), kind()
         graph.add_nodes_from(nodes)
         for _ in range(chance.randrange(3 * len(nodes))):
-            named = {"capacity": chance.choice(amounts[number // 2 % 3])} if chance.random() < .9 else {}
+            named = {"capacity": chance.choice(amounts)} if chance.random() < .9 else {}
             graph.add_edge(*chance.choices(nodes, k=2), **named)
         side_by_side(graph)
-
-
-def check_all(checks):
-    """All trials of this file."""
-    for test in (random_graphs, by_hand, refusals):
-        try:
-            checks.true(test.__name__, not test())
-        except Exception as failure:
-            checks.true(f"NetworkX: {test.__name__}", False, f"{type(failure).__name__}: {failure}")
-    their_tests(checks)
 
 
 if __name__ == "__main__":

@@ -1,0 +1,90 @@
+"""Weights with fractions: floats as whole numbers of a unit, and answers as floats again.
+
+There is one rule. The bound of a network is the lesser of what can leave its sources and what can enter its sinks; nodes
+that infinite weights join to a terminal count as terminals. The unit is a power of two, the least of which the bound has
+surely fewer than 2^63. Weights are rounded down to whole units, and those of 2^63 or more, infinite ones among them, count
+as 2^63, so that no minimum cut has one. The flow found keeps to the weights given, so its value is at most the greatest;
+and what the cut found costs in the weights given is at least that.
+"""
+
+import math
+from fractions import Fraction
+
+from provedflow.library import FlowError
+
+WHOLE = 1074
+"""Doubled so often, each float is whole."""
+SURE = 1 + 2.0 ** -20
+"""What a sum of floats is multiplied by to be no less than the exact one."""
+
+
+class Unbounded(FlowError):
+    """Each cut has an infinite weight."""
+
+    def __init__(self):
+        super().__init__("a path of infinite weights leads from a source to a sink, so no cut has a value")
+
+
+class Value(float):
+    """A value of weights that are floats: by how much more that of a flow may be, or less that of a cut, is its gap."""
+
+    gap: float = 0
+
+
+class Unit:
+    """The unit of a network: 2^shift of it make 1. Weights are arrays of float64 where NumPy is given, else lists.
+
+    - cuts: the weights of two cuts, which are finite: of what leaves the sources, and of what enters the sinks.
+    """
+
+    def __init__(self, numpy, *cuts):
+        self.numpy = numpy
+        bound = min(float(numpy.sum(cut)) if numpy else sum(cut) for cut in cuts) * SURE
+        if bound >= 2.0 ** 1023:
+            raise FlowError("the weights add up to 2^1023 or more")
+        self.shift = min(WHOLE, 63 - math.frexp(bound)[1]) if bound else WHOLE
+
+    def doubled(self, weights, times):
+        """Weights times a power of two."""
+        return self.numpy.ldexp(weights, times) if self.numpy else [math.ldexp(weight, times) for weight in weights]
+
+    def units(self, weights):
+        """Weights in whole units, rounded down, and at most 2^63."""
+        limit = math.ldexp(1.0, 63 - self.shift)
+        if self.numpy:
+            return self.doubled(self.numpy.minimum(weights, limit), self.shift).astype(self.numpy.uint64)
+        return [int(math.ldexp(min(weight, limit), self.shift)) for weight in weights]
+
+    def amounts(self, units):
+        """Units as floats, the nearest ones: a flow that keeps to a weight in units keeps to the weight given."""
+        return self.doubled(units.astype(float) if self.numpy else units, -self.shift)
+
+    def lost(self, weights):
+        """How many units rounding has taken from the weights of a minimum cut; rounded up to 2^-40 of one for each."""
+        parts = self.doubled(weights, self.shift)
+        if self.numpy:
+            return Fraction(exact_sum(self.numpy.ceil((parts - self.numpy.floor(parts)) * 2.0 ** 40).astype("u8")), 2 ** 40)
+        return Fraction(sum(math.ceil(part % 1 * 2.0 ** 40) for part in parts), 2 ** 40)
+
+    def value(self, units, lost, of_cut):
+        """The value of a flow of so many units, or of a cut that costs so many and what it has lost. This and the other
+        bound are rounded away from each other; where nothing is lost, the value is the nearest float."""
+        scale = Fraction(2) ** -self.shift
+        least, most = units * scale, (units + lost) * scale
+        if not lost:
+            return Value(least)
+        value = Value(rounded(most, math.inf) if of_cut else rounded(least, 0))
+        value.gap = rounded(Fraction(value) - least if of_cut else most - Fraction(value), math.inf)
+        return value
+
+
+def rounded(exact, towards):
+    """The nearest float of a number on the side that leads towards another."""
+    near = float(exact)
+    return near if near == exact or (near > exact) == (towards > exact) else math.nextafter(near, towards)
+
+
+def exact_sum(units):
+    """The sum of an array of whole numbers of 64 bits, which may take more."""
+    upper, lower = units.dtype.type(32), units.dtype.type(2 ** 32 - 1)
+    return (int((units >> upper).sum()) << 32) + int((units & lower).sum())

@@ -1,0 +1,229 @@
+"""`provedflow.pixels` by hand, and by trial of all masks."""
+
+import tracemalloc
+from fractions import Fraction
+from itertools import product
+
+import pytest
+
+from binding_checks import named_library, refused
+
+np = pytest.importorskip("numpy")
+
+from provedflow import pixels
+from provedflow.pixels import Grid, fits, steps
+from provedflow.weights import Unbounded
+
+SHAPES = {(8,): 2, (2, 4): 4, (3, 3): 8, (2, 2, 2): 6, (2, 1, 4): 26, (1, 3, 3): 18}
+"""Small grids, each with how many neighbours its pixels have."""
+
+
+def neighbours_by_hand(shape, neighbours):
+    """The pairs of neighbouring pixels, found from how far they are from each other."""
+    most = {2: 1, 4: 1, 8: 2, 6: 1, 18: 2, 26: 3}[neighbours]
+    for here, there in product(product(*map(range, shape)), repeat=2):
+        far = [abs(one - other) for one, other in zip(here, there)]
+        if here < there and max(far) == 1 and sum(far) <= most:
+            yield here, there
+
+
+def trial(chance, shape, neighbours, scale):
+    """A small grid with random weights, multiplied by a scale; its edges and masks, with what each mask costs."""
+    picture = chance.integers(0, 9, shape)
+    sources, sinks = chance.integers(0, 30, (2, *shape)) * scale
+    there_way, back_way = (lambda here, there, step: np.maximum(0, 9 - abs(here - there)) * scale,
+                           lambda here, there, step: (here + there) * scale)
+    grid = Grid(shape, neighbours)
+    grid.join((there_way, back_way), of=picture)
+    half = sources // 2 if scale == 1 else sources / 2
+    grid.add_terminals(half, 0)
+    grid.add_terminals(sources - half, sinks)
+    edges = []
+    for here, there in neighbours_by_hand(shape, neighbours):
+        one, other = int(picture[here]), int(picture[there])
+        edges += [(here, there, max(0, 9 - abs(one - other)) * scale), (there, here, (one + other) * scale)]
+    masks = [np.array(marks).reshape(shape) for marks in product((False, True), repeat=picture.size)]
+    costs = [sum(Fraction(weight) for here, there, weight in edges if not mask[here] and mask[there])
+             + sum(map(Fraction, (*sources[mask].tolist(), *sinks[~mask].tolist()))) for mask in masks]
+    return grid, masks, costs
+
+
+@pytest.mark.parametrize("shape, neighbours", SHAPES.items())
+@pytest.mark.parametrize("scale", [1, 0.25, 1 / 3])
+def test_random_grids(shape, neighbours, scale, checks):
+    """Small grids: the least cost of all masks, and the two nearest masks of that cost; of floats that were rounded the
+    bounds."""
+    chance = np.random.default_rng(1989)
+    checks(20)
+    for number in range(10):
+        grid, masks, costs = trial(chance, shape, neighbours, scale)
+        best = [mask for mask, paid in zip(masks, costs) if paid == min(costs)]
+        for end, wanted in (("source", np.logical_or.reduce(best)), ("sink", np.logical_and.reduce(best))):
+            found = grid.cut(nearest=end + "s" * (number % 2))
+            if scale in (1, 0.25):
+                assert found.value == min(costs) and not found.gap and found.mask.tolist() == wanted.tolist()
+            elif found.gap:
+                assert Fraction(found.value) - Fraction(found.gap) <= min(costs) <= found.value
+            else:
+                assert found.value == float(min(costs))
+            assert isinstance(found.value, type(scale))
+
+
+ENDS, MORE = ([9, 0, 0, 0], [0, 0, 0, 9]), 10 ** 19
+
+
+@pytest.mark.parametrize("step, weights, sources, sinks, value, mask", [
+    (0, [5, 2, 7], *ENDS, 2, [0, 0, 1, 1]),
+    (0, [5, 2.5, 7], *ENDS, 2.5, [0, 0, 1, 1]),
+    # With 10^19 more on all terminals each pixel pays the lesser of its two, and the sum takes 66 bits.
+    (-1, [5, 2, 7], [MORE + 9] + [MORE] * 3, [MORE] * 3 + [MORE + 9], 4 * MORE + 2, [0, 0, 1, 1]),
+    ((2,), [3, 4], [9, 0, 0, 9], [0, 0, 9, 0], 3, [0, 1, 1, 0]),
+    ((4,), 7, *ENDS, 0, [0, 1, 1, 1]),  # a step that leads out of the grid joins nothing
+    ((-9,), 7, *ENDS, 0, [0, 1, 1, 1]),
+    (0, [True, False, True], *ENDS, 0, [0, 0, 1, 1]),
+    (0, np.array([True, False, True]), np.array(ENDS[0]) > 0, np.array(ENDS[1]) > 0, 0, [0, 0, 1, 1]),
+    (0, [5, 2, 7], [np.inf, 0, 0, 0], [0, 0, 0, np.inf], 2.0, [0, 0, 1, 1]),
+    (0, [5, np.inf, 7], [np.inf, 0, 0, 0], [0, 0, 0.5, np.inf], 5.0, [0, 1, 1, 1]),
+])
+def test_rows(step, weights, sources, sinks, value, mask):
+    """Rows whose cuts can be seen: the step along which pixels are joined, the weights of these edges, the weights to
+    the source and to the sink, the value and the mask."""
+    grid = Grid((4,))
+    grid.join_step(step, weights, back=0)
+    grid.add_terminals(*(np.array(ends, np.uint64) if max(ends) == MORE + 9 else ends for ends in (sources, sinks)))
+    found = grid.cut()
+    assert (found.value, found.mask.tolist(), found.gap) == (value, list(map(bool, mask)), 0)
+
+
+def test_unbounded():
+    """No mask is finite where infinite weights join the terminals."""
+    grid = Grid((3,), 2)
+    grid.join(np.inf)
+    grid.add_terminals([np.inf, 0, 0], [0, 0, np.inf])
+    refused(Unbounded, "no cut has a value", grid.cut)
+
+
+def test_repr():
+    assert repr(Grid([2, 3], 4)) == "Grid((2, 3), neighbours=4)"
+
+
+def test_arcs_to_terminals():
+    """Two weights of a pixel make one arc, and none where they are the same."""
+    grid = Grid((3,))
+    grid.add_terminals([5, 3, 4], [2, 3, 6])
+    assert [*zip(*(ends.tolist() for ends in grid.arcs()))] == [(3, 0, 3), (2, 4, 2)] and grid.cut().value == 9
+
+
+@pytest.mark.parametrize("kind", ["uint8", "int8", "uint16", "uint64", "bool", "float32"])
+def test_pictures(kind):
+    """The page's recipe, whatever kind of numbers a photograph has: beside a step the mask pays nothing."""
+    picture = np.array([[0, 0, 1, 1]]) * (1 if kind == "bool" else 200) - (100 if kind == "int8" else 0)
+    grid = Grid((1, 4), 4)
+    grid.join(lambda here, there, step: np.where(here == there, 100, 100 // (1 + 200 * (here - there) ** 2)),
+              of=picture.astype(kind))
+    grid.add_terminals([[90, 0, 0, 0]], [[0, 0, 0, 90]])
+    found = grid.cut()
+    assert (found.value, found.mask.tolist()) == (0, [[False, False, True, True]])
+
+
+@pytest.mark.parametrize("form", [np.asarray, np.ndarray.tolist])
+def test_weights_at_pixels(form):
+    """Weights in the grid's shape are those of the edges from each pixel; the last ones lead out and are ignored."""
+    there, back = np.arange(1, 13).reshape(3, 4), np.arange(21, 33).reshape(3, 4)
+    one, other = Grid((3, 4), 8), Grid((3, 4), 8)
+    one.join((form(there), form(back)))
+    for step in steps(2, 8):
+        other.join_step(step, pixels.pairs(there, step)[0], pixels.pairs(back, step)[0])
+    assert all((mine == theirs).all() for mine, theirs in zip(one.arcs(), other.arcs()))
+    row = Grid((4,), 2)
+    row.join(form(np.array([5, 2, 7, 0])))
+    row.add_terminals(*ENDS)
+    assert row.cut().value == 2
+
+
+def test_arrays_are_filled_once():
+    """A large grid takes little more than the memory of its arcs: no list of a step is made beside them."""
+    tracemalloc.start()
+    grid = Grid((300, 300), 8)
+    grid.join(3)
+    grid.add_terminals(np.arange(90000).reshape(300, 300), 45000)
+    before = tracemalloc.get_traced_memory()[0]
+    tracemalloc.reset_peak()
+    arcs = grid.arcs()
+    most = tracemalloc.get_traced_memory()[1] - before
+    tracemalloc.stop()
+    assert most < 1.4 * sum(part.nbytes for part in arcs)
+
+
+@pytest.mark.parametrize("side, axes, neighbours", [(14654, 2, 4), (10923, 2, 8), (535, 3, 6), (342, 3, 26)])
+def test_limits(side, axes, neighbours):
+    assert [fits((size,) * axes, steps(axes, neighbours)) for size in (side, side + 1)] == [True, False]
+
+
+@pytest.mark.parametrize("words, shape, neighbours", [
+    ("268,435,456 pixels, and 214,748,364 fit surely, as 14,654 x 14,654", (2 ** 14, 2 ** 14), 4),
+    ("11,000 x 11,000 pixels with 8 neighbours doesn't fit: it has 121,", (11000, 11000), 8),
+    ("1,000,000 x 1,000,000 pixels", (10 ** 6, 10 ** 6), 4),
+])
+def test_too_large(words, shape, neighbours):
+    """What doesn't fit is told in pixels, and before anything is made."""
+    refused(ValueError, words, Grid, shape, neighbours)
+
+
+def test_too_many_steps(monkeypatch):
+    grid = Grid((300, 400))
+    for step in (*steps(2, 4), (1, 1)):
+        grid.join_step(step, 1)
+    monkeypatch.setattr(pixels, "MOST_ARCS", 1_000_000)
+    refused(ValueError, "with 4 steps to neighbours doesn't fit", grid.join_step, (1, -1), 1)
+
+
+@pytest.mark.parametrize("weight", [9, 4.5])
+def test_large(weight):
+    """A photograph of the size of a screen, which is more than a file may have: as many pixels on either side of a line
+    that a cut goes along."""
+    grid = Grid((1080, 1920), 4)
+    grid.join(1)
+    halves = np.arange(1920) < 960
+    grid.add_terminals(np.broadcast_to(weight * halves, grid.shape), np.broadcast_to(weight * ~halves, grid.shape))
+    value, mask = grid.cut()
+    assert value == 1080 and (mask == ~halves).all()
+
+
+MASKED, HIDDEN = np.ma.masked_array([1, 2], [False, True]), np.ma.array(1, mask=True)
+
+
+@pytest.mark.parametrize("call", [
+    lambda grid: grid.join(max, of=MASKED), lambda grid: grid.add_terminals(MASKED, 0),
+    lambda grid: grid.join(MASKED), lambda grid: grid.join_step(0, [HIDDEN]), lambda grid: grid.join_step(0, 1, [HIDDEN]),
+    lambda grid: grid.add_terminals(0, [1, HIDDEN]), lambda grid: grid.join(max, of=[HIDDEN, 1])])
+def test_masked(call):
+    with pytest.raises(TypeError, match="masked elements"):
+        call(Grid((2,), 2))
+
+
+@pytest.mark.parametrize("words, call", [
+    ("have to be whole numbers or floats, and are of the kind complex", lambda full: full.join_step(0, 0.5j)),
+    ("have to be whole numbers or floats", lambda full: full.join_step(0, [Fraction(1, 2)])),
+    ("go from -1 to -1", lambda full: full.join_step(0, -1)),
+    ("sources have to be numbers from 0, and at (1,) is nan", lambda full: full.add_terminals([1, np.nan], 0)),
+    ("sinks have to be numbers from 0, and at (0,) is -0.5", lambda full: full.add_terminals(0, [-0.5, 1])),
+    ("have to have the shape (1,), and have (2,)", lambda full: full.join_step(0, [1, 2])),
+    ("sources have to have the shape (2,), and have (3,)", lambda full: full.add_terminals([1, 2, 3], 0)),
+    ("add up to more than 18446744073709551615", lambda full: full.add_terminals([0, 1], 0)),
+    ("a grid of 2 axes has 4, 8 neighbours, not 6", lambda full: Grid((2, 2), 6)),
+    ("goes up to 9223372036854775808", lambda full: Grid((2,), 2).join(max, of=np.array([2 ** 63, 0], np.uint64))),
+    ("without a number of neighbours", lambda full: full.join(5)),
+    ("one pixel or more along each axis", lambda full: Grid((2, 0), 4)),
+    ("nearest has to be", lambda full: full.cut(nearest="middle")),
+])
+def test_refused(words, call):
+    """Weights and shapes that can't be taken."""
+    full = Grid((2,))
+    full.add_terminals(2 ** 64 - 1, 0)
+    refused(ValueError, words, call, full)
+
+
+@pytest.mark.parametrize("step", [(0, 1, 1), (1,), (0, 0), 2, -3])
+def test_refused_steps(step):
+    refused(ValueError, f"of a grid of 2 axes, and this step is {step!r}", Grid((2, 2)).join_step, step, 1)

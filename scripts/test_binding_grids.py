@@ -95,11 +95,13 @@ def test_rows(step, weights, sources, sinks, value, mask):
     assert (found.value, found.mask.tolist(), found.gap) == (value, list(map(bool, mask)), 0)
 
 
-def test_unbounded():
+@pytest.mark.parametrize("weight, sources, sinks", [
+    (np.inf, [np.inf, 0, 0], [0, 0, np.inf]), (1, [0, np.inf, 0], [0, np.inf, 1]), (np.inf, [np.inf, 0, 0], np.inf)])
+def test_unbounded(weight, sources, sinks):
     """No mask is finite where infinite weights join the terminals."""
     grid = Grid((3,), 2)
-    grid.join(np.inf)
-    grid.add_terminals([np.inf, 0, 0], [0, 0, np.inf])
+    grid.join(weight)
+    grid.add_terminals(sources, sinks)
     refused(Unbounded, "no cut has a value", grid.cut)
 
 

@@ -196,14 +196,15 @@ class Grid:
 
     def cut_of_floats(self, nearest):
         """The cut of the grid whose weights are those of this one in whole units."""
-        cuts = [weights.ravel() for weights in self.terminals]
-        if any(np.isinf(weights).any() for weights in self.weights()):
+        source, sink = map(np.isinf, self.terminals)
+        masks, is_endless = [~source, sink], (source & sink).any()
+        if any(np.isinf(weights).any() for weights in self.weights()[2:]):
             infinite = self.changed(lambda weights: np.isinf(weights).astype(np.uint64))
             found = [infinite.cut(end) for end in ("source", "sink")]
-            if found[0].value:
-                raise Unbounded
-            cuts = [self.paid(mask) for _, mask in found]
-        unit = Unit(np, *cuts)
+            masks, is_endless = [mask for _, mask in found], found[0].value
+        if is_endless:
+            raise Unbounded
+        unit = Unit(np, *map(self.paid, masks))
         found = self.changed(unit.units).cut(nearest)
         return Cut(unit.value(found.value, unit.lost(self.paid(found.mask)), True), found.mask)
 

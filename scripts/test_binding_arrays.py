@@ -150,6 +150,7 @@ def test_refused_by_other_calls():
     refused(ValueError, "give both sources and sinks", provedflow.edge_connectivity, [0], [1], sources=0)
     refused(ERROR, "dst[0] is 1, and the nodes are 0 to 0", provedflow.edge_connectivity, [0], [1], 1)
     refused(ERROR, "there are 1 nodes, and 2 to", provedflow.edge_connectivity, [0], [0], 1, sources=0, sinks=0)
+    refused(ERROR, "and is 1000", provedflow.maximum_flow, [0, 0], [1, 1], [0.5, 10 ** 400], 0, 1)
 
 
 def test_one_node():
@@ -243,13 +244,15 @@ def test_floats(form, rough, checks):
     assert min(met.values()) > 5 and (rough or len(met) == 2), met
 
 
-def test_floats_that_are_exact():
-    """Nothing is rounded where all weights are multiples of the unit: prices, halves, whole numbers with infinite ones."""
-    for given, value in (([19.0, 35.0, INFINITE], 54.0), ([0.5, 0.25, 7], 0.75), ([2.0 ** 52, 1.5, INFINITE], 2.0 ** 52 + 1.5),
-                         ([5e-324, 1e-323, 1e300], 1.5e-323), ([3, 4, INFINITE], 7.0), ([0.1, 0.0, 0.3], 0.1)):
-        flow, cut = (call([0, 0, 1], [1, 1, 2], given, 0, 2) for call in (provedflow.maximum_flow, provedflow.minimum_cut))
-        assert (flow.value, flow.gap, cut.value, cut.gap) == (value, 0, value, 0), given
-        assert isinstance(flow.value, float) and eval(repr(flow), vars(calls)) == flow
+@pytest.mark.parametrize("given, value", [
+    ([19.0, 35.0, INFINITE], 54.0), ([0.5, 0.25, 7], 0.75), ([2.0 ** 52, 1.5, INFINITE], 2.0 ** 52 + 1.5),
+    ([5e-324, 1e-323, 1e300], 1.5e-323), ([3, 4, INFINITE], 7.0), ([0.1, 0.0, 0.3], 0.1)])
+def test_floats_that_are_exact(given, value):
+    """Nothing is rounded where all weights are multiples of the unit: halves, whole numbers beside infinite ones."""
+    for call in provedflow.maximum_flow, provedflow.minimum_cut:
+        found = call([0, 0, 1], [1, 1, 2], given, 0, 2)
+        assert (found.value, found.gap) == (value, 0) and isinstance(found.value, float)
+        assert eval(repr(found), vars(calls)) == found
 
 
 def test_hard_constraints():

@@ -197,8 +197,9 @@ MASKED, HIDDEN = np.ma.masked_array([1, 2], [False, True]), np.ma.array(1, mask=
 
 @pytest.mark.parametrize("call", [
     lambda grid: grid.join(max, of=MASKED), lambda grid: grid.add_terminals(MASKED, 0),
-    lambda grid: grid.join(MASKED), lambda grid: grid.join_step(0, [HIDDEN]), lambda grid: grid.join_step(0, 1, [HIDDEN]),
-    lambda grid: grid.add_terminals(0, [1, HIDDEN]), lambda grid: grid.join(max, of=[HIDDEN, 1])])
+    lambda grid: grid.join(MASKED), lambda grid: grid.join(max, of=[HIDDEN, 1]),
+    lambda grid: grid.join_step(0, [HIDDEN]), lambda grid: grid.join_step(0, 1, [HIDDEN]),
+    lambda grid: grid.add_terminals(0, [1, HIDDEN])])
 def test_masked(call):
     with pytest.raises(TypeError, match="masked elements"):
         call(Grid((2,), 2))

@@ -231,17 +231,19 @@ CALLS = [ours.maximum_flow_value, ours.minimum_cut, lambda *words: flow_func(*wo
 @pytest.mark.parametrize("amount", [None, "7", float("nan"), [], 1j, Decimal("nan")])
 def test_no_numbers(call, amount):
     """What is no number is told with its edge. The collector of garbage runs where it ran before."""
-    for edges in ([("s", "t", {"capacity": amount})], [("s", "a", {"capacity": 0.5}), ("s", "t", {"capacity": amount})]):
-        text = str(outcome(call, nx.DiGraph(edges), "s", "t"))
+    for beside in 2, 0.5:
+        graph = nx.DiGraph([("s", "a", {"capacity": beside}), ("s", "t", {"capacity": amount})])
+        text = str(outcome(call, graph, "s", "t"))
         assert f"('s', 't') has to be a number, and is {amount!r}" in text and gc.isenabled(), text
 
 
 @pytest.mark.parametrize("call", CALLS)
 @pytest.mark.parametrize("most, least", [
-    (10 ** 30, 1), (1, Fraction(1, 3 ** 90)), (Decimal("1e25"), Decimal("1e-9")), (Decimal("1e300"), Decimal("1e-300")),])
+    (10 ** 30, 1), (1, Fraction(1, 3 ** 90)), (Decimal("1e25"), Decimal("1e-9")),
+    (Decimal("1e300"), Decimal("1e-300"))])
 def test_too_different(call, most, least):
-    """What differs too much to be counted exactly is refused with how to round it, which then fits, and uses most of the
-    bits there are."""
+    """What differs too much to be counted exactly is refused with how to round it, which then fits, and uses most of
+    the bits there are."""
     edges = [("s", "a", most), ("a", "b", None), ("b", "t", least), ("s", "t", least)]
     rounded = re.search(r"as (round\(.*\))", str(outcome(call, of_edges(*edges), "s", "t")))[1]
     given = [(u, v, amount and eval(rounded, {"capacity": amount})) for u, v, amount in edges]
@@ -256,6 +258,9 @@ def test_different_floats(call, most, least):
     edges = [("s", "a", most), ("a", "b", None), ("b", "t", least), ("s", "t", least)]
     found = outcome(call, of_edges(*edges), "s", "t")
     assert (found[0] if isinstance(found, tuple) else found) == 2 * least
+    hard = of_edges(("s", "a", None), ("a", "b", 1e-30), ("b", "t", None), ("c", "b", 1e30), ("b", "c", 1e30))
+    found = outcome(call, hard, "s", "t")
+    assert (found[0] if isinstance(found, tuple) else found) == 1e-30  # the bits are left to what lies between
     text = str(outcome(call, of_edges(("s", "t", 1.7e308), ("s", "a", 1.7e308), ("a", "t", None)), "s", "t"))
     assert "add up to 2^1023 or more" in text
     assert "2^1024" in str(outcome(call, of_edges(("s", "t", 0.5), ("s", "a", 10 ** 400)), "s", "t"))

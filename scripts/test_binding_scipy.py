@@ -54,7 +54,8 @@ WIDE, ROWS = 2 ** 63 - 1, [[0, 2 ** 31, 2 ** 33], [-2 ** 31, 0, 2 ** 31], [-2 **
     ([0, 0], [1, 1], [WIDE, 1], np.int64, 2 ** 63, None),
     ([0, 0], [1, 1], [WIDE, WIDE], np.int64, 2 ** 64 - 2, None),
     ([0], [1], [2 ** 64 - 1], np.uint64, 2 ** 64 - 1, None),
-    ([0, 0, 1, 1], [1, 1, 2, 0], [0.5, np.inf, 3.25, 7], np.float32, 3.25, [[0, 3.25, 0], [-3.25, 0, 3.25], [0, -3.25, 0]]),
+    ([0, 0, 1, 1], [1, 1, 2, 0], [0.5, np.inf, 3.25, 7], np.float32, 3.25,
+     [[0, 3.25, 0], [-3.25, 0, 3.25], [0, -3.25, 0]]),
 ])
 def test_by_hand(srcs, dsts, capacities, kind, value, flow):
     """Matrices whose own kind can't count what flows: where arcs lead from and to, their capacities, the kind of these,

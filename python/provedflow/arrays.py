@@ -102,9 +102,12 @@ def floats_of(numbers):
     """Floats and whole numbers from 0 as a list of floats; None where there are none of the former, or others."""
     numbers = list(map(plain, numbers))
     kinds = set(map(type, numbers))
-    if not any(issubclass(kind, float) for kind in kinds) or not all(issubclass(kind, (float, Integral)) for kind in kinds):
+    if float not in kinds or not all(issubclass(kind, (float, Integral)) for kind in kinds):
         return None
-    return list(map(float, numbers)) if all(number >= 0 for number in numbers) else None
+    try:
+        return list(map(float, numbers)) if all(number >= 0 for number in numbers) else None
+    except OverflowError:
+        return None
 
 
 def complain(thing, kind, name, fractions):

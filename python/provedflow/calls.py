@@ -122,9 +122,10 @@ def edge_connectivity(src: Numbers, dst: Numbers, nodes: Optional[SupportsIndex]
                       sources: Optional[Nodes] = None, sinks: Optional[Nodes] = None, directed: bool = True) -> int:
     """Finds how many arcs must fail before some node is cut off from another.
 
-    It is the least number of arcs that leave a set of nodes that is neither empty nor all, and 0 for one node. With sources and sinks it is
-    how many must fail before every sink is cut off from every source: only sets count that have all sources inside and
-    all sinks outside. With directed=False arcs have no direction: those count that have exactly one end in the set.
+    It is the least number of arcs that leave a set of nodes that is neither empty nor all, and 0 for one node. With
+    sources and sinks it is how many must fail before every sink is cut off from every source: only sets count that have
+    all sources inside and all sinks outside. With directed=False arcs have no direction: those count that have exactly
+    one end in the set.
 
     - src, dst, nodes: as of `maximum_flow`; there are no capacities, each of parallel arcs counts, and there are
       at most 536,870,912 arcs.
@@ -290,9 +291,9 @@ class Network:
 
     def check_lengths(self):
         """Checks that the lists fit each other and the limits, as the library's exports require."""
-        for name, things in {"dst": self.dst, **self.amounts}.items():
-            if len(things) != self.arcs:
-                raise FlowError(f"src has {self.arcs} elements and {name} has {len(things)}; both need one for each arc")
+        for name, length in {"dst": len(self.dst), **{name: len(it) for name, it in self.amounts.items()}}.items():
+            if length != self.arcs:
+                raise FlowError(f"src has {self.arcs} elements and {name} has {length}; both need one for each arc")
         most = MOST_ARCS if self.amounts else MOST_LINKS
         if self.arcs > most:
             raise FlowError(f"there are {self.arcs} arcs, and at most {most} are taken")

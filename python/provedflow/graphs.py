@@ -52,8 +52,8 @@ class Problem:
         return [most if amount == INFINITE else units for amount, units in zip(given, amounts)], scale
 
     def solve(self, s, t, nearest=None):
-        """A maximum flow, or with a terminal that it is nearest a minimum cut: the value, and all that was found. Checks
-        that no path of infinite edges leads from s to t."""
+        """A maximum flow, or with a terminal that it is nearest a minimum cut: the value, and all that was found.
+        Checks that no path of infinite edges leads from s to t."""
         check_ends(self.G, s, t)
         check_bounded(s, t, self.endless)
         network = network_of(self.arcs, self.numbers[s], self.numbers[t], len(self.numbers))
@@ -172,12 +172,15 @@ def graph_of(rows, infinite):
     return R
 
 
-def send(rows, s, t, cutoff):
+def send(rows, s, t, cutoff, infinite):
     """Sets the flows of a residual network without flows to a maximum flow, and answers its value."""
     arcs = [(u, v, attr) for u, row in rows.items() for v, attr in row.items() if attr["capacity"] > 0]
     given = [number_of(attr["capacity"]) for _, _, attr in arcs]
     kind = kind_of(given)
-    amounts, scale = (given, 1) if kind is float else whole_amounts(given, kind)
+    if kind is float:
+        amounts, scale = [INFINITE if amount == infinite else float(amount) for amount in given], 1
+    else:
+        amounts, scale = whole_amounts(given, kind)
     numbers = {node: number for number, node in enumerate(rows)}
     src, dst, units = [numbers[u] for u, _, _ in arcs], [numbers[v] for _, v, _ in arcs], list(amounts)
     source, nodes = numbers[s], len(numbers)
@@ -208,7 +211,7 @@ def send(rows, s, t, cutoff):
 def set_floats(rows, arcs, unit, inside):
     """Sets the flows of a residual network, which are in units, to floats. The flow of an edge is its capacity only
     where it is full; edges of less than a unit are so where they leave the minimum cut."""
-    for (u, v, attr), most in zip(arcs, unit.units([attr["capacity"] for _, _, attr in arcs])):
+    for (u, v, attr), most in zip(arcs, unit.units([float(attr["capacity"]) for _, _, attr in arcs])):
         flow, capacity = attr["flow"], float(attr["capacity"])
         is_full = type(flow) is int and flow == most and (most or u in inside and v not in inside)
         if is_full or type(flow) is int and flow > 0:

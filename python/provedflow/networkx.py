@@ -21,11 +21,11 @@ capacity 0 or less carry nothing; a path of infinite edges from s to t raises Ne
 NetworkXError, but for `edge_connectivity`, where each of several parallel edges counts.
 
 Capacities may be ints of any size, floats, Fractions and Decimals. Where one is a float, all are, and are rounded as
-`provedflow.maximum_flow` says: the value is a float with the attribute `gap`, and each flow the nearest float to what it
-is in units; in the residual network of `flow_func` it is the capacity just where the edge is full. All others are brought
-to a common denominator, exactly, so that the problem that is solved is the one given: where all are whole, so are all
-answers, and else they are Fractions. A capacity of 2^64 or more becomes several arcs; where that makes too many, the
-NetworkXError says how to round.
+`provedflow.maximum_flow` says: the value is a float with the attribute `gap`, and each flow the nearest float to what
+it is in units; in the residual network of `flow_func` it is the capacity just where the edge is full. All others are
+brought to a common denominator, exactly, so that the problem that is solved is the one given: where all are whole, so
+are all answers, and else they are Fractions. A capacity of 2^64 or more becomes several arcs; where that makes too
+many, the NetworkXError says how to round.
 
 Raised, beside what is said above: NetworkXError where s or t isn't in the graph, where they are the same, where a
 capacity is None, a text, nan or no number at all (with the edge), and beyond the limits of 268,435,456 nodes and
@@ -291,7 +291,7 @@ def flow_func(G: Any, s: Any, t: Any, capacity: str = "capacity", residual: Any 
             attr["flow"] = 0
     check_bounded(s, t, {u: [v for v, attr in row.items() if attr["capacity"] == infinite]
                          for u, row in rows.items()})
-    value = send(rows, s, t, cutoff)
+    value = send(rows, s, t, cutoff, infinite)
     R = graph_of(rows, infinite) if residual is None else residual
     R.graph.update(flow_value=value, algorithm="flow_func")
     return R

@@ -6,7 +6,8 @@
     result.flow_value, result.flow
 
 The signature and the answer are those of `scipy.sparse.csgraph.maximum_flow`. SciPy counts in 32 bits; here capacities
-go up to 2^64 - 1, the value is an int of any size, and flows have 64 bits; or capacities are floats, and so are answers.
+go up to 2^64 - 1, the value is an int of any size, and flows have 64 bits. Capacities may also be floats, and then so
+are the answers.
 """
 
 from __future__ import annotations
@@ -26,8 +27,8 @@ HALF = np.uint64(2 ** 32 - 1)
 
 
 class MaximumFlowResult(NamedTuple):
-    """The greatest value of a flow, and what flows from i to j less what flows from j to i, a CSR matrix of int64, or of
-    float64 where the capacities are floats; then the value has the attribute `gap`."""
+    """The greatest value of a flow, and what flows from i to j less what flows from j to i, a CSR matrix of int64, or
+    of float64 where the capacities are floats; then the value has the attribute `gap`."""
 
     flow_value: Union[int, Any]
     flow: Any
@@ -37,19 +38,19 @@ def maximum_flow(csgraph: Any, source: SupportsIndex, sink: SupportsIndex, *,
                  method: Literal["dinic", "edmonds_karp"] = "dinic") -> MaximumFlowResult:
     """Finds a flow of the greatest value from a source to a sink.
 
-    - csgraph: a sparse matrix of any format and of any kind of integers, or of floats of up to 64 bits, of shape (nodes,
-      nodes). Its element in row i and column j is the capacity of the arc from i to j, from 0 to 2^64 - 1; duplicate
-      elements are parallel arcs, whose capacities are never added up in the matrix's own kind. Floats are rounded as
-      `provedflow.maximum_flow` says.
+    - csgraph: a sparse matrix of any format and of any kind of integers, or of floats of up to 64 bits, of shape
+      (nodes, nodes). Its element in row i and column j is the capacity of the arc from i to j, from 0 to 2^64 - 1;
+      duplicate elements are parallel arcs, whose capacities are never added up in the matrix's own kind. Floats are
+      rounded as `provedflow.maximum_flow` says.
     - source, sink: two different nodes, from 0.
     - method: one that SciPy has, and without effect; there is one method.
 
     Returns MaximumFlowResult(flow_value, flow). The flow is antisymmetric, and has elements where something flows. If
     several flows have the greatest value, it is one of them, and not always SciPy's.
 
-    Raises TypeError where csgraph is no sparse matrix, ValueError where it isn't square or not of numbers from 0, where a
-    node isn't one, and beyond the limits of 268,435,456 nodes and 1,073,741,824 arcs; OverflowError where from one node to
-    another flow 2^63 or more, beyond int64; MemoryError.
+    Raises TypeError where csgraph is no sparse matrix, ValueError where it isn't square or not of numbers from 0, where
+    a node isn't one, and beyond the limits of 268,435,456 nodes and 1,073,741,824 arcs; OverflowError where from one
+    node to another flow 2^63 or more, beyond int64; MemoryError.
 
     >>> from scipy.sparse import csr_matrix
     >>> capacities = csr_matrix([[0, 3, 2, 0], [0, 0, 1, 2], [0, 0, 0, 3], [0, 0, 0, 0]])

@@ -1,10 +1,10 @@
 """Weights with fractions: floats as whole numbers of a unit, and answers as floats again.
 
-There is one rule. The bound of a network is the lesser of what can leave its sources and what can enter its sinks; nodes
-that infinite weights join to a terminal count as terminals. The unit is a power of two, the least of which the bound has
-surely fewer than 2^63. Weights are rounded down to whole units, and those of 2^63 or more, infinite ones among them, count
-as 2^63, so that no minimum cut has one. The flow found keeps to the weights given, so its value is at most the greatest;
-and what the cut found costs in the weights given is at least that.
+There is one rule. The bound of a network is the lesser of what can leave its sources and what can enter its sinks;
+nodes that infinite weights join to a terminal count as terminals. The unit is a power of two, the least of which the
+bound has surely fewer than 2^63. Weights are rounded down to whole units, and those of 2^63 or more, infinite ones
+among them, count as 2^63, so that no minimum cut has one. The flow found keeps to the weights given, so its value is at
+most the greatest; and what the cut found costs in the weights given is at least that.
 """
 
 import math
@@ -63,7 +63,8 @@ class Unit:
         """How many units rounding has taken from the weights of a minimum cut; rounded up to 2^-40 of one for each."""
         parts = self.doubled(weights, self.shift)
         if self.numpy:
-            return Fraction(exact_sum(self.numpy.ceil((parts - self.numpy.floor(parts)) * 2.0 ** 40).astype("u8")), 2 ** 40)
+            parts = self.numpy.ceil((parts - self.numpy.floor(parts)) * 2.0 ** 40)
+            return Fraction(exact_sum(parts.astype(self.numpy.uint64)), 2 ** 40)
         return Fraction(sum(math.ceil(part % 1 * 2.0 ** 40) for part in parts), 2 ** 40)
 
     def value(self, units, lost, of_cut):

@@ -10,6 +10,7 @@ from provedflow import calls
 from provedflow.capacities import (
     INFINITE, TooMuch, as_fraction, edges_of, joined, kind_of, number_of, split, whole_amounts)
 from provedflow.library import MOST_ARCS, MOST_LINKS, MOST_NODES, FlowError
+from provedflow.weights import Unbounded
 
 
 class Problem:
@@ -23,41 +24,25 @@ class Problem:
         self.both_ways = not G.is_directed()
         given = [amount for _, _, amount in self.edges]
         self.kind = kind_of(given)
-        self.endless = self.endless_rows() if INFINITE in given else {}
         self.unit = None  # of floats, which each call has its own for
-        amounts, self.scale = (given, 1) if self.kind is float else self.finite_amounts(given)
+        amounts, self.scale, self.most = (given, 1, INFINITE) if self.kind is float else self.finite_amounts(given)
         srcs, dsts = [self.numbers[u] for u, _, _ in self.edges], [self.numbers[v] for _, v, _ in self.edges]
         if self.both_ways:
             srcs, dsts, amounts = srcs + dsts, dsts + srcs, amounts * 2
         check_size(0, len(amounts))
         self.arcs, self.parts = split(srcs, dsts, amounts, self.scale)
 
-    def endless_rows(self):
-        """The nodes that edges of infinite capacity lead to, from each node."""
-        rows = {}
-        for u, v, amount in self.edges:
-            if amount == INFINITE:
-                rows.setdefault(u, []).append(v)
-                if self.both_ways:
-                    rows.setdefault(v, []).append(u)
-        return rows
-
     def finite_amounts(self, given):
-        """The capacities in whole numbers of a unit, and how many units make 1. An infinite one is more than all others
-        together, so no minimum cut has it."""
-        if not self.endless:
-            return whole_amounts(given, self.kind)
+        """The capacities in whole numbers of a unit, how many units make 1, and what an infinite one counts as: more
+        than all others together, so that no minimum cut has it."""
         amounts, scale = whole_amounts([0 if amount == INFINITE else amount for amount in given], self.kind)
         most = 1 + sum(amounts) * (2 if self.both_ways else 1)
-        return [most if amount == INFINITE else units for amount, units in zip(given, amounts)], scale
+        return [most if amount == INFINITE else units for amount, units in zip(given, amounts)], scale, most
 
     def solve(self, s, t, nearest=None):
-        """A maximum flow, or with a terminal that it is nearest a minimum cut: the value, and all that was found.
-        Checks that no path of infinite edges leads from s to t."""
+        """A maximum flow, or with a terminal that it is nearest a minimum cut: the value, and all that was found."""
         check_ends(self.G, s, t)
-        check_bounded(s, t, self.endless)
-        network = network_of(self.arcs, self.numbers[s], self.numbers[t], len(self.numbers))
-        found = network.solve(nearest or ("sources" if network.unit else None))
+        network, found = solved(self.arcs, self.numbers[s], self.numbers[t], len(self.numbers), self.most, nearest)
         self.unit, value = network.unit, network.value(found, nearest is not None)
         return value if self.unit else self.answer(value), found
 
@@ -190,8 +175,8 @@ def send(rows, s, t, cutoff, infinite):
         source, nodes = nodes, nodes + 1
     check_size(nodes, len(units))
     lists, parts = split(src, dst, units, scale)
-    network = network_of(lists, source, numbers[t], nodes)
-    found = network.solve("sinks" if network.unit else None)
+    most = INFINITE if kind is float else as_fraction(infinite) * scale
+    network, found = solved(lists, source, numbers[t], nodes, most, "sinks" if kind is float else None)
     value = network.value(found, False)
     for (u, v, attr), carried in zip(arcs, joined(found.flows.keeper, parts)):
         if carried:
@@ -223,12 +208,19 @@ def set_floats(rows, arcs, unit, inside):
             attr["flow"] = float(attr["flow"])
 
 
-def network_of(lists, source, sink, nodes):
-    """The network of these lists, as the library takes it. Its refusal of floats is one of NetworkX's errors."""
+def solved(lists, source, sink, nodes, most, nearest):
+    """The network of these lists, and a flow or a cut of it as the library counts, whose value has to be less than
+    what an infinite capacity counts as."""
     try:
-        return calls.Network(*lists[:2], source, sink, nodes, capacities=lists[2])
+        network = calls.Network(*lists[:2], source, sink, nodes, capacities=lists[2])
+        found = network.solve(nearest or ("sources" if network.unit else None))
+        if found.value < most:
+            return network, found
+    except Unbounded:
+        pass
     except FlowError as failure:
         raise nx.NetworkXError(str(failure)) from None
+    raise nx.NetworkXUnbounded("Infinite capacity path, flow unbounded above.")
 
 
 def check_ends(G, s, t):
@@ -244,17 +236,6 @@ def check_kind(G):
     """Checks that a graph has no parallel edges."""
     if G.is_multigraph():
         raise nx.NetworkXError("MultiGraph and MultiDiGraph not supported (yet).")
-
-
-def check_bounded(s, t, rows):
-    """Checks that no path of infinite edges leads from s to t; `rows` has the nodes that these lead to from each."""
-    seen, waiting = {s}, [s]
-    while waiting:
-        new = [v for v in rows.get(waiting.pop(), ()) if v not in seen]
-        seen.update(new)
-        waiting += new
-    if t in seen:
-        raise nx.NetworkXUnbounded("Infinite capacity path, flow unbounded above.")
 
 
 def check_size(nodes, arcs, most=MOST_ARCS):

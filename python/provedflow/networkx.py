@@ -49,7 +49,7 @@ from networkx.algorithms import flow as theirs
 
 from provedflow import calls
 from provedflow.graphs import (
-    EdgeUnits, NodeUnits, Problem, check_bounded, check_ends, check_kind, check_size, graph_of, residual_rows, send)
+    EdgeUnits, NodeUnits, Problem, check_ends, check_kind, check_size, graph_of, residual_rows, send)
 from provedflow.library import MOST_LINKS
 
 
@@ -289,8 +289,6 @@ def flow_func(G: Any, s: Any, t: Any, capacity: str = "capacity", residual: Any 
         rows, infinite = dict(residual.adjacency()), residual.graph["inf"]
         for attr in (attr for row in rows.values() for attr in row.values()):
             attr["flow"] = 0
-    check_bounded(s, t, {u: [v for v, attr in row.items() if attr["capacity"] == infinite]
-                         for u, row in rows.items()})
     value = send(rows, s, t, cutoff, infinite)
     R = graph_of(rows, infinite) if residual is None else residual
     R.graph.update(flow_value=value, algorithm="flow_func")

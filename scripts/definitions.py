@@ -1,22 +1,15 @@
 #!/usr/bin/env python3
-"""Compares docs/DEFINITIONS.md with the definitions that the contract of `run` and those of the streams rest on.
+"""Reads the definitions that the contract of `run` and those of the streams rest on, for docs/DEFINITIONS.md.
 
 It starts from the names that these contracts cite and follows the definitions in crates/*/specs from one to the next,
 however a name is brought in: by itself, under another name, or with its module before it. An import that it can't
-follow fails. The page has to tell
+follow fails. The page tells each file that is reached with its number of lines (comments, blank lines and imports don't
+count), what these definitions rest on in turn (names of the standard library, constants, types, what each stream says
+of its bytes), and some definitions as they stand in the specs. test_definitions.py compares all of it.
 
-- each file that is reached with its number of lines, and their sum; comments, blank lines and imports don't count;
-- what these definitions rest on in turn: the names of the standard library, the constants with their values, the types
-  of the code with their numbers of lines and what they hold, and what each stream says of its bytes;
-- each definition that it quotes as it stands in the specs, whole.
+    python3 scripts/definitions.py --write
 
-A file that is reached has to hold nothing else, so that its reader never wonders what a definition is there for.
-
-Two things more are seen to: that flows are got at by the counted calls of a table alone, and that the crates above
-the solvers cite nothing of these but the words of their public contracts. The last line is 'definitions: N passed, M
-failed'. With --write the lists of the page and its counts are written anew; what it quotes is mended by hand.
-
-    python3 scripts/definitions.py [--write]
+writes the lists of the page and its counts anew; what it quotes is mended by hand.
 """
 import functools
 import re
@@ -53,22 +46,15 @@ class Outside(str):
     """A name that isn't defined in specs/: of the standard library, a constant, or a type of the code."""
 
 
-def fail(what):
-    raise SystemExit(f"definitions: {what}")
-
-
 def target(path, name):
     """What a name of a module stands for: a file of specs/ and the name there, or a name from outside."""
     parts = path.split(".")
-    if parts[0] == "Prim":
-        return Outside(f"{path}.{name}")
-    if parts[0] == "Rattle" and len(parts) > 2 and not (ROOT / "crates" / parts[1]).is_dir():
-        return Outside(f"{path}.{name}")
-    if parts[0] == "Rattle" and parts[2:4] == ["specs", "declared"]:
+    of_the_kit = parts[0] == "Rattle" and len(parts) > 2 and not (ROOT / "crates" / parts[1]).is_dir()
+    if parts[0] == "Prim" or of_the_kit or parts[0] == "Rattle" and parts[2:4] == ["specs", "declared"]:
         return Outside(f"{path}.{name}")
     file = ROOT.joinpath("crates", *parts[1:2], *parts[2:]).with_suffix(".antt")
     if parts[0] != "Rattle" or parts[2:3] != ["specs"] or not file.is_file():
-        fail(f"the name {name} of {path} can't be followed")
+        raise ValueError(f"the name {name} of {path} can't be followed")
     return file, name
 
 
@@ -85,7 +71,7 @@ def imports(text, where):
             there, _, here = item.partition(" as ")
             names[here.strip() or there.strip()] = (path, there.strip())
     if seen != len(re.findall(r"^(?:pub )?use\b", text, re.M)) or OPENS.search(text):
-        fail(f"{where} has an import or a section that can't be followed")
+        raise ValueError(f"{where} has an import or a section that can't be followed")
     return names, modules
 
 
@@ -111,7 +97,7 @@ def cited(text, names, modules):
         if parts[0] in modules and len(parts) > 1:
             found.add((modules[parts[0]], parts[1]))
         elif parts[0] == "Rattle":
-            fail(f"{word} can't be followed")
+            raise ValueError(f"{word} can't be followed")
         found |= {names[part] for part in parts if part in names}
     for name, there in names.items():
         pieces = [piece for piece in name.split("◌") if piece]
@@ -120,7 +106,7 @@ def cited(text, names, modules):
     return found
 
 
-@functools.lru_cache(None)
+@functools.cache
 def spec(path):
     """A file of specs/: its definitions, the names that it imports and the modules that it imports whole."""
     text = path.read_text()
@@ -139,7 +125,7 @@ def reached_from(starts):
             path, name = there
             defined, names, modules = spec(path)
             if name not in defined:
-                fail(f"{path.relative_to(ROOT)} has no {name}")
+                raise ValueError(f"{path.relative_to(ROOT)} has no {name}")
             text = "\n".join(defined[name])
             todo += [target(*pair) for pair in cited(text, names, modules)]
             todo += [(path, part) for word in WORD.findall(text) for part in word.split(".") if part in defined]
@@ -177,14 +163,12 @@ def rows(counts, outside):
         if parts[2:4] != ["specs", "declared"] or not (ROOT / "crates" / parts[1]).is_dir():
             library.setdefault(path, []).append(last)
         elif parts[-1] == "TheConstants":
-            value = re.search(rf"^pub const {last}: (.*);$", source_of(path).read_text(), re.M)
-            constants[last] = (value or fail(f"{last} isn't a constant"))[1]
+            constants[last] = re.search(rf"^pub const {last}: (.*);$", source_of(path).read_text(), re.M)[1]
         else:
             kind = parts[-2] if parts[-1] == "TheVariants" else last
             file = source_of(path)
             text = re.search(rf"^pub (?:struct|enum) {kind} .*?^}}$", file.read_text(), re.M | re.S)
-            lines = (text or fail(f"{kind} isn't a type of {file}"))[0].splitlines()
-            lines = [line for line in lines if line.strip() and not line.strip().startswith(("//", "#["))]
+            lines = [line for line in text[0].splitlines() if line.strip() and not line.strip().startswith(("//", "#["))]
             held = squeezed(" ".join(lines[1:-1]).replace("pub ", "")).rstrip(",").replace(", }", " }")
             types[f"- `{kind}` of `{file.relative_to(ROOT)}`, {len(lines)} lines: `{held}`"] = len(lines)
     table += [f"- `{path}`: {' '.join(f'`{name}`' for name in names)}" for path, names in sorted(library.items())]
@@ -288,9 +272,10 @@ def written(page, lines, sentences):
     return head + mark + rest
 
 
-def main():
-    if sys.argv[1:] not in ([], ["--write"]):
-        sys.exit(__doc__)
+@functools.cache
+def reading():
+    """What the contracts reach: the lines of the page's lists, the sentences with its counts, what each file that is
+    reached holds beside, and the definitions that are reached or cited above these contracts."""
     reached, outside = reached_from(starts(STARTS))
     closed = reached_from(starts(CLOSED))[0] - reached
     more = sum(len(spec(path)[0][name]) for path, name in closed)
@@ -308,34 +293,19 @@ def main():
         f"{len(constants)} constants",
         f"{len(types)} types of {sum(types.values())} lines",
     ]
-    page = PAGE.read_text()
-    if sys.argv[1:]:
-        page = written(page, table, sentences)
-        PAGE.write_text(page)
-    tests = {f"the page says '{sentence}'": sentence in page for sentence in sentences}
-    told = re.findall(r"^- `.*$", page[page.index("## How much it is") :], re.M)
-    for row in sorted({*table, *told}):
-        tests[f"'{row}' is a line of the page, and true"] = row in table and row in told
-    for name, rest in others.items():
-        tests[f"{name} holds what the contracts reach and nothing else, but also has {', '.join(rest)}"] = not rest
-    every = {}
-    for path in sorted(ROOT.glob("crates/*/specs/**/*.antt")):
-        for name, lines in blocks(path.read_text()).items():
-            every.setdefault(name, []).append((path, clauses(lines)))
-    for name, quoted in quotes().items():
-        known = every.get(name, [])
-        found = [text for path, text in known if (path, name) in reached | closed] or [text for _, text in known]
-        tests[f"the page quotes {name} as it stands in the specs"] = found == [quoted]
-    ways = ways_to_flows()
-    tests[f"flows are got at by {sorted(WAYS_TO_FLOWS)} alone, not by {sorted(ways)}"] = ways == WAYS_TO_FLOWS
-    beyond = beyond_the_public("flow_solve", ["flow_tools", "flow", "growths", "ferries"])
-    tests[f"of flow_solve no more is cited than its public contracts say, but also {', '.join(beyond)}"] = not beyond
-    for test, holds in tests.items():
-        if not holds:
-            print(f"not so: {test}")
-    failed = list(tests.values()).count(False)
-    print(f"definitions: {len(tests) - failed} passed, {failed} failed")
-    return 1 if failed else 0
+    return table, sentences, others, reached | closed
 
 
-sys.exit(main())
+def defined_as(name):
+    """The clauses of the definitions of this name in the specs: of those that are reached, or else of all."""
+    every = [((path, name), clauses(blocks_of[name])) for path in sorted(ROOT.glob("crates/*/specs/**/*.antt"))
+             if name in (blocks_of := blocks(path.read_text()))]
+    known = reading()[-1]
+    return [text for there, text in every if there in known] or [text for _, text in every]
+
+
+if __name__ == "__main__":
+    if sys.argv[1:] != ["--write"]:
+        sys.exit(__doc__)
+    table, sentences, *_ = reading()
+    PAGE.write_text(written(PAGE.read_text(), table, sentences))

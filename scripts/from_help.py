@@ -1,15 +1,10 @@
 #!/usr/bin/env python3
-"""Writes what follows from the program's help, or compares it: from_help.py FLOW [--check]
+"""Writes what follows from the help of a built program: from_help.py PROGRAM
 
-FLOW is the program that was built. In man/flow.1 these are the version, the synopsis, the commands, the options and the
-statuses; in completions/ the commands and options of bash, zsh and fish. All else in these files is written by hand.
-With --check nothing is written: a file that differs is a failure. Then bash and fish have to offer just the commands
-and options of the help, zsh has to read its file, and man has to typeset the page without a warning, as far as these
-are installed. The last line is then 'pages: N passed, M failed'.
+In man/flow.1 these are the version, the synopsis, the commands, the options and the statuses; in completions/ the
+commands and options of bash, zsh and fish. All else in these files is written by hand.
 """
 import re
-import shlex
-import shutil
 import subprocess
 import sys
 from pathlib import Path
@@ -40,7 +35,8 @@ def helps_of(program):
     main = parsed(said(program, '--help'))
     helps = {name: parsed(said(program, name, '--help')) for name in main.commands if name != 'help'}
     for known in helps.values():
-        known.options[-1] = main.options[0] # that of --help
+        known.options[-1] = main.options[0]  # that of --help
+    main.version = said(program, '--version').split()[-1]
     return main, helps
 
 
@@ -62,7 +58,7 @@ def typeset(lines):
     return found
 
 
-def manual(page, version, main, helps):
+def manual(page, main, helps):
     """The manual page, its parts written as the helps tell."""
     synopsis, commands = [], []
     for name, known in helps.items():
@@ -80,7 +76,7 @@ def manual(page, version, main, helps):
                              ('COMMANDS', commands, r'\.SH'), ('OPTIONS', options, r'\.SH'),
                              ('EXIT STATUS', statuses, r'\.PP')):
         page = between(page, rf'\.SH {name}\n', ''.join(f'{line}\n' for line in lines), end)
-    return re.sub(r'"flow [0-9.]+"', f'"flow {version}"', page)
+    return re.sub(r'"flow [0-9.]+"', f'"flow {main.version}"', page)
 
 
 def between(text, begin, new, end):
@@ -134,54 +130,14 @@ def fish(text, main, helps):
     return text[:text.index('complete')] + 'complete -c flow -n __fish_use_subcommand -f\n' + ''.join(lines)
 
 
-def offered(line):
-    """What bash offers at the end of the line, and where it is installed what fish does."""
-    file, words = (shlex.quote(str(TOP / 'completions/flow')), shlex.join(line.split(' ')))
-    script = (f'source {file}.bash; COMP_WORDS=({words}); COMP_CWORD=$((${{#COMP_WORDS[@]}} - 1)); _flow; '
-              'printf "%s\\n" "${COMPREPLY[@]}"')
-    yield 'bash', said('bash', '--norc', '--noprofile', '-c', script).split()
-    if shutil.which('fish'):
-        lines = said('fish', '--no-config', '-c', f'source {file}.fish; complete -C {shlex.quote(line)}').splitlines()
-        yield 'fish', [offer.split('\t')[0] for offer in lines]
+FILES = {'man/flow.1': manual, 'completions/flow.bash': bash, 'completions/_flow': zsh, 'completions/flow.fish': fish}
 
 
-def shells(main, helps):
-    """What the shells and man say of the files: pairs of what is tested and whether it holds."""
-    offers = {'flow ': sorted(main.commands), 'flow help ': sorted(helps)}
-    offers.update({' '.join(['flow', *name, '--']): sorted(long for _, long, _ in known.options)
-                   for name, known in [((), main), *(((name,), known) for name, known in helps.items())]})
-    for line, wanted in offers.items():
-        yield from ((f'{shell} at the end of {line!r}', sorted(found) == wanted) for shell, found in offered(line))
-    if shutil.which('zsh'):
-        yield 'zsh reads its file', said('zsh', '-n', str(TOP / 'completions/_flow')) == ''
-    if shutil.which('man') and shutil.which('groff'):
-        words = f'man --warnings -E UTF-8 -l {shlex.quote(str(TOP / "man/flow.1"))} 2>&1 > /dev/null'
-        yield 'man has no warning', said('bash', '-c', words) == ''
-    for name, known in helps.items():
-        yield f'only check has status 1, and {name} all others', [status for status, _ in known.statuses] == [
-            status for status, _ in main.statuses if status != '1' or name == 'check']
-
-
-def main():
-    if sys.argv[2:] not in ([], ['--check']) or len(sys.argv) < 2:
-        sys.exit(__doc__)
-    program = str(Path(sys.argv[1]).resolve())
-    known = helps_of(program)
-    version = said(program, '--version').split()[-1]
-    files = {'man/flow.1': lambda text, *known: manual(text, version, *known), 'completions/flow.bash': bash,
-             'completions/_flow': zsh, 'completions/flow.fish': fish}
-    texts = {name: make((TOP / name).read_text(), *known) for name, make in files.items()}
-    if not sys.argv[2:]:
-        for name, text in texts.items():
-            (TOP / name).write_text(text)
-        return 0
-    tests = [(f'{name} is what scripts/from_help.py writes', (TOP / name).read_text() == text)
-             for name, text in texts.items()] + [*shells(*known)]
-    failed = [what for what, holds in tests if not holds]
-    print(*(f'pages: not so: {what}\n' for what in failed), sep='', end='')
-    print(f'pages: {len(tests) - len(failed)} passed, {len(failed)} failed')
-    return 1 if failed else 0
+def written(program, name):
+    """A file as it has to be, with all that is written by hand as it is."""
+    return FILES[name]((TOP / name).read_text(), *helps_of(program))
 
 
 if __name__ == '__main__':
-    sys.exit(main())
+    for name in FILES:
+        (TOP / name).write_text(written(sys.argv[1], name))

@@ -1,19 +1,10 @@
-#!/usr/bin/env python3
-"""A second reading of docs/DEFINITIONS.md, in plain Python, held against the built program.
-
-    python3 scripts/independent.py FLOW [PROBLEMS [SEED]]
+"""A second reading of docs/DEFINITIONS.md, in plain Python.
 
 On small networks it goes over all sets of nodes, as the definitions do; on larger ones a printed flow and a cut of its
-value show each other greatest and least. So many generated PROBLEMS are tried (1,000), half of them mutated, and two
-solutions of each. The last line is 'independent: N passed, M failed'.
+value show each other greatest and least.
 """
 import random
-import subprocess
-import sys
-import tempfile
-from collections import Counter
-from concurrent.futures import ThreadPoolExecutor
-from pathlib import Path
+from collections import Counter, defaultdict
 
 SMALL, LINE, NODES, ARCS, CAP = 9, 200, 1_000_000, 4_000_000, 2**64 - 1
 VALUE = 4_000_000 * CAP
@@ -133,12 +124,46 @@ def cuts(problem, flows):
 
 
 def connectivity(problem, undirected, pair):
-    """The least number of arcs that leave a set, or have exactly one end in it."""
+    """The least number of arcs that leave a set, or have exactly one end in it; in larger networks, by flows."""
     nodes, arcs, sources, sinks = problem
     arcs = [(u, v, 1) for u, v, _ in arcs] + [(v, u, 1) for u, v, _ in arcs if undirected]
     if nodes > SMALL:
-        return int(run(["solve", "--value"], text_of(nodes, arcs, sources, sinks))[1][0][2:])
+        others = [] if pair else [ends for v in range(2, nodes + 1) for ends in (([1], [v]), ([v], [1]))]
+        return min(greatest_value(*ends, arcs) for ends in others or [(sources, sinks)])
     return least(nodes, arcs, lambda X: sources <= X and not sinks & X if pair else 0 < len(X) < nodes)[0]
+
+
+def greatest_value(sources, sinks, arcs):
+    """The greatest value of a flow, by shortest augmenting paths (Edmonds and Karp 1972)."""
+    rest, near, value = Counter(), defaultdict(set), 0
+    for tail, head, capacity in arcs:
+        rest[tail, head] += capacity
+        near[tail].add(head)
+        near[head].add(tail)
+    while steps := shortest_path(rest, near, sources, sinks):
+        least = min(rest[step] for step in steps)
+        for tail, head in steps:
+            rest[tail, head] -= least
+            rest[head, tail] += least
+        value += least
+    return value
+
+
+def shortest_path(rest, near, sources, sinks):
+    """The steps of a shortest path from a source to a sink over what is left of the capacities, if there is one."""
+    before, queue = dict.fromkeys(sources), list(sources)
+    for node in queue:
+        if node in sinks:
+            steps = []
+            while before[node] is not None:
+                steps.append((before[node], node))
+                node = before[node]
+            return steps
+        for head in near[node] - before.keys():
+            if rest[node, head]:
+                before[head] = node
+                queue.append(head)
+    return []
 
 
 def verdict(problem, value, lines, greatest, feasible_only):
@@ -194,11 +219,6 @@ def mutated(rng, text):
     return text[: rng.randrange(len(text) + 1)] if rng.randrange(8) == 0 else text
 
 
-def run(words, stdin):
-    done = subprocess.run([sys.argv[1], *words], input=stdin, capture_output=True, timeout=60)
-    return done.returncode, done.stdout.decode().split("\n"), done.stderr.decode()
-
-
 def answer(problem, words, flows):
     """What a job prints, where `solve` prints these flows."""
     if words[0] == "connect":
@@ -209,43 +229,3 @@ def answer(problem, words, flows):
         return lines + [f"f {u} {v} {flow}" for (u, v, _), flow in zip(arcs, flows) if "--value" not in words]
     lines += [f"n {v}" for v in sorted(sides["--sink" in words])]
     return lines + [f"a {u} {v} {cap}" for u, v, cap in leaving(arcs, sides["--sink" in words]) if "--arcs" in words]
-
-
-def try_one(seed):
-    """One problem by all jobs, and two solutions of it: how many answers there were, and those that are wrong."""
-    text = generated(rng := random.Random(seed))
-    solved = run(["solve"], text)
-    try:
-        problem = read_problem(text)
-    except ValueError as fault:
-        given = run(rng.choice(JOBS), text)
-        return 2, [(text, given)] * (given != solved) + [(text, solved)] * (solved != (3, [""], f"flow: {fault}"))
-    value, written = read_solution("\n".join(solved[1]).encode(), problem[0])
-    flows = [flow for _, _, flow in written]
-    fits = all(flow <= cap * (u != v) for flow, (u, v, cap) in zip(flows, problem[1]))
-    wrong = [(text, solved)] * (not fits or verdict(problem, value, written, value, False)[1])
-    jobs = JOBS if problem[0] <= SMALL else [words for words in JOBS if words[0] != "connect" or "--pair" in words]
-    for words in jobs:
-        wrong += [(text, words)] * (run(words, text) != (0, [*answer(problem, words, flows), ""], ""))
-    Path(FOLDER, str(seed)).write_bytes(text)
-    for feasible_only in (False, True):
-        lines = "\n".join(solved[1][:1] + rng.sample(solved[1][1:], len(flows) + 1)).encode()
-        solution = mutated(rng, lines) if rng.randrange(4) else b"s 0\nf 1 1 0"
-        try:
-            line, status = verdict(problem, *read_solution(solution, problem[0]), value, feasible_only)
-            wanted = status, [line, ""], ""
-        except ValueError as fault:
-            wanted = 3, [""], f"flow: solution {fault}"
-        given = run(["check", *["--feasible"] * feasible_only, f"{FOLDER}/{seed}"], solution)
-        wrong += [(text, solution, given)] * (given != wanted)
-    return len(jobs) + 3, wrong
-
-
-if __name__ == "__main__":
-    problems, seed = (int(word) for word in (sys.argv[2:] + ["1000", "1956"][len(sys.argv) - 2 :]))
-    with tempfile.TemporaryDirectory() as FOLDER, ThreadPoolExecutor() as pool:
-        done = list(pool.map(try_one, range(seed, seed + problems)))
-    failed = [wrong for _, each in done for wrong in each]
-    print(*(f"failed: {wrong}\n" for wrong in failed), sep="", end="")
-    print(f"independent: {sum(count for count, _ in done) - len(failed)} passed, {len(failed)} failed")
-    sys.exit(1 if failed else 0)

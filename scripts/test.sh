@@ -1,19 +1,15 @@
 #!/usr/bin/env bash
 # The test command. It passes where its last line is 'N passed, 0 failed'. How far it is goes to standard error.
-set -u
-cd "$(dirname "$0")/.."
+set -uo pipefail
+cd "$(dirname "$0")/.." || exit 1
 
 # say WORDS..: tells how far the test command is, with the minutes and seconds since it began.
 say() {
   printf '%3d:%02d  %s\n' $((SECONDS / 60)) $((SECONDS % 60)) "$*" >&2
 }
 
-# A proof by hand could claim any count of steps, so there is one place for such proofs: the counter itself.
-# What the build makes, crates/NAME/out, isn't searched.
-stray=$(find . -regex '\./\(\.git\|crates/[^/]*/out\)' -prune -o -name Proof.antt -print \
-  | grep -v '^\./crates/flow_net/proofs/tables/steps/')
-if [ -n "$stray" ]; then
-  printf 'a proof by hand outside the step counter:\n%s\n' "$stray" >&2
+if ! python3 -c 'import pytest' 2> /dev/null; then
+  echo "the tests need pytest: sudo apt install python3-pytest python3-pytest-xdist" >&2
   exit 1
 fi
 
@@ -47,10 +43,8 @@ say "the gate, $RT_JOBS checks at a time"
     say "the gate: $(grep -c '^rt: .* proved$' "$folder/gate") proofs"
   done
 ) &
-watched=$!
-rt ci 2>&1 | tee "$folder/gate"
-[ "${PIPESTATUS[0]}" -eq 0 ] || exit 1
-kill "$watched" 2> /dev/null
+rt ci 2>&1 | tee "$folder/gate" || exit 1
+kill $!
 gate=$(grep -E '^[0-9]+ passed, 0 failed$' "$folder/gate" | tail -n 1)
 [ -n "$gate" ] || exit 1
 passed=${gate%% *}
@@ -73,47 +67,28 @@ say "the library for C"
 bash scripts/library.sh "$folder/made" crates/flow_c/out/libflow_c.a > /dev/null || exit 1
 [ -x crates/flow/out/flow ] || (cd crates/flow && rt run -- solve --value < stdin > /dev/null) || exit 1
 [ -x crates/growths/out/growths ] || (cd crates/growths && rt run < stdin > /dev/null) || exit 1
-flow=crates/flow/out/flow
-library=$folder/made/libprovedflow.so.0
 
-# part NAME COMMAND..: begins a part beside the others, once fewer than RT_JOBS of them are left.
-parts=()
+# The tests, in as many processes where the plugin for that is installed.
+say "the tests"
+words=(-n "$RT_JOBS" --dist loadgroup)
+python3 -c 'import xdist' 2> /dev/null || words=()
+PYTHONDONTWRITEBYTECODE=1 python3 -m pytest -q -rs "${words[@]}" --library "$folder/made" | tee "$folder/tests" \
+  || exit 1
+made=$(sed -n 's/^\([0-9]*\) checks in [0-9]* tests$/\1/p' "$folder/tests")
+passed=$((passed + ${made:?the tests tell no count}))
+
+# part NAME COMMAND..: a script whose last line is 'NAME: N passed, 0 failed'.
 part() {
   local name=$1
   shift
-  while [ "$(jobs -rp | wc -l)" -ge "$RT_JOBS" ]; do
-    sleep 0.2
-  done
-  say "$name"
-  "$@" > "$folder/$name" 2>&1 &
-  parts+=("$name $!")
+  "$@" | tee "$folder/$name" || exit 1
+  made=$(sed -n "\$s/^$name: \([0-9]*\) passed, 0 failed$/\1/p" "$folder/$name")
+  passed=$((passed + ${made:?$name tells no count}))
 }
-part install bash scripts/try_install.sh                                      # what may be installed
-part hostile python3 scripts/hostile.py $flow crates/growths/out/growths       # the programs under hostile use
-part multigraphs python3 scripts/multigraphs.py $flow "$library"               # the connectivity of small networks
-part bindings python3 scripts/bindings.py "$library"                           # the package for Python
-part library python3 scripts/try_library.py "$folder/made" $flow               # the library for C
-part header python3 scripts/header.py                                          # its header
-part words python3 scripts/words.py $flow                                      # the command line
-part examples python3 scripts/examples.py $flow "$library"                     # the examples
-part independent python3 scripts/independent.py $flow                          # a second reading of the definitions
-part bench python3 bench/smoke.py $flow                                        # the benchmarks, on tiny problems
-part documents python3 scripts/documents.py --library "$folder/made" $flow     # what the pages show
-part definitions python3 scripts/definitions.py                                # the page of definitions
-part limits python3 scripts/limits.py                                          # the limits in texts
-part pages python3 scripts/from_help.py $flow --check                          # the manual page, completions
-
-# Each part has to end well, and its last line to be 'NAME: N passed, 0 failed'.
-for part in "${parts[@]}"; do
-  name=${part% *}
-  wait "${part#* }"
-  status=$?
-  cat "$folder/$name"
-  line=$(tail -n 1 "$folder/$name" | grep -E "^$name: [0-9]+ passed, 0 failed$")
-  [ "$status" -eq 0 ] && [ -n "$line" ] || exit 1
-  line=${line#"$name: "}
-  passed=$((passed + ${line%% *}))
-done
+part bindings python3 scripts/bindings.py "$folder/made/libprovedflow.so.0"
+part library python3 scripts/try_library.py "$folder/made" crates/flow/out/flow
+part header python3 scripts/header.py
+part examples python3 scripts/examples.py crates/flow/out/flow "$folder/made/libprovedflow.so.0"
 
 say "done"
 echo "$passed passed, 0 failed"

@@ -1,14 +1,15 @@
-#!/usr/bin/env python3
-"""Sees that the texts tell the limits as their constants say: limits.py
+"""The texts tell the limits as their constants say.
 
 A limit is one constant of a file limits.rt. These are the sentences that tell it and that no other test shows: each has
-to stand in its file just once, with the constant's digits. The last line is 'limits: N passed, M failed'.
+to stand in its file just once, with the constant's digits.
 """
+import functools
 import re
-import sys
-from pathlib import Path
 
-ROOT = Path(__file__).resolve().parent.parent
+import pytest
+
+from conftest import ROOT
+
 SENTENCES = {
     "README.md": ["Limits: 2 to {MOST_PROBLEM_NODES:,} nodes, at most {MOST_PROBLEM_ARCS:,} arcs",
                   "flows of a line up to {GREATEST_CAPACITY:,}, at most {MOST_FLOW_LINES:,} flow lines",
@@ -49,6 +50,7 @@ SENTENCES = {
 }
 
 
+@functools.cache
 def constants():
     """The limits, by their names."""
     found = {}
@@ -59,9 +61,10 @@ def constants():
     return found
 
 
-limits = constants()
-told = [(file, sentence.format(**limits)) for file, sentences in SENTENCES.items() for sentence in sentences]
-failed = [(file, sentence) for file, sentence in told if (ROOT / file).read_text().count(sentence) != 1]
-print(*(f"limits: {file} doesn't tell once: {sentence!r}\n" for file, sentence in failed), sep="", end="")
-print(f"limits: {len(told) - len(failed)} passed, {len(failed)} failed")
-sys.exit(1 if failed else 0)
+@pytest.mark.parametrize("name, sentence", [(name, it) for name, those in SENTENCES.items() for it in those],
+                         ids=[name for name, those in SENTENCES.items() for _ in those])
+def test_limits(name, sentence):
+    sentence = sentence.format(**constants())
+    text = (ROOT / name).read_text()
+    assert sentence in text
+    assert text.count(sentence) == 1

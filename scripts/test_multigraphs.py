@@ -1,26 +1,17 @@
-#!/usr/bin/env python3
 """The edge connectivity of many networks, held against all sets of nodes and against flows to each node.
 
-    python3 scripts/multigraphs.py FLOW LIBRARY [SMALL [COMPOSED [REGULAR [SEED]]]]
-
-FLOW is the built program and LIBRARY the shared library for C. So many SMALL networks (100,000) have at most seven
-nodes and are held against all sets of nodes: links both ways, single arcs, parallel and opposite ones, self-loops,
-even degrees, bridges and pieces. So many COMPOSED ones (1,000) have some hundred nodes: rings, complete parts,
-circulants, permutations, lattices, trees and hubs that few links join, parts of parts. So many REGULAR ones (200) have
-three, five or seven links at each node, at random, so that forests need all arcs. Both are held against the greatest
-flows from one node to each other and back. Each network is asked directed and undirected, by the library, and each
-hundredth also by the program. A ring of 300,000 nodes in no order is asked by the program, since rows of so many
-are filled slice by slice. Of fewer than two nodes the library tells just that. The last line is
-'multigraphs: N passed, M failed'.
+The small networks have at most seven nodes and are held against all sets of nodes: links both ways, single arcs,
+parallel and opposite ones, self-loops, even degrees, bridges and pieces. The composed ones have some hundred nodes:
+rings, complete parts, circulants, permutations, lattices, trees and hubs that few links join, parts of parts. The
+regular ones have three, five or seven links at each node, at random, so that forests need all arcs. Both are held
+against the greatest flows from one node to each other and back. Each network is asked directed and undirected, by the
+library, and each hundredth also by the program. A ring of 300,000 nodes in no order is asked by the program, since
+rows of so many are filled slice by slice.
 """
 import ctypes
-import os
 import random
-import subprocess
-import sys
-from concurrent.futures import ProcessPoolExecutor
 
-BATCH = 50
+import pytest
 
 
 def by_sets(nodes, arcs):
@@ -175,66 +166,54 @@ def regular(rand):
     return nodes, list(zip(ends[::2], ends[1::2]))
 
 
-# What makes networks of a kind. Only small ones have few enough sets.
-KINDS = {"small": small, "composed": composed, "regular": regular}
+# What makes networks of a kind, how many there are, and in tests of how many. Only small ones have few enough sets.
+KINDS = {"composed": (composed, 1_000, 100), "regular": (regular, 200, 100), "small": (small, 100_000, 5_000)}
+FIRST_SEED = 1736
 
 
-def by_program(nodes, arcs, *flags):
-    text = f"p max {nodes} {len(arcs)}\nn 1 s\nn 2 t\n" + "".join(f"a {u + 1} {v + 1} 1\n" for u, v in arcs)
-    try:
-        line = subprocess.run([sys.argv[1], "connect", *flags], input=text, capture_output=True, text=True, timeout=100)
-    except subprocess.TimeoutExpired:
-        return "no answer"
-    return int(line.stdout[2:]) if line.stdout.startswith("k ") else line.stdout
+@pytest.fixture(scope="session")
+def calls(library):
+    return Library(library)
 
 
-def try_batch(batch):
-    """The answers that are wrong for some networks of one kind, and how many were tried."""
-    kind, seeds = batch
-    library = Library(os.path.abspath(sys.argv[2]))
-    wrong, tried = [], 0
-    for seed in seeds:
-        rand = random.Random(f"{kind} {seed}")
-        nodes, arcs = KINDS[kind](rand)
-        wanted = (by_sets if kind == "small" else library.by_flows)(nodes, arcs)
-        found = [(library.links(nodes, arcs, 0), wanted[0]), (library.links(nodes, arcs, 1), wanted[1])]
+@pytest.fixture(scope="session")
+def by_program(ask):
+    def by_program(nodes, arcs, *flags):
+        text = f"p max {nodes} {len(arcs)}\nn 1 s\nn 2 t\n" + "".join(f"a {u + 1} {v + 1} 1\n" for u, v in arcs)
+        return ask(["connect", *flags], text.encode())
+    return by_program
+
+
+def links(number):
+    """What the program answers for a connectivity."""
+    return 0, b"k %d\n" % number, b""
+
+
+@pytest.mark.long
+@pytest.mark.parametrize("kind, first", [(kind, FIRST_SEED + at) for kind, (_, count, batch) in KINDS.items()
+                                         for at in range(0, count, batch)])
+def test_networks(calls, by_program, checks, kind, first):
+    made = 0
+    make, _, batch = KINDS[kind]
+    for seed in range(first, first + batch):
+        nodes, arcs = make(random.Random(f"{kind} {seed}"))
+        directed, undirected = (by_sets if kind == "small" else calls.by_flows)(nodes, arcs)
+        assert calls.links(nodes, arcs, 0) == directed, (seed, nodes, arcs)
+        assert calls.links(nodes, arcs, 1) == undirected, (seed, nodes, arcs)
+        made += 2
         if seed % 100 == 0:
-            found += [(by_program(nodes, arcs), wanted[0]), (by_program(nodes, arcs, "--undirected"), wanted[1])]
-        wrong += [(kind, seed, nodes, arcs, told, true) for told, true in found if told != true]
-        tried += len(found)
-    return wrong, tried
+            assert by_program(nodes, arcs) == links(directed), (seed, nodes, arcs)
+            assert by_program(nodes, arcs, "--undirected") == links(undirected), (seed, nodes, arcs)
+            made += 2
+    checks(made)
 
 
-def large_ring():
-    """What is wrong with the answers for a ring that is too large for a solve for each node, and how many there are."""
+def test_large_ring(by_program, checks):
+    """The ring is too large for a solve for each node."""
     nodes = list(range(300_000))
     random.Random(1736).shuffle(nodes)
     arcs = list(zip(nodes, nodes[1:] + nodes[:1]))
     random.Random(1737).shuffle(arcs)
-    found = [(by_program(len(nodes), arcs), 1), (by_program(len(nodes), arcs, "--undirected"), 2)]
-    return [("large ring", told, true) for told, true in found if told != true], len(found)
-
-
-def too_few_nodes():
-    """What is wrong with the answers for no node and for one, and how many there are."""
-    library = Library(os.path.abspath(sys.argv[2]))
-    found = [(library.links(nodes, [], undirected), "status 1") for nodes in (0, 1) for undirected in (0, 1)]
-    return [("too few nodes", told, true) for told, true in found if told != true], len(found)
-
-
-def main():
-    given = [int(word) for word in sys.argv[3:]]
-    smalls, composeds, regulars, first = given + [100_000, 1_000, 200, 1736][len(given):]
-    batches = [(kind, range(at, min(at + BATCH, first + count))) for kind, count in
-               (("composed", composeds), ("regular", regulars), ("small", smalls))
-               for at in range(first, first + count, BATCH)]
-    with ProcessPoolExecutor(len(os.sched_getaffinity(0))) as pool:
-        done = [*pool.map(try_batch, batches), large_ring(), too_few_nodes()]
-    failed = [each for wrong, _ in done for each in wrong]
-    print(*(f"failed: {each}\n" for each in failed[:20]), sep="", end="")
-    print(f"multigraphs: {sum(tried for _, tried in done) - len(failed)} passed, {len(failed)} failed")
-    sys.exit(1 if failed else 0)
-
-
-if __name__ == "__main__":
-    main()
+    assert by_program(len(nodes), arcs) == links(1)
+    assert by_program(len(nodes), arcs, "--undirected") == links(2)
+    checks(2)

@@ -1,23 +1,18 @@
-#!/usr/bin/env python3
-"""What the words of the command line lead to: words.py FLOW
-
-Runs the built FLOW with words, files, streams, and files that take three bytes, and compares what it prints, what it
-tells and its status with what is expected. The last line is 'words: N passed, M failed'.
-"""
+"""What the words of the command line lead to: what the program prints, what it tells, and its status."""
 
 import os
 import resource
 import signal
 import subprocess
-import sys
-import tempfile
+
+import pytest
 
 NET_A = b"p max 4 5\nn 1 s\nn 4 t\na 1 2 3\na 1 3 2\na 2 3 1\na 2 4 2\na 3 4 3\n"
 SOLVED_A = b"s 5\nf 1 2 3\nf 1 3 2\nf 2 3 1\nf 2 4 2\nf 3 4 3\n"
 NET_B = b"p max 3 2\nn 1 s\nn 3 t\na 1 2 2\na 2 3 2\n"
 SOLUTION_B = b"s 2\nf 1 2 2\nf 2 3 2\n"
 FILES = {"b.max": NET_B, "-": NET_B, "b.sol": SOLUTION_B, "fault.max": b"p min 2 0\n"}
-"""The files of the folder that FLOW runs in."""
+"""The files of the folder that the program runs in."""
 
 WORDS = [
     ("solve", SOLVED_A, b"", 0),
@@ -113,102 +108,82 @@ ASKS = [("solve b.max", False), ("solve", True), ("cut b.max", False), ("cut --s
         ("connect b.max", False), ("connect --pair", True), ("check b.max", True), ("check b.max b.max", False)]
 """Words, and whether standard input is read."""
 
-passed = failed = 0
+
+@pytest.fixture
+def run(ask, tmp_path):
+    """Runs the program among the files."""
+    for name, text in FILES.items():
+        (tmp_path / name).write_bytes(text)
+    return lambda words, stdin=b"": ask(words, stdin, cwd=tmp_path)
 
 
-def check(what, found, wanted):
-    """Counts a check, and tells one that fails."""
-    global passed, failed
-    if found == wanted:
-        passed += 1
-    else:
-        failed += 1
-        print(f"failed: {what}: {found!r} where {wanted!r} is right", flush=True)
+@pytest.fixture
+def run_cut_short(flow, tmp_path):
+    """Runs the program with an output, `stdout` or `stderr`, that takes three bytes and then fails: its status, what
+    this one took, and what the other."""
+    def three_bytes():
+        signal.signal(signal.SIGXFSZ, signal.SIG_IGN)
+        resource.setrlimit(resource.RLIMIT_FSIZE, (3, 3))
+
+    def run(words, stream):
+        with open(tmp_path / "taken", "wb") as taken:
+            streams = {"stdout": subprocess.PIPE, "stderr": subprocess.PIPE, stream: taken}
+            done = subprocess.run([flow, *words.split()], stdin=subprocess.DEVNULL, cwd=tmp_path, timeout=60,
+                                  preexec_fn=three_bytes, **streams)
+        other = done.stderr if stream == "stdout" else done.stdout
+        return done.returncode, (tmp_path / "taken").read_bytes(), other
+    return run
 
 
-def run(words, stdin=b""):
-    """Runs FLOW: what it put, what it told, and its status."""
-    done = subprocess.run([PROGRAM, *words.split()], input=stdin, capture_output=True, timeout=60)
-    return done.stdout, done.stderr, done.returncode
+def named(names, table):
+    """A test for each row of a table, with the row's first column as its name."""
+    return pytest.mark.parametrize(names, table, ids=[row[0] or "no words" for row in table])
 
 
-def three_bytes():
-    """Has files take three bytes and then fail."""
-    signal.signal(signal.SIGXFSZ, signal.SIG_IGN)
-    resource.setrlimit(resource.RLIMIT_FSIZE, (3, 3))
+@named("words, put, told, status", WORDS)
+def test_words(run, words, put, told, status):
+    assert run(words, NET_A) == (status, put, told)
 
 
-def run_cut_short(words, stream):
-    """Runs FLOW with an output, `stdout` or `stderr`, that takes three bytes: what both took, and the status."""
-    streams = {"stdout": subprocess.PIPE, "stderr": subprocess.PIPE}
-    with open("taken", "w+b") as taken:
-        streams[stream] = taken
-        done = subprocess.run([PROGRAM, *words.split()], stdin=subprocess.DEVNULL, timeout=60,
-                              preexec_fn=three_bytes, **streams)
-        taken.seek(0)
-        short = taken.read()
-    return (short, done.stderr, done.returncode) if stream == "stdout" else (done.stdout, short, done.returncode)
+@named("words, text, put, told, status", GIVEN)
+def test_problem(run, words, text, put, told, status):
+    assert run(words, text) == (status, put, told)
 
 
-def reads_stdin(words):
-    """Whether FLOW takes anything of standard input."""
+@named("words, wanted", ASKS)
+def test_reads_standard_input(flow, run, tmp_path, words, wanted):
     read, write = os.pipe()
     os.write(write, NET_B)
     os.close(write)
     nowhere = subprocess.DEVNULL
-    subprocess.run([PROGRAM, *words.split()], stdin=read, stdout=nowhere, stderr=nowhere, timeout=60)
+    subprocess.run([flow, *words.split()], stdin=read, stdout=nowhere, stderr=nowhere, cwd=tmp_path, timeout=60)
     left = os.read(read, 4096)
     os.close(read)
-    return left != NET_B
+    assert (left != NET_B) == wanted
 
 
-def refusals():
-    """Words that are refused: nothing is put, and the status is 2, whatever is taken of the message."""
-    for words, message in REFUSED:
-        put, told, status = run(words)
-        check(f"flow {words}", (put, status), (b"", 2))
-        if message is not None:
-            check(f"flow {words}", told, message)
-        elif words:
-            check(f"flow {words}", told[:7], b"error: ")
-        check(f"flow {words}, cut short", run_cut_short(words, "stderr"), (b"", told[:3], 2))
+@named("words, message", REFUSED)
+def test_refused(run, run_cut_short, checks, words, message):
+    """Nothing is put, and the status is 2, whatever is taken of the message."""
+    status, put, told = run(words)
+    assert (status, put) == (2, b"")
+    assert told == message if message is not None else told.startswith(b"error: ")
+    assert run_cut_short(words, "stderr") == (2, told[:3], b"")
+    checks(3)
 
 
-def helps():
-    """Help and version, also where the output takes three bytes of them."""
-    for words in ("--help", "help", "cut --help", "--version"):
-        put, told, status = run(words)
-        check(f"flow {words}", (put != b"", told, status), (True, b"", 0))
-        check(f"flow {words}, cut short", run_cut_short(words, "stdout"), (put[:3], b"flow: write failed\n", 4))
-    for command, wanted in HELP:
-        put, _, status = run(f"{command} --help")
-        text = put.decode()
-        check(f"flow {command} --help: {wanted}", (wanted in text, status), (True, 0))
-        for wanted in HELP_OF_ALL:
-            check(f"flow {command} --help: {wanted}", wanted in text, True)
+@pytest.mark.parametrize("words", ["--help", "help", "cut --help", "--version"])
+def test_help_cut_short(run, run_cut_short, checks, words):
+    status, put, told = run(words)
+    assert (status, put != b"", told) == (0, True, b"")
+    assert run_cut_short(words, "stdout") == (4, put[:3], b"flow: write failed\n")
+    checks(2)
 
 
-def main():
-    global PROGRAM
-    if len(sys.argv) != 2:
-        sys.exit(__doc__)
-    PROGRAM = os.path.abspath(sys.argv[1])
-    with tempfile.TemporaryDirectory() as folder:
-        os.chdir(folder)
-        for name, text in FILES.items():
-            with open(name, "wb") as file:
-                file.write(text)
-        for words, put, told, status in WORDS:
-            check(f"flow {words}", run(words, NET_A), (put, told, status))
-        for words, text, put, told, status in GIVEN:
-            check(f"flow {words} of {text[:40]!r}", run(words, text), (put, told, status))
-        for words, wanted in ASKS:
-            check(f"flow {words} reads standard input", reads_stdin(words), wanted)
-        refusals()
-        helps()
-        os.chdir("/")
-    print(f"words: {passed} passed, {failed} failed")
-    sys.exit(1 if failed else 0)
-
-
-main()
+@named("command, wanted", HELP)
+def test_help(run, checks, command, wanted):
+    status, put, _ = run(f"{command} --help")
+    assert status == 0
+    for sentence in [wanted, *HELP_OF_ALL]:
+        assert sentence in put.decode()
+    checks(1 + len(HELP_OF_ALL))

@@ -1,0 +1,130 @@
+"""The pages: what their commands print, where their links lead, and what they name.
+
+In a block fenced as ```console, a line `$ COMMAND` is run by bash, with the lines of its here document, and the lines
+after it are what it prints, on standard output and standard error together. The commands of a page run one after the
+other in a scratch folder of its own, with a copy of examples/, with the program on the PATH as `flow`, and with the
+library for C where the compiler and the loader find it; `$?` is the status of the command before. In a block fenced as
+```console checkout, they run in the repository itself, where standard output alone is compared, with the repository's
+path shown as /path/to/flow, and they must leave no file behind that git would take.
+"""
+import os
+import re
+import shutil
+import subprocess
+
+import pytest
+
+from conftest import ROOT
+
+PAGES = ["README.md", "CONTRIBUTING.md", *sorted(str(page.relative_to(ROOT)) for page in (ROOT / "docs").glob("*.md"))]
+PROSE = sorted({str(page.relative_to(ROOT)) for kind in ("*.md", "docs/*.md", "examples/**/*.md")
+                for page in ROOT.glob(kind)} - {"README.md", "docs/BENCHMARKS.md"})  # Benchmarks write these two.
+LIBRARY_PLACES = ("C_INCLUDE_PATH", "CPLUS_INCLUDE_PATH", "LIBRARY_PATH", "LD_LIBRARY_PATH")
+BLOCK = re.compile(r"^```(.*?)\n(.*?)^```$", re.M | re.S)
+COMMAND = re.compile(r"\$ ([^\n]*<< ?'?(\w+)'?[^\n]*\n.*?^\2$|[^\n]*)\n(.*?)(?=^\$ |\Z)", re.M | re.S)
+LINK = re.compile(r"\]\((?![a-z]+:)([^)#\s]*)(?:#([^)\s]*))?\)")
+NUMBER = (r"(?:\d[\d,.]*[\s-]*|(?:one|two|three|four|five|six|seven|eight|nine|ten|twelve|fifteen|twenty|thirty|forty|"
+          r"fifty|sixty|hundred|thousand|few|several|half an?)[\s-]+)")
+SPEED = re.compile(rf"\b{NUMBER}(?:CPU[\s-])?(?:[mµ]?s|(?:milli|micro)?seconds?|minutes?|hours?|times|%|per ?cent)(?!\w)"
+                   r"|\b(?:twice|thrice|half) as (?:long|fast|slow|quick)", re.I)
+NO_SPEED = re.compile(r"^```.*?^```$|^    .*?$|`[^`\n]+`|times the greatest capacity", re.M | re.S)  # Code, a limit.
+
+
+def changes():
+    """What git says has changed in the repository; nothing where there is no git."""
+    return subprocess.run("git status --porcelain", shell=True, cwd=ROOT, capture_output=True, text=True).stdout
+
+
+@pytest.fixture
+def shell(flow, made, tmp_path):
+    """Runs a command of a page after one that ended with this status; answers its status, what it printed, and its
+    errors."""
+    folder, programs = tmp_path / "work", tmp_path / "bin"
+    programs.mkdir()
+    (programs / "flow").symlink_to(flow)
+    shutil.copytree(ROOT / "examples", folder / "examples")
+    env = dict(os.environ, PATH=f"{programs}:{os.environ['PATH']}", LC_ALL="C", PYTHONDONTWRITEBYTECODE="1")
+    env.update(dict.fromkeys(LIBRARY_PLACES, str(made)))
+
+    def run(command, status, in_checkout):
+        done = subprocess.run(
+            ["bash", "-c", f"(exit {status})\n{command}\n"], cwd=ROOT if in_checkout else folder, env=env, timeout=600,
+            stdin=subprocess.DEVNULL, stdout=subprocess.PIPE, errors="replace",
+            stderr=subprocess.PIPE if in_checkout else subprocess.STDOUT)
+        printed = done.stdout.replace(str(ROOT), "/path/to/flow") if in_checkout else done.stdout
+        return done.returncode, printed, done.stderr
+    return run
+
+
+@pytest.mark.parametrize("page", PAGES)
+def test_commands(shell, checks, page):
+    text = (ROOT / page).read_text()
+    assert len(re.findall("^```", text, re.M)) % 2 == 0, "a block without an end"
+    for kind, lines in BLOCK.findall(text):
+        if kind not in ("console", "console checkout"):
+            continue
+        assert lines.startswith("$ "), f"a console block that doesn't begin with a command:\n{lines}"
+        status, in_checkout = 0, kind == "console checkout"
+        for command, _, shown in COMMAND.findall(lines):
+            before = in_checkout and changes()
+            status, printed, errors = shell(command, status, in_checkout)
+            assert printed == shown, f"{command}\nended with status {status} {errors or ''}"
+            assert not in_checkout or changes() == before, f"{command}\nleft the repository not as it was"
+            checks()
+
+
+def places(page):
+    """The names by which links reach the headings of a page."""
+    headings = re.findall(r"^#+ (.*)$", page.read_text(), re.M)
+    return {re.sub(r"[^\w\- ]", "", heading.lower()).replace(" ", "-") for heading in headings}
+
+
+@pytest.mark.parametrize("page", PAGES)
+def test_links(checks, page):
+    """Links, and pictures that are shown, lead somewhere."""
+    page = ROOT / page
+    for name, place in LINK.findall(page.read_text()):
+        target = page.parent / name if name else page
+        assert target.exists(), name
+        assert not place or place in places(target), f"{name}#{place}"
+        checks()
+
+
+@pytest.mark.parametrize("page", PROSE)
+def test_figures_of_speed(page):
+    """They stand on the pages that the benchmarks write, and in no other's prose."""
+    prose = NO_SPEED.sub("_", (ROOT / page).read_text())
+    assert SPEED.findall(prose) == []
+
+
+def declares_alone(file):
+    """Whether a file has nothing but the names of the files in its folder."""
+    return all(re.match(r"(pub )?mod \w+$|$", line) for line in file.read_text().splitlines())
+
+
+def needs_a_name(file, kind, *path):
+    """Tests are named where they are declared, and so are the files of a folder of specs/ or proofs/."""
+    is_test = {"tests", "test"} & set("_".join([*path[:-1], file.stem]).split("_"))
+    has_goals_alone = kind == "proofs" and file.stem in ("Answers", "Invariants", "Proof")
+    return not (is_test or has_goals_alone or file.stem in ("Lib", "lib") or declares_alone(file))
+
+
+@pytest.mark.parametrize("crate", sorted(path.name for path in ROOT.glob("crates/*")))
+def test_names(checks, crate):
+    """The part of docs/ARCHITECTURE.md on a crate names each file of its src/ and specs/ by the path within the crate,
+    and the first line of a lemma file says what it is about."""
+    parts = re.split(r"^## `?([^`\n]*)`?\n", (ROOT / "docs/ARCHITECTURE.md").read_text(), flags=re.M)
+    part = dict(zip(parts[1::2], parts[2::2])).get(crate, "")
+    for kind in ("src/**/*.rt", "specs/**/*.antt", "proofs/**/*.antt"):
+        for file in sorted((ROOT / "crates" / crate).glob(kind)):
+            path = file.relative_to(ROOT / "crates" / crate)
+            if needs_a_name(file, *path.parts):
+                assert file.read_text().startswith("-- ") if kind.startswith("proofs") else f"`{path}`" in part, path
+                checks()
+
+
+def test_proofs_by_hand():
+    """A proof by hand could claim any count of steps, so there is one place for such proofs: the counter itself."""
+    found = [str(path.relative_to(ROOT)) for path in ROOT.rglob("Proof.antt")]
+    stray = re.compile(r"(?!crates/(\w+/out|flow_net/proofs/tables/steps)/)")
+    assert [*filter(stray.match, found)] == []

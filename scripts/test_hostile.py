@@ -1,0 +1,291 @@
+"""Hostile use of the built programs: memory that is refused, devices that fail, and mutated files.
+
+It needs `cc`, for the allocator that refuses requests.
+"""
+
+import itertools
+import os
+import random
+import resource
+import subprocess
+
+import pytest
+
+import independent
+from conftest import ROOT
+
+NET = b"p max 4 5\nn 1 s\nn 4 t\na 1 2 3\na 1 3 2\na 2 3 1\na 2 4 2\na 3 4 3\n"
+SOLUTION = b"s 5\nf 3 4 3\nf 2 4 2\nf 2 3 1\nf 1 3 2\nf 1 2 3\n"
+SOLVED = b"s 5\nf 1 2 3\nf 1 3 2\nf 2 3 1\nf 2 4 2\nf 3 4 3\n"
+TOO_FEW_ARCS = b"p max 2 2\nn 1 s\nn 2 t\na 1 2 1\n"
+OUT_OF_MEMORY = 4, b"", b"flow: out of memory\n"
+READ_FAILED = b"flow: read failed\n"
+WRITE_FAILED = b"flow: write failed\n"
+
+# What a mutation puts into a text: lines, and numbers within a line.
+LINES = [b"c note", b"", b"   ", b" c", b"x", b"p max 2 0", b"n 1 s", b"n 2 t", b"s 1", b"f 1 2 1",
+         b"a 1 2 18446744073709551616", b"c" + b"y" * 300, b" " * 201]
+NUMBERS = [0, 1, 2, 9, 10**6, 2**32, 2**64 - 1, 2**64, 10**30]
+
+# How many files are mutated, in tests of so many.
+PROBLEMS, BATCH = 1500, 100
+
+
+@pytest.fixture(scope="session")
+def refuse(ask, tmp_path_factory):
+    """Runs a program that is refused one request for memory, by its number, or all. Answers how many it made, and its
+    status, output and message."""
+    folder = tmp_path_factory.mktemp("refuse")
+    log, allocator = folder / "requests", folder / "refuse.so"
+    subprocess.run(["cc", "-O1", "-shared", "-fPIC", "-o", allocator, ROOT / "scripts/refuse.c"], check=True)
+    (folder / "net").write_bytes(NET)
+
+    def run(words, stdin, nth, **named):
+        env = dict(os.environ, LD_PRELOAD=str(allocator), REFUSE_NTH=str(nth), REFUSE_LOG=str(log))
+        answer = ask(words, stdin, env=env, cwd=folder, **named)
+        return int(log.read_text()), answer
+    return run
+
+
+def refused_in_turn(refuse, words, stdin, **named):
+    """The answers of a program that is refused each request in turn, until a run makes no further one; that of this
+    run stands last."""
+    answers = []
+    for nth in itertools.count(1):
+        requests, answer = refuse(words, stdin, nth, **named)
+        answers.append(answer)
+        if requests < nth:
+            return answers
+
+
+def chain(step):
+    """A chain of 8210 nodes and arcs of capacity 7, which stand in turns of a step, and what `solve` puts for it."""
+    tails = [1 + i * step % 8209 for i in range(8209)]
+    head = b"p max 8210 8209\nn 1 s\nn 8210 t\n"
+    arcs = b"".join(b"a %d %d 7\n" % (tail, tail + 1) for tail in tails)
+    return head + arcs, b"s 7\n" + b"".join(b"f %d %d 7\n" % (tail, tail + 1) for tail in tails)
+
+
+def circle(nodes, steps, turn):
+    """Nodes in a circle, each with a link of capacity 7 to the node some steps on, for each number of steps; the links
+    stand in turns. All nodes are alike, so where it is connected the connectivity is the number of links at a node
+    (Mader 1971)."""
+    links = [(i, (i + step) % nodes) for i in range(nodes) for step in steps]
+    arcs = b"".join(b"a %d %d 7\n" % (tail + 1, head + 1)
+                    for tail, head in (links[i * turn % len(links)] for i in range(len(links))))
+    return b"p max %d %d\nn 1 s\nn 2 t\n" % (nodes, len(links)) + arcs
+
+
+IN_ORDER, IN_ORDER_SOLVED = chain(1)
+SCATTERED, SCATTERED_SOLVED = chain(1009)
+NEAR, NEAR_SCATTERED = circle(4100, (1, 2), 1), circle(4100, (1, 2), 1009)
+JOBS = {
+    "solve, in order": ("solve", IN_ORDER, (0, IN_ORDER_SOLVED, b"")),
+    "solve, scattered": ("solve", SCATTERED, (0, SCATTERED_SOLVED, b"")),
+    "cut, scattered": ("cut --arcs", SCATTERED, (0, b"s 7\nn 1\na 1 2 7\n", b"")),
+    "solve": ("solve", NET, (0, SOLVED, b"")),
+    "cut": ("cut --arcs", NET, (0, b"s 5\nn 1\na 1 2 3\na 1 3 2\n", b"")),
+    "connect": ("connect --undirected", NET, (0, b"k 2\n", b"")),
+    "connect, in order": ("connect --undirected", IN_ORDER, (0, b"k 1\n", b"")),
+    "pair, in order": ("connect --pair", IN_ORDER, (0, b"k 1\n", b"")),
+    "pair, scattered": ("connect --pair", SCATTERED, (0, b"k 1\n", b"")),
+    "connect, near": ("connect --undirected", NEAR, (0, b"k 4\n", b"")),
+    "connect, near and scattered": ("connect --undirected", NEAR_SCATTERED, (0, b"k 4\n", b"")),
+    "check": ("check net", SOLUTION, (0, b"optimal 5\n", b"")),
+    "a fault": ("solve", TOO_FEW_ARCS, (3, b"", b"flow: line 5: too few arcs\n")),
+}
+
+
+@pytest.mark.parametrize("name", JOBS)
+def test_memory_refused_to_a_job(refuse, checks, name):
+    words, stdin, wanted = JOBS[name]
+    *answers, last = refused_in_turn(refuse, words, stdin)
+    assert last == wanted
+    assert all(answer in (OUT_OF_MEMORY, wanted) for answer in answers), answers
+    assert answers.count(wanted) <= 1, "at the start one request is made that the program does without"
+    assert refuse(words, stdin, "all")[1] == OUT_OF_MEMORY
+    checks(len(answers) + 2)
+
+
+@pytest.mark.parametrize("words, plain, scattered, more", [
+    # Lists of its arcs, their spots, the names of the nodes and either terminals, and of the flows that are read.
+    ("solve", IN_ORDER, SCATTERED, 6),
+    # For its connectivity it is taken as it comes.
+    ("connect --undirected", NEAR, NEAR_SCATTERED, 0),
+], ids=["solve", "connect"])
+def test_requests_more_for_a_file_in_no_order(refuse, words, plain, scattered, more):
+    """A file whose arcs come in no order is solved in a copy."""
+    assert refuse(words, scattered, 0)[0] - refuse(words, plain, 0)[0] == more
+
+
+CALLS = {
+    "push": "20 arcs",
+    "both_ways": "40 arcs",
+    "read_problem": "5 arcs",
+    "read_solution": "5 flow lines",
+    "finish": "1 arc",
+    "check": "optimal 5",
+    "run_solve": "answered",
+    "run_cut": "answered",
+    "run_connect": "answered",
+    "run_check": "answered",
+    "run_faulty": "line 5: too few arcs",
+    "run_on_texts": "answered",
+}
+
+
+@pytest.mark.parametrize("name", CALLS)
+def test_memory_refused_to_a_call(refuse, growths, checks, name):
+    """Single calls of the library, and runs over streams that ask for no memory."""
+    told, promised, before = ((0, f"{name}: {words}\n".encode(), b"") for words in (
+        CALLS[name], "out of memory, as promised", "out of memory before"))
+    *answers, last = refused_in_turn(refuse, "", name.encode(), program=growths)
+    assert last == told
+    assert set(answers) <= {promised, before}
+    assert promised in answers, "the call is refused a growth of its own"
+    assert refuse("", name.encode(), "all", program=growths)[1] in (promised, before)
+    checks(len(answers) + 3)
+
+
+def test_a_problem_line_takes_no_memory(refuse, growths):
+    """A reader that is refused every request answers Ok, whatever the line declares."""
+    assert refuse("", b"declare", "all", program=growths)[1] == (0, b"declare: Ok\n", b"")
+
+
+@pytest.mark.parametrize("command", ["solve", "cut"])
+def test_small_address_space(ask, tmp_path, command):
+    """A large problem in little memory ends with its message and nothing on standard output."""
+    nodes, arcs, room = 200000, 1000000, 24 << 20
+    with open(tmp_path / "large", "w") as file:
+        file.write(f"p max {nodes} {arcs}\nn 1 s\nn {nodes} t\n")
+        file.writelines(f"a {i % nodes + 1} {i * 7 % nodes + 1} {i % 1000}\n" for i in range(arcs))
+    limit = lambda: resource.setrlimit(resource.RLIMIT_AS, (room, room))
+    assert ask([command, tmp_path / "large"], preexec_fn=limit) == OUT_OF_MEMORY
+
+
+DEVICES = {
+    "a full device": ('"$0" solve net > /dev/full', 4, WRITE_FAILED),
+    "a full device for help": ('"$0" --help > /dev/full', 4, WRITE_FAILED),
+    "a folder as FILE": ('"$0" solve .', 4, READ_FAILED),
+    "a missing file": ('"$0" solve "$PWD/missing.max"', 4, b"flow: cannot open FOLDER/missing.max\n"),
+    "a closed standard input": ('"$0" solve <&-', 4, READ_FAILED),
+    "a closed standard output": ('"$0" solve net >&-', 4, WRITE_FAILED),
+    "a closed standard error": ('"$0" solve . 2>&-; exit $?', 4, b""),
+    "a file of the name -": ('"$0" solve -', 4, b"flow: cannot open -\n"),
+    "no command": ('"$0"', 2, b""),
+    "a word that isn't UTF-8": ('"$0" solve "$(printf "\\377")"', 2, b"flow: a word of the command line isn't UTF-8\n"),
+}
+"""Lines for bash, the status, and what is told; nothing is put."""
+
+
+@pytest.mark.parametrize("name", DEVICES)
+def test_device(flow, tmp_path, name):
+    line, status, message = DEVICES[name]
+    (tmp_path / "net").write_bytes(NET)
+    done = subprocess.run(["bash", "-c", line, flow], capture_output=True, timeout=60, cwd=tmp_path)
+    told = done.stderr.replace(bytes(tmp_path), b"FOLDER")
+    assert (done.returncode, done.stdout, told) == (status, b"", message)
+
+
+def test_a_reader_that_goes_away(flow, tmp_path):
+    (tmp_path / "big").write_text("p max 2 300000\nn 1 s\nn 2 t\n" + "a 1 2 1\n" * 300000)
+    line = '"$0" solve big | head -c 5; echo "${PIPESTATUS[0]}"'
+    done = subprocess.run(["bash", "-c", line, flow], capture_output=True, timeout=60, cwd=tmp_path)
+    assert (done.stdout, done.stderr) == (b"s 3004\n", WRITE_FAILED)
+
+
+def mutated(random_numbers, text):
+    """A text with some of its bytes changed, dropped, doubled or swapped, or with whole lines so."""
+    lines = text.split(b"\n")
+    for _ in range(random_numbers.choice([0, 1, 1, 2, 3, 8])):
+        kind = random_numbers.randrange(9)
+        at = random_numbers.randrange(len(lines))
+        if kind == 0:
+            del lines[at]
+            lines = lines or [b""]
+        elif kind == 1:
+            lines.insert(at, lines[at])
+        elif kind == 2:
+            other = random_numbers.randrange(len(lines))
+            lines[at], lines[other] = lines[other], lines[at]
+        elif kind == 3:
+            lines.insert(at, random_numbers.choice(LINES))
+        else:
+            line = bytearray(lines[at])
+            place = random_numbers.randrange(len(line) + 1)
+            if kind == 4:
+                line.insert(place, random_numbers.randrange(256))
+            elif kind == 5 and line:
+                del line[min(place, len(line) - 1)]
+            elif kind == 6 and line:
+                line[min(place, len(line) - 1)] = random_numbers.randrange(256)
+            elif kind == 7:
+                line[place:place] = b"%d" % random_numbers.choice(NUMBERS)
+            elif kind == 8:
+                line = bytearray(line.replace(b" ", random_numbers.choice([b"\t", b"\r", b"  ", b"\x0b"]), 1))
+            lines[at] = bytes(line)
+    text = b"\n".join(lines)
+    if random_numbers.randrange(4) == 0:
+        text = text[: random_numbers.randrange(len(text) + 1)]
+    return text
+
+
+def problem(random_numbers):
+    """A small problem, mostly accepted."""
+    nodes = random_numbers.randrange(2, 9)
+    arcs = random_numbers.randrange(0, 20)
+    order = random_numbers.sample(range(1, nodes + 1), nodes)
+    sources = random_numbers.randrange(1, nodes)
+    sinks = random_numbers.randrange(1, nodes - sources + 1)
+    greatest = random_numbers.choice([1, 3, 100, 2**64 - 1])
+    lines = [f"p max {nodes} {arcs}"]
+    lines += [f"n {v} s" for v in order[:sources]] + [f"n {v} t" for v in order[sources : sources + sinks]]
+    pick = random_numbers.randrange
+    lines += [f"a {pick(1, nodes + 1)} {pick(1, nodes + 1)} {pick(greatest + 1)}" for _ in range(arcs)]
+    return "\n".join(lines).encode() + b"\n"
+
+
+def ends_well(answer):
+    """Whether there is a status of the table, with at most one message line, and nothing put where an input was
+    refused."""
+    status, out, message = answer
+    if status in (0, 1):
+        return message == b"" and out.endswith(b"\n")
+    if status == 3:
+        told = message.startswith((b"flow: line ", b"flow: solution line ")) and message.count(b"\n") == 1
+        return out == b"" and told
+    return False
+
+
+@pytest.mark.long
+@pytest.mark.parametrize("batch", range(PROBLEMS // BATCH))
+def test_mutated(ask, checks, tmp_path, batch):
+    """Every command over mutated files: what the commands say is held against each other."""
+    rand, made = random.Random(f"1990 {batch}"), 0
+    for _ in range(BATCH):
+        made += try_mutated(ask, tmp_path, rand)
+    checks(made)
+
+
+def try_mutated(ask, folder, rand):
+    """One file by every command, and two solutions of it. Answers the number of checks."""
+    text = mutated(rand, problem(rand))
+    net, solution = folder / "fuzz.max", folder / "fuzz.sol"
+    net.write_bytes(text)
+    answers = {" ".join(words): ask([*words, net]) for words in independent.JOBS}
+    status, put, told = answers["solve"]
+    for answer in answers.values():
+        assert ends_well(answer), text
+        assert (answer[0], answer[2]) == (status, told), text
+    if status != 0:
+        return 2 * len(answers)
+    value, _, _ = put[2:].partition(b"\n")
+    for job in ("cut --arcs", "cut --arcs --sink"):
+        first, *lines = answers[job][1].splitlines()
+        assert first == b"s " + value, text
+        assert sum(int(line.split()[3]) for line in lines if line.startswith(b"a ")) == int(value), text
+    solution.write_bytes(put)
+    assert ask(["check", net, solution]) == (0, b"optimal " + value + b"\n", b""), text
+    solution.write_bytes(mutated(rand, put))
+    assert ends_well(ask(["check", net, solution])), text
+    return 2 * len(answers) + 4

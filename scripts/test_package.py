@@ -1,0 +1,120 @@
+"""The Debian packages and the wheel, as scripts/package.sh makes them, installed into a root of their own.
+
+The root isn't a whole system: dpkg goes on where it lacks what a package depends on, and by their environments the
+compiler, the loader and Python find what was installed.
+"""
+import os
+import subprocess
+
+import pytest
+
+from conftest import ROOT, needs
+
+pytestmark = [pytest.mark.long, pytest.mark.xdist_group("package")]
+PLACE = "usr/lib/x86_64-linux-gnu"
+PACKAGES = ["flow", "libprovedflow0", "libprovedflow-dev", "python3-provedflow"]
+IN_C = """#include <provedflow.h>
+#include <stdio.h>
+
+int main(void) {
+    uint32_t src[] = {0, 0, 1, 1, 2}, dst[] = {1, 2, 2, 3, 3}, source[] = {0}, sink[] = {3};
+    uint64_t cap[] = {3, 2, 1, 2, 3}, low = 0;
+    uint32_t status = provedflow_flow(4, 5, src, dst, cap, 1, source, 1, sink, NULL, NULL, &low);
+    printf("status %u, value %llu\\n", status, (unsigned long long)low);
+    return 0;
+}
+"""
+IN_PYTHON = "print(provedflow.maximum_flow([0, 0, 1, 1, 2], [1, 2, 2, 3, 3], [3, 2, 1, 2, 3], 0, 3).value)"
+FOUR = "$ROOT/usr/share/doc/flow/examples/four_nodes.max"
+BUILD = "gcc -o four four.c $(pkg-config --cflags --libs provedflow)"
+LINES = {
+    "value": (f"flow solve --value {FOUR}", "s 5"),
+    "cut": (f"flow cut {FOUR}", "s 5\nn 1"),
+    "connectivity": (f"flow connect --undirected {FOUR}", "k 2"),
+    "verdict": (f"flow solve {FOUR} | flow check {FOUR}", "optimal 5"),
+    "shared": (f"{BUILD} && ./four", "status 0, value 5"),
+    "needed": (f"{BUILD} && objdump -p four | sed -n 's/^ *NEEDED *//p' | sort", "libc.so.6\nlibprovedflow.so.0"),
+    "static": (f"gcc -o still four.c -I$ROOT/usr/include $ROOT/{PLACE}/libprovedflow.a && env -u LD_LIBRARY_PATH ./still",
+               "status 0, value 5"),
+    "version in C": ("test $(pkg-config --modversion provedflow) = $(flow --version | cut -c6-) && echo same", "same"),
+    "from Python": (f"python3 -c 'import provedflow; {IN_PYTHON}'", "5"),
+    "version in Python": ("python3 -c 'from importlib.metadata import version; print(\"flow\", version(\"provedflow\"))' "
+                          "| diff - <(flow --version) && echo same", "same"),
+    "wheel": ("python3 -m pip install --quiet --no-index --target wheel --root-user-action ignore packages/*.whl && "
+              f"env -u LD_LIBRARY_PATH PYTHONPATH=wheel python3 -c 'import provedflow; {IN_PYTHON}'", "5"),
+}
+"""What the installed packages do: lines for bash, and what they print."""
+
+
+@pytest.fixture(scope="session")
+def home(flow, made, tmp_path_factory):
+    """A folder with the packages, and the program in C."""
+    needs("dpkg-deb")
+    home = tmp_path_factory.mktemp("home")
+    (home / "four.c").write_text(IN_C)
+    subprocess.run(["bash", ROOT / "scripts/package.sh", home / "packages", flow, made], check=True)
+    return home
+
+
+@pytest.fixture(scope="session")
+def root(home):
+    """A root for the packages, without any."""
+    for name in ("info", "updates"):
+        (home / "root/var/lib/dpkg" / name).mkdir(parents=True)
+    (home / "root/var/lib/dpkg/status").touch()
+    return home / "root"
+
+
+@pytest.fixture(scope="session")
+def run(home, root):
+    """Runs a line of bash in the folder, where it finds what the packages have brought."""
+    env = dict(os.environ, ROOT=str(root), PATH=f"{root}/usr/bin:{os.environ['PATH']}:/usr/sbin:/sbin",
+               LD_LIBRARY_PATH=f"{root}/{PLACE}", PYTHONPATH=f"{root}/usr/lib/python3/dist-packages",
+               PKG_CONFIG_LIBDIR=f"{root}/{PLACE}/pkgconfig", PKG_CONFIG_SYSROOT_DIR=str(root), LC_ALL="C.UTF-8",
+               PYTHONDONTWRITEBYTECODE="1", DPKG=f"dpkg --root={root} --force-not-root --force-depends --path-include=*")
+
+    def run(line):
+        done = subprocess.run(["bash", "-c", line], cwd=home, env=env, text=True, capture_output=True, timeout=600)
+        assert done.returncode == 0, done.stderr
+        return done.stdout.rstrip("\n")
+    return run
+
+
+@pytest.fixture(scope="session")
+def installed(run):
+    run("$DPKG --install packages/*.deb")
+
+
+@pytest.mark.parametrize("package", PACKAGES)
+def test_state(run, installed, checks, package):
+    assert run(f"$DPKG --status {package} | sed -n 's/^Status: //p'") == "install ok installed"
+    assert run(f"$DPKG --verify {package}") == ""
+    checks(2)
+
+
+def test_what_the_program_cannot_stand_beside(run, installed):
+    assert run("$DPKG --status flow | sed -n 's/^Conflicts: //p'") == "libopm-simulators-bin"
+
+
+@pytest.mark.parametrize("name", LINES)
+def test_line(run, installed, name):
+    line, shown = LINES[name]
+    for program in ("gcc", "pkg-config"):
+        if program in line:
+            needs(program)
+    if "pip" in line:
+        pytest.importorskip("pip")
+    assert run(line) == shown
+
+
+@pytest.mark.parametrize("example", ["segmentation/segment", "scheduling/schedule", "roads/roads", "redundancy/redundancy"])
+def test_example(run, installed, example):
+    for package in ("numpy", "scipy", "networkx", "PIL", "matplotlib"):
+        pytest.importorskip(package)
+    *_, last = run(f"python3 $ROOT/usr/share/doc/flow/examples/{example}.py --out drawn").splitlines()
+    assert last.startswith("drawn: drawn/")
+
+
+def test_removal(run, root, installed):
+    run(f"$DPKG --purge {' '.join(PACKAGES)}")
+    assert [path for path in root.rglob("*") if "var" not in path.relative_to(root).parts and not path.is_dir()] == []

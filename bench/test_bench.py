@@ -9,7 +9,6 @@ import report
 from conftest import ROOT
 from independent import connectivity, greatest_value
 
-pytestmark = pytest.mark.long
 ARCS, NODES = 600, 18
 FLOWS = [*generate.COLLECTIONS["foreign"], *generate.COLLECTIONS["own"]]
 CONNECT = [*generate.COLLECTIONS["connect"]]
@@ -57,6 +56,7 @@ def run(flow, tmp_path):
     return run
 
 
+@pytest.mark.long
 def test_runner(run, flow):
     """The runner tells each family, and that all values agree."""
     told, status = run(["foreign", "own", "connect"], "plain", f"{flow} solve")
@@ -64,6 +64,7 @@ def test_runner(run, flow):
     assert [family for family in [*FLOWS, *CONNECT] if f"\n| {family} | " not in told] == []
 
 
+@pytest.mark.long
 @pytest.mark.parametrize("name, command, wanted", [
     ("wrong", "sh -c 'echo s 1'", "'wrong': 1"), ("slow", "sh -c 'while :; do :; done'", "| rope | <0.0")])
 def test_runner_tells_of_a_solver(run, name, command, wanted):

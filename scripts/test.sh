@@ -1,5 +1,6 @@
 #!/usr/bin/env bash
-# The test command. It passes where its last line is 'N passed, 0 failed'. How far it is goes to standard error.
+# The test command: the gate, the library for C, and the tests of what was built. It passes where its last line is
+# 'N passed, 0 failed'. How far it is goes to standard error.
 set -uo pipefail
 cd "$(dirname "$0")/.." || exit 1
 

@@ -12,7 +12,7 @@ SOLVED_A = b"s 5\nf 1 2 3\nf 1 3 2\nf 2 3 1\nf 2 4 2\nf 3 4 3\n"
 NET_B = b"p max 3 2\nn 1 s\nn 3 t\na 1 2 2\na 2 3 2\n"
 SOLUTION_B = b"s 2\nf 1 2 2\nf 2 3 2\n"
 FILES = {"b.max": NET_B, "-": NET_B, "b.sol": SOLUTION_B, "fault.max": b"p min 2 0\n"}
-"""The files of the folder that the program runs in."""
+"""The files of the folder in which the program runs."""
 
 WORDS = [
     ("solve", SOLVED_A, b"", 0),
@@ -110,15 +110,21 @@ ASKS = [("solve b.max", False), ("solve", True), ("cut b.max", False), ("cut --s
 
 
 @pytest.fixture
-def run(ask, tmp_path):
-    """Runs the program among the files."""
+def folder(tmp_path):
+    """A folder with the files."""
     for name, text in FILES.items():
         (tmp_path / name).write_bytes(text)
-    return lambda words, stdin=b"": ask(words, stdin, cwd=tmp_path)
+    return tmp_path
 
 
 @pytest.fixture
-def run_cut_short(flow, tmp_path):
+def run(ask, folder):
+    """Runs the program in the folder."""
+    return lambda words, stdin=b"": ask(words, stdin, cwd=folder)
+
+
+@pytest.fixture
+def run_cut_short(flow, folder):
     """Runs the program with an output, `stdout` or `stderr`, that takes three bytes and then fails: its status, what
     this one took, and what the other."""
     def three_bytes():
@@ -126,12 +132,12 @@ def run_cut_short(flow, tmp_path):
         resource.setrlimit(resource.RLIMIT_FSIZE, (3, 3))
 
     def run(words, stream):
-        with open(tmp_path / "taken", "wb") as taken:
+        with open(folder / "taken", "wb") as taken:
             streams = {"stdout": subprocess.PIPE, "stderr": subprocess.PIPE, stream: taken}
-            done = subprocess.run([flow, *words.split()], stdin=subprocess.DEVNULL, cwd=tmp_path, timeout=60,
+            done = subprocess.run([flow, *words.split()], stdin=subprocess.DEVNULL, cwd=folder, timeout=60,
                                   preexec_fn=three_bytes, **streams)
         other = done.stderr if stream == "stdout" else done.stdout
-        return done.returncode, (tmp_path / "taken").read_bytes(), other
+        return done.returncode, (folder / "taken").read_bytes(), other
     return run
 
 
@@ -151,12 +157,12 @@ def test_problem(run, words, text, put, told, status):
 
 
 @named("words, wanted", ASKS)
-def test_reads_standard_input(flow, run, tmp_path, words, wanted):
+def test_reads_standard_input(flow, folder, words, wanted):
     read, write = os.pipe()
     os.write(write, NET_B)
     os.close(write)
     nowhere = subprocess.DEVNULL
-    subprocess.run([flow, *words.split()], stdin=read, stdout=nowhere, stderr=nowhere, cwd=tmp_path, timeout=60)
+    subprocess.run([flow, *words.split()], stdin=read, stdout=nowhere, stderr=nowhere, cwd=folder, timeout=60)
     left = os.read(read, 4096)
     os.close(read)
     assert (left != NET_B) == wanted

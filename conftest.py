@@ -3,7 +3,7 @@
     pytest -k words
 
 runs one file of them. They need the built programs and the library for C: `bash scripts/test.sh` builds all of it and
-names the places; by hand `--library DIR` names the folder that `scripts/library.sh DIR` fills.
+names the places; by hand `--library=DIR` names the folder that `scripts/library.sh DIR` fills.
 """
 
 import pathlib

@@ -73,7 +73,7 @@ bash scripts/library.sh "$folder/made" crates/flow_c/out/libflow_c.a > /dev/null
 say "the tests"
 words=(-n "$RT_JOBS" --dist loadgroup)
 python3 -c 'import xdist' 2> /dev/null || words=()
-PYTHONDONTWRITEBYTECODE=1 python3 -m pytest -q -rs "${words[@]}" --library "$folder/made" | tee "$folder/tests" \
+PYTHONDONTWRITEBYTECODE=1 python3 -m pytest -q -rs "${words[@]}" --library="$folder/made" | tee "$folder/tests" \
   || exit 1
 made=$(sed -n 's/^\([0-9]*\) checks in [0-9]* tests$/\1/p' "$folder/tests")
 passed=$((passed + ${made:?the tests tell no count}))

@@ -5,13 +5,15 @@ parallel and opposite ones, self-loops, even degrees, bridges and pieces. The co
 rings, complete parts, circulants, permutations, lattices, trees and hubs that few links join, parts of parts. The
 regular ones have three, five or seven links at each node, at random, so that forests need all arcs. Both are held
 against the greatest flows from one node to each other and back. Each network is asked directed and undirected, by the
-library, and each hundredth also by the program. A ring of 300,000 nodes in no order is asked by the program, since
+package for Python, and each hundredth also by the program. A ring of 300,000 nodes in no order is asked by the program, since
 rows of so many are filled slice by slice.
 """
-import ctypes
 import random
+from array import array
 
 import pytest
+
+import provedflow
 
 
 def by_sets(nodes, arcs):
@@ -39,44 +41,23 @@ def both_ways(arcs):
     return arcs + [(head, tail) for tail, head in arcs]
 
 
-class Library:
-    """The calls of the library for C that are tried."""
+def ends(arcs):
+    """The tails and the heads, as the package for Python takes them without a copy."""
+    return array("I", (tail for tail, _ in arcs)), array("I", (head for _, head in arcs))
 
-    def __init__(self, path):
-        self.library = ctypes.CDLL(path)
 
-    @staticmethod
-    def words(numbers):
-        return (ctypes.c_uint32 * len(numbers))(*numbers), ctypes.c_size_t(len(numbers))
+def least_flow(nodes, arcs, pairs):
+    """The least of the greatest values between the nodes of some pairs, one unit for an arc."""
+    src, dst = ends(arcs)
+    units = array("Q", [1]) * len(arcs)
+    return min(provedflow.maximum_flow(src, dst, units, source, sink, nodes).value for source, sink in pairs)
 
-    def links(self, nodes, arcs, undirected):
-        links = ctypes.c_uint64()
-        status = self.library.provedflow_links_lists(
-            ctypes.c_uint32(nodes), *self.words([tail for tail, _ in arcs]), *self.words([head for _, head in arcs]),
-            *self.words([0]), *self.words([1]), ctypes.c_uint32(undirected), ctypes.c_uint32(0), ctypes.byref(links))
-        return links.value if status == 0 else f"status {status}"
 
-    def by_flows(self, nodes, arcs):
-        """The same numbers as the least of the greatest values from the first node to each other and back; where each
-        arc is there both ways, as much comes back."""
-        there, back = [(0, node) for node in range(1, nodes)], [(node, 0) for node in range(1, nodes)]
-        return self.least_flow(nodes, arcs, there + back), self.least_flow(nodes, both_ways(arcs), there)
-
-    def least_flow(self, nodes, arcs, pairs):
-        """The least of the greatest values between the nodes of some pairs, one unit for an arc."""
-        tails, heads = self.words([tail for tail, _ in arcs]), self.words([head for _, head in arcs])
-        units = (ctypes.c_uint64 * len(arcs))(*([1] * len(arcs)))
-        carried = (ctypes.c_uint64 * len(arcs))()
-        high, low = ctypes.c_uint64(), ctypes.c_uint64()
-        least = len(arcs)
-        for source, sink in pairs:
-            status = self.library.provedflow_flow_lists(
-                ctypes.c_uint32(nodes), *tails, *heads, units, tails[1], *self.words([source]), *self.words([sink]),
-                carried, tails[1], ctypes.byref(high), ctypes.byref(low))
-            if status != 0:
-                return f"status {status}"
-            least = min(least, low.value)
-        return least
+def by_flows(nodes, arcs):
+    """The same numbers as the least of the greatest values from the first node to each other and back; where each
+    arc is there both ways, as much comes back."""
+    there, back = [(0, node) for node in range(1, nodes)], [(node, 0) for node in range(1, nodes)]
+    return least_flow(nodes, arcs, there + back), least_flow(nodes, both_ways(arcs), there)
 
 
 def closed_walk(rand, nodes):
@@ -171,12 +152,13 @@ KINDS = {"composed": (composed, 1_000, 100), "regular": (regular, 200, 100), "sm
 FIRST_SEED = 1736
 
 
-@pytest.fixture(scope="session")
-def calls(library):
-    return Library(library)
+@pytest.fixture
+def by_library(library, monkeypatch):
+    monkeypatch.setenv("PROVEDFLOW_LIBRARY", str(library))
+    return lambda nodes, arcs, **named: provedflow.edge_connectivity(*ends(arcs), nodes, **named)
 
 
-@pytest.fixture(scope="session")
+@pytest.fixture
 def by_program(ask):
     def by_program(nodes, arcs, *flags):
         text = f"p max {nodes} {len(arcs)}\nn 1 s\nn 2 t\n" + "".join(f"a {u + 1} {v + 1} 1\n" for u, v in arcs)
@@ -192,14 +174,14 @@ def links(number):
 @pytest.mark.long
 @pytest.mark.parametrize("kind, first", [(kind, FIRST_SEED + at) for kind, (_, count, batch) in KINDS.items()
                                          for at in range(0, count, batch)])
-def test_networks(calls, by_program, checks, kind, first):
+def test_networks(by_library, by_program, checks, kind, first):
     made = 0
     make, _, batch = KINDS[kind]
     for seed in range(first, first + batch):
         nodes, arcs = make(random.Random(f"{kind} {seed}"))
-        directed, undirected = (by_sets if kind == "small" else calls.by_flows)(nodes, arcs)
-        assert calls.links(nodes, arcs, 0) == directed, (seed, nodes, arcs)
-        assert calls.links(nodes, arcs, 1) == undirected, (seed, nodes, arcs)
+        directed, undirected = (by_sets if kind == "small" else by_flows)(nodes, arcs)
+        assert by_library(nodes, arcs) == directed, (seed, nodes, arcs)
+        assert by_library(nodes, arcs, directed=False) == undirected, (seed, nodes, arcs)
         made += 2
         if seed % 100 == 0:
             assert by_program(nodes, arcs) == links(directed), (seed, nodes, arcs)

@@ -139,5 +139,7 @@ def written(program, name):
 
 
 if __name__ == '__main__':
+    if len(sys.argv) != 2:
+        sys.exit(__doc__)
     for name in FILES:
         (TOP / name).write_text(written(sys.argv[1], name))

@@ -168,7 +168,7 @@ def rows(counts, outside):
             kind = parts[-2] if parts[-1] == "TheVariants" else last
             file = source_of(path)
             text = re.search(rf"^pub (?:struct|enum) {kind} .*?^}}$", file.read_text(), re.M | re.S)
-            lines = [line for line in text[0].splitlines() if line.strip() and not line.strip().startswith(("//", "#["))]
+            lines = [line for line in text[0].splitlines() if not re.match(r"\s*(//|#\[|$)", line)]
             held = squeezed(" ".join(lines[1:-1]).replace("pub ", "")).rstrip(",").replace(", }", " }")
             types[f"- `{kind}` of `{file.relative_to(ROOT)}`, {len(lines)} lines: `{held}`"] = len(lines)
     table += [f"- `{path}`: {' '.join(f'`{name}`' for name in names)}" for path, names in sorted(library.items())]

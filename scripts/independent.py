@@ -8,9 +8,10 @@ from collections import Counter, defaultdict
 
 SMALL, LINE, NODES, ARCS, CAP = 9, 200, 1_000_000, 4_000_000, 2**64 - 1
 VALUE = 4_000_000 * CAP
-NUMBERS = [0, 2, 9, LINE, NODES, NODES + 1, ARCS + 1, CAP, CAP + 1, VALUE, VALUE + 1, 10**30]
+NUMBERS = [0, 1, 2, 9, LINE, 2**32, NODES, NODES + 1, ARCS + 1, CAP, CAP + 1, VALUE, VALUE + 1, 10**30]
 LINES = [b"c note", b" \t\r", b" c", b"p max 2 0", b"p min 2 0", b"n 1 s", b"n 1 1", b"s 1", b"f 1 2 1", b"a 1 1 5",
-         b"c" + b"y" * 300, b" " * LINE, b" " * (LINE + 1), b"a 1 2 " + b"0" * 190 + b"1", b"a 1 2"]
+         b"", b"x", b"n 2 t", b"a 1 2 18446744073709551616", b"c" + b"y" * 300, b" " * LINE, b" " * (LINE + 1),
+         b"a 1 2 " + b"0" * 190 + b"1", b"a 1 2"]
 JOBS = [["solve"], ["solve", "--value"], ["cut"], ["cut", "--arcs"], ["cut", "--arcs", "--sink"], ["connect"],
         ["connect", "--undirected"], ["connect", "--pair"], ["connect", "--pair", "--undirected"]]
 
@@ -190,17 +191,16 @@ def text_of(nodes, arcs, sources, sinks):
 
 
 def generated(rng):
-    """A problem's text: with parallel arcs, opposite arcs and self-loops, mutated in half of the cases."""
+    """A problem's text: with parallel arcs, opposite arcs and self-loops."""
     nodes = rng.randrange(2, SMALL - 1) if rng.randrange(10) else rng.randrange(SMALL, 60)
     order = rng.sample(range(1, nodes + 1), nodes)
     first, most, pick = rng.randrange(1, nodes), rng.choice([1, 3, 100, CAP]), lambda: rng.randrange(1, nodes + 1)
     arcs = [(pick(), pick(), rng.randrange(most + 1)) for _ in range(rng.randrange(3 * nodes))]
-    text = text_of(nodes, arcs, order[: min(first, 4)], order[first:][: rng.randrange(1, 5)])
-    return mutated(rng, text) if rng.randrange(2) else text
+    return text_of(nodes, arcs, order[: min(first, 4)], order[first:][: rng.randrange(1, 5)])
 
 
 def mutated(rng, text):
-    """A text with some lines changed, and sometimes cut off."""
+    """A text with some fields and lines changed, and sometimes cut off."""
     lines = text.split(b"\n")
     for _ in range(rng.choice([1, 1, 2, 4])):
         at, kind = min(rng.choices(range(len(lines)), k=2)), rng.randrange(6)
@@ -217,6 +217,40 @@ def mutated(rng, text):
             lines[at] = b" ".join(fields)
     text = b"\n".join(lines)
     return text[: rng.randrange(len(text) + 1)] if rng.randrange(8) == 0 else text
+
+
+def garbled(rng, text):
+    """A text with some of its bytes changed, dropped, doubled or swapped, or with whole lines so."""
+    lines = text.split(b"\n")
+    for _ in range(rng.choice([0, 1, 1, 2, 3, 8])):
+        kind = rng.randrange(9)
+        at = rng.randrange(len(lines))
+        if kind == 0:
+            del lines[at]
+            lines = lines or [b""]
+        elif kind == 1:
+            lines.insert(at, lines[at])
+        elif kind == 2:
+            other = rng.randrange(len(lines))
+            lines[at], lines[other] = lines[other], lines[at]
+        elif kind == 3:
+            lines.insert(at, rng.choice(LINES))
+        else:
+            line = bytearray(lines[at])
+            place = rng.randrange(len(line) + 1)
+            if kind == 4:
+                line.insert(place, rng.randrange(256))
+            elif kind == 5 and line:
+                del line[min(place, len(line) - 1)]
+            elif kind == 6 and line:
+                line[min(place, len(line) - 1)] = rng.randrange(256)
+            elif kind == 7:
+                line[place:place] = b"%d" % rng.choice(NUMBERS)
+            elif kind == 8:
+                line = bytearray(line.replace(b" ", rng.choice([b"\t", b"\r", b"  ", b"\x0b"]), 1))
+            lines[at] = bytes(line)
+    text = b"\n".join(lines)
+    return text[: rng.randrange(len(text) + 1)] if rng.randrange(4) == 0 else text
 
 
 def answer(problem, words, flows):

@@ -1,17 +1,15 @@
-"""Hostile use of the built programs: memory that is refused, devices that fail, and mutated files.
+"""Hostile use of the built programs: memory that is refused, and devices that fail.
 
 It needs `cc`, for the allocator that refuses requests.
 """
 
 import itertools
 import os
-import random
 import resource
 import subprocess
 
 import pytest
 
-import independent
 from conftest import ROOT
 
 NET = b"p max 4 5\nn 1 s\nn 4 t\na 1 2 3\na 1 3 2\na 2 3 1\na 2 4 2\na 3 4 3\n"
@@ -21,14 +19,6 @@ TOO_FEW_ARCS = b"p max 2 2\nn 1 s\nn 2 t\na 1 2 1\n"
 OUT_OF_MEMORY = 4, b"", b"flow: out of memory\n"
 READ_FAILED = b"flow: read failed\n"
 WRITE_FAILED = b"flow: write failed\n"
-
-# What a mutation puts into a text: lines, and numbers within a line.
-LINES = [b"c note", b"", b"   ", b" c", b"x", b"p max 2 0", b"n 1 s", b"n 2 t", b"s 1", b"f 1 2 1",
-         b"a 1 2 18446744073709551616", b"c" + b"y" * 300, b" " * 201]
-NUMBERS = [0, 1, 2, 9, 10**6, 2**32, 2**64 - 1, 2**64, 10**30]
-
-# How many files are mutated, in tests of so many.
-PROBLEMS, BATCH = 1500, 100
 
 
 @pytest.fixture(scope="session")
@@ -192,100 +182,3 @@ def test_a_reader_that_goes_away(flow, tmp_path):
     line = '"$0" solve big | head -c 5; echo "${PIPESTATUS[0]}"'
     done = subprocess.run(["bash", "-c", line, flow], capture_output=True, timeout=60, cwd=tmp_path)
     assert (done.stdout, done.stderr) == (b"s 3004\n", WRITE_FAILED)
-
-
-def mutated(random_numbers, text):
-    """A text with some of its bytes changed, dropped, doubled or swapped, or with whole lines so."""
-    lines = text.split(b"\n")
-    for _ in range(random_numbers.choice([0, 1, 1, 2, 3, 8])):
-        kind = random_numbers.randrange(9)
-        at = random_numbers.randrange(len(lines))
-        if kind == 0:
-            del lines[at]
-            lines = lines or [b""]
-        elif kind == 1:
-            lines.insert(at, lines[at])
-        elif kind == 2:
-            other = random_numbers.randrange(len(lines))
-            lines[at], lines[other] = lines[other], lines[at]
-        elif kind == 3:
-            lines.insert(at, random_numbers.choice(LINES))
-        else:
-            line = bytearray(lines[at])
-            place = random_numbers.randrange(len(line) + 1)
-            if kind == 4:
-                line.insert(place, random_numbers.randrange(256))
-            elif kind == 5 and line:
-                del line[min(place, len(line) - 1)]
-            elif kind == 6 and line:
-                line[min(place, len(line) - 1)] = random_numbers.randrange(256)
-            elif kind == 7:
-                line[place:place] = b"%d" % random_numbers.choice(NUMBERS)
-            elif kind == 8:
-                line = bytearray(line.replace(b" ", random_numbers.choice([b"\t", b"\r", b"  ", b"\x0b"]), 1))
-            lines[at] = bytes(line)
-    text = b"\n".join(lines)
-    if random_numbers.randrange(4) == 0:
-        text = text[: random_numbers.randrange(len(text) + 1)]
-    return text
-
-
-def problem(random_numbers):
-    """A small problem, mostly accepted."""
-    nodes = random_numbers.randrange(2, 9)
-    arcs = random_numbers.randrange(0, 20)
-    order = random_numbers.sample(range(1, nodes + 1), nodes)
-    sources = random_numbers.randrange(1, nodes)
-    sinks = random_numbers.randrange(1, nodes - sources + 1)
-    greatest = random_numbers.choice([1, 3, 100, 2**64 - 1])
-    lines = [f"p max {nodes} {arcs}"]
-    lines += [f"n {v} s" for v in order[:sources]] + [f"n {v} t" for v in order[sources : sources + sinks]]
-    pick = random_numbers.randrange
-    lines += [f"a {pick(1, nodes + 1)} {pick(1, nodes + 1)} {pick(greatest + 1)}" for _ in range(arcs)]
-    return "\n".join(lines).encode() + b"\n"
-
-
-def ends_well(answer):
-    """Whether there is a status of the table, with at most one message line, and nothing put where an input was
-    refused."""
-    status, out, message = answer
-    if status in (0, 1):
-        return message == b"" and out.endswith(b"\n")
-    if status == 3:
-        told = message.startswith((b"flow: line ", b"flow: solution line ")) and message.count(b"\n") == 1
-        return out == b"" and told
-    return False
-
-
-@pytest.mark.long
-@pytest.mark.parametrize("batch", range(PROBLEMS // BATCH))
-def test_mutated(ask, checks, tmp_path, batch):
-    """Every command over mutated files: what the commands say is held against each other."""
-    rand, made = random.Random(f"1990 {batch}"), 0
-    for _ in range(BATCH):
-        made += try_mutated(ask, tmp_path, rand)
-    checks(made)
-
-
-def try_mutated(ask, folder, rand):
-    """One file by every command, and two solutions of it. Answers the number of checks."""
-    text = mutated(rand, problem(rand))
-    net, solution = folder / "fuzz.max", folder / "fuzz.sol"
-    net.write_bytes(text)
-    answers = {" ".join(words): ask([*words, net]) for words in independent.JOBS}
-    status, put, told = answers["solve"]
-    for answer in answers.values():
-        assert ends_well(answer), text
-        assert (answer[0], answer[2]) == (status, told), text
-    if status != 0:
-        return 2 * len(answers)
-    value, _, _ = put[2:].partition(b"\n")
-    for job in ("cut --arcs", "cut --arcs --sink"):
-        first, *lines = answers[job][1].splitlines()
-        assert first == b"s " + value, text
-        assert sum(int(line.split()[3]) for line in lines if line.startswith(b"a ")) == int(value), text
-    solution.write_bytes(put)
-    assert ask(["check", net, solution]) == (0, b"optimal " + value + b"\n", b""), text
-    solution.write_bytes(mutated(rand, put))
-    assert ends_well(ask(["check", net, solution])), text
-    return 2 * len(answers) + 4

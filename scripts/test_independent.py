@@ -1,20 +1,23 @@
 """The program held against the second reading of the definitions in independent.py.
 
-Of so many generated problems half are mutated. Two solutions of each are tried.
+So many problems are generated for each kind of change, and half of them changed. Two solutions of each are tried.
 """
 import random
 
 import pytest
 
-from independent import JOBS, answer, generated, mutated, read_problem, read_solution, verdict
+from independent import JOBS, answer, garbled, generated, mutated, read_problem, read_solution, verdict
 
-PROBLEMS, BATCH, FIRST_SEED = 1_000, 100, 1956
+CHANGES = {"fields": (mutated, 1_000), "bytes": (garbled, 2_400)}
+BATCH, FIRST_SEED = 100, 1956
 
 
 @pytest.mark.long
-@pytest.mark.parametrize("first", range(FIRST_SEED, FIRST_SEED + PROBLEMS, BATCH))
-def test_independent(ask, checks, tmp_path, first):
-    checks(sum(try_one(ask, tmp_path / "problem", seed) for seed in range(first, first + BATCH)))
+@pytest.mark.parametrize("change, first", [(change, FIRST_SEED + at) for change, (_, count) in CHANGES.items()
+                                           for at in range(0, count, BATCH)])
+def test_independent(ask, checks, tmp_path, change, first):
+    for seed in range(first, first + BATCH):
+        checks(try_one(ask, tmp_path / "problem", CHANGES[change][0], random.Random(seed)))
 
 
 def lines(put, status=0):
@@ -22,17 +25,18 @@ def lines(put, status=0):
     return status, "".join(f"{line}\n" for line in put).encode(), b""
 
 
-def try_one(ask, file, seed):
+def try_one(ask, file, change, rng):
     """One problem by all jobs, and two solutions of it. Answers the number of checks."""
-    text = generated(rng := random.Random(seed))
-    solved = ask("solve", text)
+    text = generated(rng)
+    text = change(rng, text) if rng.randrange(2) else text
     try:
         problem = read_problem(text)
     except ValueError as fault:
-        assert solved == (3, b"", f"flow: {fault}".encode()), text
-        assert ask(rng.choice(JOBS), text) == solved, text
-        return 2
-    value, written = read_solution(solved[1], problem[0])
+        for words in JOBS:
+            assert ask(words, text) == (3, b"", f"flow: {fault}".encode()), (text, words)
+        return len(JOBS)
+    solved = ask("solve", text)[1]
+    value, written = read_solution(solved, problem[0])
     flows = [flow for _, _, flow in written]
     assert all(flow <= cap * (u != v) for flow, (u, v, cap) in zip(flows, problem[1])), (text, solved)
     assert verdict(problem, value, written, value, False) == (f"optimal {value}", 0), (text, solved)
@@ -40,9 +44,9 @@ def try_one(ask, file, seed):
         assert ask(words, text) == lines(answer(problem, words, flows)), (text, words)
     file.write_bytes(text)
     for flags in ([], ["--feasible"]):
-        first, *others = solved[1].split(b"\n")
+        first, *others = solved.split(b"\n")
         solution = b"\n".join([first, *rng.sample(others, len(others))])
-        solution = mutated(rng, solution) if rng.randrange(4) else b"s 0\nf 1 1 0"
+        solution = change(rng, solution) if rng.randrange(4) else b"s 0\nf 1 1 0"
         try:
             line, status = verdict(problem, *read_solution(solution, problem[0]), value, bool(flags))
             wanted = lines([line], status)

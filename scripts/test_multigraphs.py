@@ -5,8 +5,8 @@ parallel and opposite ones, self-loops, even degrees, bridges and pieces. The co
 rings, complete parts, circulants, permutations, lattices, trees and hubs that few links join, parts of parts. The
 regular ones have three, five or seven links at each node, at random, so that forests need all arcs. Both are held
 against the greatest flows from one node to each other and back. Each network is asked directed and undirected, by the
-package for Python, and each hundredth also by the program. A ring of 300,000 nodes in no order is asked by the program, since
-rows of so many are filled slice by slice.
+package for Python, and each hundredth also by the program. A ring of 300,000 nodes in no order is asked by the
+program, since rows of so many are filled slice by slice.
 """
 import random
 from array import array

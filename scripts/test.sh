@@ -78,18 +78,5 @@ PYTHONDONTWRITEBYTECODE=1 python3 -m pytest -q -rs "${words[@]}" --library="$fol
 made=$(sed -n 's/^\([0-9]*\) checks in [0-9]* tests$/\1/p' "$folder/tests")
 passed=$((passed + ${made:?the tests tell no count}))
 
-# part NAME COMMAND..: a script whose last line is 'NAME: N passed, 0 failed'.
-part() {
-  local name=$1
-  shift
-  "$@" | tee "$folder/$name" || exit 1
-  made=$(sed -n "\$s/^$name: \([0-9]*\) passed, 0 failed$/\1/p" "$folder/$name")
-  passed=$((passed + ${made:?$name tells no count}))
-}
-part bindings python3 scripts/bindings.py "$folder/made/libprovedflow.so.0"
-part library python3 scripts/try_library.py "$folder/made" crates/flow/out/flow
-part header python3 scripts/header.py
-part examples python3 scripts/examples.py crates/flow/out/flow "$folder/made/libprovedflow.so.0"
-
 say "done"
 echo "$passed passed, 0 failed"

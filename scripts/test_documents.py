@@ -128,3 +128,9 @@ def test_proofs_by_hand():
     found = [str(path.relative_to(ROOT)) for path in ROOT.rglob("Proof.antt")]
     stray = re.compile(r"(?!crates/(\w+/out|flow_net/proofs/tables/steps)/)")
     assert [*filter(stray.match, found)] == []
+
+
+def test_logic():
+    """The README names the logic of the kit by its sum."""
+    logic = subprocess.run(["rt", "version"], capture_output=True, text=True, check=True).stdout.split()[-1]
+    assert f"logic `{logic}`" in (ROOT / "README.md").read_text()

@@ -101,6 +101,21 @@ static void small_links(void) {
     equal("links between two and two", links, 4);
 }
 
+/* Fewer than two nodes are no network, whether or not terminals are given. */
+static void too_few_nodes(void) {
+    uint64_t links = 9;
+    uint32_t nodes, undirected;
+    for (nodes = 0; nodes < 2; nodes++) {
+        for (undirected = 0; undirected < 2; undirected++) {
+            equal("too few nodes", provedflow_links(nodes, 0, NULL, NULL, 0, NULL, 0, NULL, undirected, 0, &links),
+                  PROVEDFLOW_NODES);
+        }
+    }
+    equal("too few nodes, nothing written", links, 9);
+    equal("no node and no side", provedflow_cut(0, 0, NULL, NULL, NULL, 0, NULL, 0, NULL, 0, NULL, NULL, NULL, NULL),
+          PROVEDFLOW_NODES);
+}
+
 static void small_checks(void) {
     static const struct {
         uint64_t flow[ARCS];
@@ -272,6 +287,7 @@ int main(int argc, char **argv) {
     small_cuts();
     cuts_of_a_path();
     small_links();
+    too_few_nodes();
     links_of_a_circle();
     small_checks();
     wide_value();

@@ -13,3 +13,4 @@ pub mod Turning
 pub mod Carried
 pub mod Settled
 pub mod Border
+pub mod Tested

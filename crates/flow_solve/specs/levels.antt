@@ -5,3 +5,4 @@ pub mod NearSends
 pub mod Trees
 pub mod Settling
 pub mod Waves
+pub mod Testing

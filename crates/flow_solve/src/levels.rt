@@ -33,6 +33,7 @@ pub(crate) mod near_sends;
 pub(crate) mod phases;
 pub(crate) mod rows;
 mod spending;
+pub(crate) mod testing;
 pub(crate) mod trees;
 mod walking;
 pub(crate) mod waves;

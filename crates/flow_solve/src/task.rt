@@ -5,7 +5,7 @@ use flow_net::Network;
 
 /// A network and its terminals, as a caller gives them.
 #[derive(Clone, Copy)]
-pub(crate) struct Given<'a> {
+pub struct Given<'a> {
     /// The network.
     pub net: &'a Network,
     /// The sources.

@@ -157,9 +157,11 @@ fn is_tight(roles: &[u32], arc: Arc, amount: u64) -> bool
     requires dst { (1 ≤ arc.dst) × (arc.dst ≤ length roles.now) }
     ensures { IsTrue result → IsTight (in_set roles.now) arc amount }
 {
-    let is_filled = amount >= arc.cap;
-    (is_filled || !is_in_set(roles, arc.src) || is_in_set(roles, arc.dst))
-        && (amount == 0 || !is_in_set(roles, arc.dst) || is_in_set(roles, arc.src))
+    let from = is_in_set(roles, arc.src);
+    if amount == 0 {
+        return arc.cap == 0 || !from || is_in_set(roles, arc.dst);
+    }
+    from == is_in_set(roles, arc.dst) || (from && amount >= arc.cap)
 }
 
 /// What the arcs carry together.

@@ -4,13 +4,9 @@ pub mod Descents
 pub mod Bounds
 pub mod Distances
 pub mod LeastOnPath
-pub mod NearSends
 pub mod PushesAhead
 pub mod Walks
 pub mod Levelled
 pub mod WalkPaths
 pub mod Turning
-pub mod Carried
-pub mod Settled
-pub mod Border
 pub mod Tested

@@ -1,11 +1,9 @@
 -- What a task is, and the flow that is kept while it is worked on.
 use Rattle.std.specs.Prelude.{ℕ, List}
 use Rattle.flow_net.specs.Limits.{AreTerminals}
-use Rattle.flow_net.specs.Residual.{Table}
 use Rattle.flow_solve.specs.declared.task.Task.{Task}
 use Rattle.flow_solve.specs.residual.Packs.{IsPacked}
 use Rattle.flow_solve.specs.Solving.{IsFlow}
-use Rattle.flow_solve.specs.Steps.{PaysSteps}
 
 -- packed half-arcs and good terminals
 pub record IsTask (task : Task) : Type 0 where
@@ -15,8 +13,3 @@ pub record IsTask (task : Task) : Type 0 where
 -- a flow from its sources to its sinks, of so great a value
 abbrev pub HasFlow : Task → List ℕ → ℕ → Type 0
 HasFlow task xs k = IsFlow task.packed.net.now task.s.now task.t.now xs k
-
--- The task has a flow still, of so great a value, and its steps are paid off what might be done.
-pub record KeepsFlow (task : Task) (before : Table) (given : ℕ) (after : Table) (value rest : ℕ) : Type 0 where
-  pub flow : HasFlow task after.flows value
-  pub paid : PaysSteps before given after rest

@@ -2,31 +2,29 @@
 //!
 //! 1. **Near sends** (`near_sends`) augment along paths over one node or two. No tree exists yet that they could break.
 //! 2. **Search trees** (`trees`; Boykov and Kolmogorov 2004) grow from the sources and the sinks and augment where they
-//!    touch. At the end one pass over the arcs (`border`) tests whether the flow is maximum. The trees end early if
-//!    paths become expensive or the first one is long. A dense network has none, since a repair passes all half-arcs of
-//!    a node.
+//!    touch. They end early if paths become expensive or the first one is long. A dense network has none, since a repair
+//!    passes all half-arcs of a node.
 //! 3. **Waves** (`waves`) push excess towards the sinks, farthest level first (after Karzanov 1974), and relabel stuck
-//!    nodes (Goldberg and Tarjan 1988) up to a ceiling. They follow unless the trees have finished. `settling` tests at
-//!    the end whether the flow is feasible.
+//!    nodes (Goldberg and Tarjan 1988) up to a ceiling. They follow unless the flow after the trees is maximum.
 //! 4. **Phases** (`phases`, `walking`) are Dinic's algorithm (Dinitz 1970). They start from any feasible flow, and
 //!    their last search shows that the flow is maximum.
 //!
-//! The first three stages promise a feasible flow and a bound on steps. That the flow is maximum is shown by the test
-//! at the end of the trees, or by the phases. The stages before the phases take at most `n²·m` steps together, and the
-//! phases at most `3·n²·m`. Near sends and trees use rows of *entries* (`rows`, `entries`), in which an arc and its
-//! opposite may share one entry. The later stages need each half-arc in its row, and pack anew.
-ghost use Rattle.std.specs.Prelude.{◌≡◌, ◌+◌, ◌*◌, ◌≤◌, IsFalse, IsTrue, drop, length};
+//! The first three stages promise no more than that the flow fits, and a bound on steps. One test (`testing`) after the
+//! trees and after the waves shows that it is feasible, and may show that it is maximum. Where it isn't feasible, the
+//! phases start from zero. The stages before the phases take at most `n²·m` steps together, and the phases at most
+//! `3·n²·m`. Near sends and trees use rows of *entries* (`rows`, `entries`), in which an arc and its opposite may share
+//! one entry. The later stages need each half-arc in its row, and pack anew.
+ghost use Rattle.std.specs.Prelude.{◌≡◌, ◌+◌, ◌*◌, ◌≤◌, IfSome, IsTrue, drop, length};
 ghost use Rattle.flow_net.specs.Limits.{AreTerminals};
 ghost use Rattle.flow_net.specs.NodeSets.{one_of};
 ghost use Rattle.flow_net.specs.Flows.{Fits, IsGreatest};
 ghost use Rattle.flow_net.specs.LeastCuts.{IsLeastCapacity};
-ghost use Rattle.flow_solve.specs.Bounds.{levels_bound, openings_bound, phases_bound, work_cells};
-ghost use Rattle.flow_solve.specs.residual.Packs.{ArePackedBehind};
+ghost use Rattle.flow_solve.specs.Bounds.{levels_bound, openings_bound, work_cells};
+ghost use Rattle.flow_solve.specs.residual.Packs.{ArePackedBehind, IsPacked};
 ghost use Rattle.flow_solve.specs.Solving.{IsFlow};
-ghost use Rattle.flow_solve.specs.Steps.{PaysSteps, TakesSteps};
+ghost use Rattle.flow_solve.specs.Steps.{TakesSteps};
 ghost use Rattle.flow_solve.specs.Task.{HasFlow, IsTask};
-ghost use Rattle.flow_solve.specs.levels.Entries.{HasRowsBehind, IsOpening};
-ghost use Rattle.flow_solve.specs.levels.Trees.{HasNoMore};
+ghost use Rattle.flow_solve.specs.levels.Entries.{HasRows, IsOpening};
 
 pub(crate) mod entries;
 pub(crate) mod near_sends;
@@ -39,13 +37,13 @@ mod walking;
 pub(crate) mod waves;
 
 use crate::method::{Method, work_len};
-use crate::residual::packing::{Packed, halves_in, pack_behind};
-use crate::solving::{Raise, raise_packed};
-use crate::task::{Given, Sent, Task};
+use crate::residual::packing::{Packed, pack, pack_behind};
+use crate::task::{Given, Task};
 use flow_net::{FlowTable, Network};
 use near_sends::send_near;
 use phases::run_phases;
 use rows::{mark_between, pack_rows};
+use testing::{Tested, test_flow};
 use trees::grow_trees;
 use waves::send_waves;
 
@@ -57,131 +55,106 @@ fn is_dense(net: &Network) -> bool {
     net.len() / MOST_DEGREE > net.nodes()
 }
 
-/// How many times the number of arcs near sends and trees may take, in steps and in half-arcs that they pass by.
+/// How many times the number of arcs near sends, trees and the test after them may take, in steps and in half-arcs that
+/// they pass by.
 const OPENING_SHARE: u64 = 48;
 
-/// How much the first stages may take.
+/// How much near sends, trees and the test after them may take. A look at each arc is left for the test after waves.
 pub fn allowance(net: &Network) -> u64
-    ensures { result ≤ openings_bound net.now }
+    ensures { result + length net.now.arcs ≤ openings_bound net.now }
 {
     let n = u64::from(net.nodes());
-    (n * n).min(OPENING_SHARE) * u64::from(net.len())
+    (n * n - 1).min(OPENING_SHARE) * u64::from(net.len())
 }
 
-/// How many times the number of arcs the waves may take, should they bring nothing: 1024 each way, and the test's look.
-const REST_SHARE: u64 = 2 * 1024 + 1;
+/// How many times the number of arcs the waves may take, should they bring nothing: so often each way.
+const WAVES_SHARE: u64 = 2 * 1024;
 
-/// How much the waves may take of what is left of `n²·m`, in 64 bits.
+/// How much the waves may take of what is left of `n²·m`, in 64 bits, besides the test after them.
 fn share_of_rest(net: &Network, given: u64) -> u64
-    requires { given ≤ openings_bound net.now }
-    ensures { result + given ≤ openings_bound net.now }
+    requires { given + length net.now.arcs ≤ openings_bound net.now }
+    ensures { result + given + length net.now.arcs ≤ openings_bound net.now }
 {
     let n = u64::from(net.nodes());
     let m = u64::from(net.len());
     (n * n)
         .saturating_mul(m)
         .saturating_sub(given)
-        .min(REST_SHARE * m)
+        .saturating_sub(m)
+        .min(WAVES_SHARE * m)
 }
 
-/// What the first stages have reached.
-#[derive(Clone, Copy)]
-struct Opened {
-    /// The flow's value, and what the waves may take.
-    sent: Sent,
-    /// Whether no path is left.
-    is_finished: bool,
-}
-
-/// Raises a flow of some value by near sends, and where the network isn't dense by trees.
-fn begin(task: Task<'_>, flow: &mut FlowTable, cells: &mut [u32], value: u128) -> Opened
-    requires task { IsOpening task }
-    requires cells { length cells.old ≡ 5 * task.packed.net.now.nodes }
-    requires flow { HasFlow task flow.old.flows value }
-    ensures flow { HasFlow task.entry flow.new.flows result.sent.value }
-    ensures greatest { IsTrue result.is_finished → HasNoMore task.entry flow.new.flows }
-    ensures steps { PaysSteps flow.old (openings_bound task.entry.packed.net.now) flow.new result.sent.left }
-{
-    let net = task.packed.net;
-    let given = allowance(net);
-    let left = share_of_rest(net, given);
-    let sent = send_near(task, flow, cells, Sent { value, left: given });
-    if is_dense(net) {
-        return Opened {
-            sent: Sent {
-                value: sent.value,
-                left,
-            },
-            is_finished: false,
-        };
-    }
-    let grown = grow_trees(task, flow, cells, sent.value, sent.left);
-    Opened {
-        sent: Sent {
-            value: grown.value,
-            left,
-        },
-        is_finished: grown.is_finished,
-    }
-}
-
-/// Packs the cells of a solver for the first stages: rows of entries, or half-arcs in a dense network, where no trees
-/// grow. Answers whether it is rows.
-fn pack_first(given: Given<'_>, work: &mut [u32]) -> bool
+/// Packs the cells for the first stages: rows of entries, or half-arcs in a dense network, where no trees grow. Answers
+/// whether it is half-arcs.
+fn pack_first(given: Given<'_>, marks: &mut [u32], first: &mut [u32], halves: &mut [u32]) -> bool
     requires terminals { AreTerminals given.net.now given.s.now given.t.now }
-    requires cells { work_cells given.net.now ≤ length work.old }
-    ensures rows { HasRowsBehind given.entry.net.now work.new }
-    ensures packed { IsFalse result → ArePackedBehind given.entry.net.now work.new }
-    ensures rest { drop (work_cells given.entry.net.now) work.new ≡ drop (work_cells given.entry.net.now) work.old }
+    requires marks { length marks.old ≡ given.net.now.nodes }
+    requires firsts { length first.old ≡ given.net.now.nodes + 1 }
+    requires halves { length halves.old ≡ 2 * length given.net.now.arcs }
+    ensures rows { HasRows given.entry.net.now first.new halves.new }
+    ensures packed { IsTrue result → IsPacked given.entry.net.now first.new halves.new }
 {
     let Given { net, s, t } = given;
     if is_dense(net) {
-        pack_behind(net, work);
-        return false;
+        pack(net, first, halves);
+        return true;
     }
-    let n = net.nodes() as usize;
-    let (own, _rest) = work.split_at_mut(work_len(net.nodes(), net.len()));
-    let (cells, behind) = own.split_at_mut(5 * n);
-    let (first, behind) = behind.split_at_mut(n + 1);
-    let (halves, _spare) = behind.split_at_mut(2 * net.len() as usize);
-    let (marks, _free) = cells.split_at_mut(n);
     mark_between(net, s, t, marks);
     pack_rows(net, marks, first, halves);
-    true
+    false
 }
 
-/// Raises the flow that carries nothing by the first stages, over the rows that stand in the cells.
-fn begin_packed(given: Given<'_>, flow: &mut FlowTable, work: &mut [u32]) -> Opened
-    requires terminals { AreTerminals given.net.now given.s.now given.t.now }
-    requires cells { work_cells given.net.now ≤ length work.old }
-    requires rows { HasRowsBehind given.net.now work.old }
-    requires flow { IsFlow given.net.now given.s.now given.t.now flow.old.flows 0 }
-    ensures flow { IsFlow given.entry.net.now given.entry.s.now given.entry.t.now flow.new.flows result.sent.value }
-    ensures greatest { IsTrue result.is_finished → IsGreatest given.entry.net.now (one_of given.entry.s.now)
-        (one_of given.entry.t.now) result.sent.value }
-    ensures least { IsTrue result.is_finished → IsLeastCapacity given.entry.net.now (one_of given.entry.s.now)
-        (one_of given.entry.t.now) result.sent.value }
-    ensures steps { PaysSteps flow.old (openings_bound given.entry.net.now) flow.new result.sent.left }
-    ensures behind { drop (5 * given.entry.net.now.nodes) work.new ≡ drop (5 * given.entry.net.now.nodes) work.old }
+/// Raises a flow by near sends and, where the network isn't dense, by trees. Answers its value if a test shows that it
+/// is maximum.
+fn open(task: Task<'_>, flow: &mut FlowTable, cells: &mut [u32], allowance: u64) -> Option<u128>
+    requires task { IsOpening task }
+    requires cells { length cells.old ≡ 5 * task.packed.net.now.nodes }
+    requires fits { Fits task.packed.net.now flow.old.flows }
+    ensures fits { Fits task.entry.packed.net.now flow.new.flows }
+    ensures flow { IfSome result (λ k. HasFlow task.entry flow.new.flows k) }
+    ensures greatest { IfSome result (λ k. IsGreatest task.entry.packed.net.now (one_of task.entry.s.now)
+        (one_of task.entry.t.now) k) }
+    ensures least { IfSome result (λ k. IsLeastCapacity task.entry.packed.net.now (one_of task.entry.s.now)
+        (one_of task.entry.t.now) k) }
+    ensures steps { TakesSteps flow.old flow.new allowance }
 {
-    let Given { net, s, t } = given;
-    let (cells, behind) = work.split_at_mut(5 * net.nodes() as usize);
-    let (first, halves) = halves_in(net, behind);
-    let packed = Packed { net, first, halves };
-    begin(Task { packed, s, t }, flow, cells, 0)
+    let Task { packed, s, t } = task;
+    let net = packed.net;
+    let left = send_near(task, flow, cells, allowance);
+    if is_dense(net) || !grow_trees(task, flow, cells, left) {
+        return None;
+    }
+    let tested = test_flow(Given { net, s, t }, flow, cells)?;
+    if tested.is_maximum {
+        Some(tested.value)
+    } else {
+        None
+    }
 }
 
-/// Augments along shortest paths, level by level, in phases: a search backwards from the sinks tells how far each node
-/// is, and walks from the sources along falling distances block all shortest paths. It takes at most `4·n²·m` steps.
-pub struct Levels;
-
-impl Raise for Levels {
-    ghost steps_bound = { phases_bound };
-
-    /// Raises a flow, that the first stages have left, by waves and phases.
-    fn raise(task: Task<'_>, flow: &mut FlowTable, cells: &mut [u32], begun: Sent) -> u128 {
-        let value = send_waves(task, flow, cells, begun);
-        run_phases(task, flow, cells, value)
+/// Raises a flow by waves. Answers what a test shows of it, or of the flow of zeros where it isn't feasible.
+fn wave(task: Task<'_>, flow: &mut FlowTable, cells: &mut [u32], allowance: u64) -> Tested
+    requires task { IsTask task }
+    requires cells { length cells.old ≡ 5 * task.packed.net.now.nodes }
+    requires fits { Fits task.packed.net.now flow.old.flows }
+    ensures flow { HasFlow task.entry flow.new.flows result.value }
+    ensures greatest { IsTrue result.is_maximum → IsGreatest task.entry.packed.net.now (one_of task.entry.s.now)
+        (one_of task.entry.t.now) result.value }
+    ensures least { IsTrue result.is_maximum → IsLeastCapacity task.entry.packed.net.now (one_of task.entry.s.now)
+        (one_of task.entry.t.now) result.value }
+    ensures steps { TakesSteps flow.old flow.new (allowance + length task.entry.packed.net.now.arcs) }
+{
+    let Task { packed, s, t } = task;
+    let net = packed.net;
+    send_waves(task, flow, cells, allowance);
+    cells.fill(0);
+    if let Some(tested) = test_flow(Given { net, s, t }, flow, cells) {
+        return tested;
+    }
+    flow.clear();
+    Tested {
+        value: 0,
+        is_maximum: false,
     }
 }
 
@@ -192,6 +165,52 @@ struct Ran {
     value: u128,
     /// Whether the half-arcs stand packed in the cells of the solver.
     is_packed: bool,
+}
+
+/// Runs the stages from no flow on, in the parts of the cells of a solver.
+fn run_in(
+    given: Given<'_>,
+    flow: &mut FlowTable,
+    cells: &mut [u32],
+    first: &mut [u32],
+    halves: &mut [u32],
+) -> Ran
+    requires fits { Fits given.net.now flow.old.flows }
+    requires terminals { AreTerminals given.net.now given.s.now given.t.now }
+    requires cells { length cells.old ≡ 5 * given.net.now.nodes }
+    requires firsts { length first.old ≡ given.net.now.nodes + 1 }
+    requires halves { length halves.old ≡ 2 * length given.net.now.arcs }
+    ensures flow { IsFlow given.entry.net.now given.entry.s.now given.entry.t.now flow.new.flows result.value }
+    ensures greatest { IsGreatest given.entry.net.now (one_of given.entry.s.now) (one_of given.entry.t.now)
+        result.value }
+    ensures least { IsLeastCapacity given.entry.net.now (one_of given.entry.s.now) (one_of given.entry.t.now)
+        result.value }
+    ensures steps { TakesSteps flow.old flow.new (levels_bound given.entry.net.now) }
+    ensures packed { IsTrue result.is_packed → IsPacked given.entry.net.now first.new halves.new }
+{
+    let Given { net, s, t } = given;
+    let given_first = allowance(net);
+    flow.clear();
+    let is_packed = pack_first(given, &mut cells[..net.nodes() as usize], first, halves);
+    let packed = Packed { net, first, halves };
+    if let Some(value) = open(Task { packed, s, t }, flow, cells, given_first) {
+        return Ran { value, is_packed };
+    }
+    if !is_packed {
+        pack(net, first, halves);
+    }
+    let packed = Packed { net, first, halves };
+    let task = Task { packed, s, t };
+    let tested = wave(task, flow, cells, share_of_rest(net, given_first));
+    let value = if tested.is_maximum {
+        tested.value
+    } else {
+        run_phases(task, flow, cells, tested.value)
+    };
+    Ran {
+        value,
+        is_packed: true,
+    }
 }
 
 /// Runs the stages.
@@ -208,24 +227,17 @@ fn run_stages(given: Given<'_>, flow: &mut FlowTable, work: &mut [u32]) -> Ran
     ensures packed { IsTrue result.is_packed → ArePackedBehind given.entry.net.now work.new }
     ensures rest { drop (work_cells given.entry.net.now) work.new ≡ drop (work_cells given.entry.net.now) work.old }
 {
-    flow.clear();
-    let has_rows = pack_first(given, work);
-    let opened = begin_packed(given, flow, work);
-    if opened.is_finished {
-        return Ran {
-            value: opened.sent.value,
-            is_packed: !has_rows,
-        };
-    }
-    if has_rows {
-        pack_behind(given.net, work);
-    }
-    let value = raise_packed::<Levels>(given, flow, work, opened.sent);
-    Ran {
-        value,
-        is_packed: true,
-    }
+    let net = given.net;
+    let n = net.nodes() as usize;
+    let (own, _rest) = work.split_at_mut(work_len(net.nodes(), net.len()));
+    let (cells, behind) = own.split_at_mut(5 * n);
+    let (first, behind) = behind.split_at_mut(n + 1);
+    let (halves, _spare) = behind.split_at_mut(2 * net.len() as usize);
+    run_in(given, flow, cells, first, halves)
 }
+
+/// The method of four stages: near sends, trees, waves and phases. It takes at most `4·n²·m` steps.
+pub struct Levels;
 
 impl Method for Levels {
     ghost steps_bound = { levels_bound };

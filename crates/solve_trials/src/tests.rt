@@ -412,23 +412,21 @@ fn all_sets_agree(rt: HostRuntime) {
 
 /// Stages of [`Levels`] before the phases, and how much they may take.
 trait Stage {
-    /// The stages that work in rows of entries: raises the flow that carries nothing, and answers its value, and
-    /// whether they say that it is greatest.
-    fn begin(&self, task: Task<'_>, flow: &mut FlowTable, cells: &mut [u32]) -> (u128, bool)
+    /// The stages that work in rows of entries, on the flow that carries nothing. Answers whether they say that the
+    /// marks in the first cells show that it is greatest.
+    fn begin(&self, task: Task<'_>, flow: &mut FlowTable, cells: &mut [u32]) -> bool
         requires task { IsOpening task }
         requires cells { length cells.old ≡ 5 * task.packed.net.now.nodes }
-        requires flow { HasFlow task flow.old.flows 0 }
-        ensures flow { HasFlow task.entry flow.new.flows result.0 };
+        requires fits { Fits task.packed.net.now flow.old.flows }
+        ensures fits { Fits task.entry.packed.net.now flow.new.flows };
 
-    /// Those that come after them: raises a flow of some value, and answers its value then. Mostly there are none.
-    fn go_on(&self, _task: Task<'_>, _flow: &mut FlowTable, _cells: &mut [u32], value: u128) -> u128
+    /// Those that come after them. Mostly there are none.
+    fn go_on(&self, _task: Task<'_>, _flow: &mut FlowTable, _cells: &mut [u32])
         requires task { IsTask _task }
         requires cells { length _cells.old ≡ 5 * _task.packed.net.now.nodes }
-        requires flow { HasFlow _task _flow.old.flows value }
-        ensures flow { HasFlow _task.entry _flow.new.flows result }
-    {
-        value
-    }
+        requires fits { Fits _task.packed.net.now _flow.old.flows }
+        ensures fits { Fits _task.entry.packed.net.now _flow.new.flows }
+    {}
 }
 
 /// The values that stages reach, and the phases after them, and that of the other method.
@@ -500,8 +498,35 @@ fn stages_on_six<S: Stage>(rt: &impl Abort, alloc: Global, arcs: &[Triple], stag
     stages(rt, alloc, &net, &[1, 6], 1, stage)
 }
 
-/// Raises the empty flow by stages and by the phases after them. Answers the value that the stages reach, whether they
-/// say that it is greatest, and the value that the phases reach.
+/// Whether a test shows that a flow is greatest, by the marks in the first cells.
+fn is_shown_greatest(given: Given<'_>, flow: &mut FlowTable, cells: &mut [u32]) -> bool
+    requires terminals { AreTerminals given.net.now given.s.now given.t.now }
+    requires fits { Fits given.net.now flow.old.flows }
+    requires cells { 4 * given.net.now.nodes ≤ length cells.old }
+    ensures { flow.new.flows ≡ flow.old.flows }
+{
+    match test_flow(given, flow, cells) {
+        Some(tested) => tested.is_maximum,
+        None => false,
+    }
+}
+
+/// The value of a flow, or 0 where it isn't feasible: then the table is cleared.
+fn value_of(given: Given<'_>, flow: &mut FlowTable, cells: &mut [u32]) -> u128
+    requires terminals { AreTerminals given.net.now given.s.now given.t.now }
+    requires fits { Fits given.net.now flow.old.flows }
+    requires cells { 4 * given.net.now.nodes ≤ length cells.old }
+    ensures { IsFlow given.entry.net.now given.entry.s.now given.entry.t.now flow.new.flows result }
+{
+    if let Some(tested) = test_flow(given, flow, cells) {
+        return tested.value;
+    }
+    flow.clear();
+    0
+}
+
+/// Raises the empty flow by stages and by the phases after them. Answers the value that the stages reach, whether a
+/// test shows that it is greatest where they say so, and the value that the phases reach.
 fn run_stages<'a, S: Stage>(
     net: &'a Network,
     s: &'a [u32],
@@ -523,11 +548,14 @@ fn run_stages<'a, S: Stage>(
     mark_terminals(net, s, t, marks);
     pack_rows(net, marks, first, halves);
     let packed = Packed { net, first, halves };
-    let (begun, is_finished) = stage.begin(Task { packed, s, t }, flow, cells);
+    let given = Given { net, s, t };
+    let has_ended = stage.begin(Task { packed, s, t }, flow, cells);
+    let is_finished = has_ended && is_shown_greatest(given, flow, cells);
     pack(net, first, halves);
     let packed = Packed { net, first, halves };
     let task = Task { packed, s, t };
-    let reached = stage.go_on(task, flow, cells, begun);
+    stage.go_on(task, flow, cells);
+    let reached = value_of(given, flow, cells);
     (reached, is_finished, run_phases(task, flow, cells, reached))
 }
 

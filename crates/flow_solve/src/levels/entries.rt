@@ -3,11 +3,10 @@
 //! In a picture or a road map there is an arc each way between neighbours, and most files have the two one after the
 //! other. Both lead from one neighbour to the other in the residual network, the first along its arc and the second
 //! against it. One joined entry stands for both, so a row is half as long.
-ghost use Rattle.std.specs.Prelude.{◌≡◌, ◌+◌, ◌*◌, ◌<◌, ◌≤◌, IfNone, IfSome, IsTrue, length};
+ghost use Rattle.std.specs.Prelude.{◌≡◌, ◌+◌, ◌*◌, ◌<◌, ◌≤◌, IfSome, length};
 ghost use Rattle.flow_net.specs.Nets.{Net};
 ghost use Rattle.flow_net.specs.Flows.{Fits};
-ghost use Rattle.flow_net.specs.Residual.{residual};
-ghost use Rattle.flow_solve.specs.levels.Entries.{against_of, along_of, half_of, joins, IsEntry, IsFilled};
+ghost use Rattle.flow_solve.specs.levels.Entries.{half_of, joins, IsEntry};
 ghost use Rattle.flow_solve.specs.Steps.{PaysLooks};
 
 use crate::levels::spending::spend;
@@ -63,7 +62,6 @@ pub(crate) fn entry_supplying(direction: Direction, entry: u32) -> u32
 /// That half-arc of an entry which runs along its arc, or its only one.
 #[inline(always)]
 pub(crate) fn along_in(entry: u32) -> u32
-    ensures half { result ≡ along_of entry }
     ensures within { (net : Net) → IsEntry net entry → result < 2 * length net.arcs }
 {
     let half = half_in(entry);
@@ -77,7 +75,6 @@ pub(crate) fn along_in(entry: u32) -> u32
 /// That half-arc of an entry which runs against its arc, or its only one.
 #[inline(always)]
 pub(crate) fn against_in(entry: u32) -> u32
-    ensures half { result ≡ against_of entry }
     ensures within { (net : Net) → IsEntry net entry → result < 2 * length net.arcs }
 {
     let half = half_in(entry);
@@ -96,8 +93,6 @@ fn open_against(net: &Network, flow: &mut FlowTable, left: &mut u64, entry: u32)
     requires fits { Fits net.now flow.old.flows }
     requires entry { IsEntry net.now entry }
     ensures within { IfSome result (λ half. half < 2 * length net.now.arcs) }
-    ensures room { IfSome result (λ half. 1 ≤ residual net.now flow.old.flows half) }
-    ensures none { IfNone result (1 ≤ left.new → residual net.now flow.old.flows (against_of entry) ≡ 0) }
     ensures left { left.new ≤ left.old }
     ensures looks { PaysLooks flow.old left.old flow.new left.new }
 {
@@ -121,8 +116,6 @@ pub(crate) fn open_half(
     requires fits { Fits net.now flow.old.flows }
     requires entry { IsEntry net.now entry }
     ensures within { IfSome result (λ half. half < 2 * length net.now.arcs) }
-    ensures room { IfSome result (λ half. 1 ≤ residual net.now flow.old.flows half) }
-    ensures none { IfNone result (1 ≤ left.new → IsFilled net.now flow.old.flows entry) }
     ensures left { left.new ≤ left.old }
     ensures looks { PaysLooks flow.old (left.old + 1) flow.new left.new }
 {

@@ -5,31 +5,28 @@
 //! is lifted at once (`discharging`). The *ceiling* is some levels above the farthest excess and falls with it; a node
 //! that would be lifted to the ceiling waits for the next search. A wave ends when no excess is left below the ceiling,
 //! or when a new search is due. Every other node goes through its half-arcs backwards, by turns, so that excess does
-//! not drift to one side. In the end such waves return to the sources what no sink takes, and `settling` tests the
-//! flow.
+//! not drift to one side. In the end such waves return to the sources what no sink takes.
 ghost use Rattle.std.specs.Prelude.{◌≡◌, ◌*◌, ◌<◌, length};
 ghost use Rattle.std.specs.List.{All};
 ghost use Rattle.flow_net.specs.Nets.{IsNode};
 ghost use Rattle.flow_net.specs.Flows.{Fits};
 ghost use Rattle.flow_solve.specs.levels.Waves.{HasSent, IsWaving, OnlyMarks};
-ghost use Rattle.flow_solve.specs.Task.{HasFlow, IsTask};
+ghost use Rattle.flow_solve.specs.Task.{IsTask};
 ghost use Rattle.flow_solve.specs.Steps.{TakesSteps};
 
 mod discharging;
 mod excess;
 mod levelling;
 mod passing;
-mod settling;
 
 use crate::levels::spending::spend;
 use crate::residual::packing::Packed;
-use crate::task::{Sent, Task};
+use crate::task::Task;
 use discharging::discharge;
 use excess::{BARRED, UNSEEN, Wave};
 use flow_net::FlowTable;
 use levelling::search_levels;
 use passing::{half_at, row_of};
-use settling::settle;
 
 /// Sends as much over a half-arc of a source as remains there and as can be booked: nothing to a source, and to a sink
 /// without booking.
@@ -169,25 +166,15 @@ fn send_home(task: Task<'_>, flow: &mut FlowTable, cells: &mut [u32], share: u64
     send(Task { packed, s: t, t: s }, flow, &mut wave);
 }
 
-/// Sends waves from a flow of some value on, and tests what they leave. Answers the flow's value: 0, with the table
-/// cleared, where something couldn't be brought home.
-pub fn send_waves(task: Task<'_>, flow: &mut FlowTable, cells: &mut [u32], begun: Sent) -> u128
+/// Sends waves from the sources towards the sinks, and home with what no sink takes. They take no more steps than are
+/// allowed, half of them each way, and where these don't suffice the flow that they leave isn't feasible.
+pub fn send_waves(task: Task<'_>, flow: &mut FlowTable, cells: &mut [u32], allowance: u64)
     requires task { IsTask task }
     requires cells { length cells.old ≡ 5 * task.packed.net.now.nodes }
-    requires flow { HasFlow task flow.old.flows begun.value }
-    ensures flow { HasFlow task.entry flow.new.flows result }
-    ensures steps { TakesSteps flow.old flow.new begun.left }
+    requires fits { Fits task.packed.net.now flow.old.flows }
+    ensures fits { Fits task.entry.packed.net.now flow.new.flows }
+    ensures steps { TakesSteps flow.old flow.new allowance }
 {
-    let looks = u64::from(task.packed.net.len());
-    if begun.left <= looks {
-        return begun.value;
-    }
-    let share = (begun.left - looks) / 2;
-    send_there(task, flow, cells, share);
-    send_home(task, flow, cells, share);
-    let Some(settled) = settle(task, flow, cells) else {
-        flow.clear();
-        return 0;
-    };
-    settled
+    send_there(task, flow, cells, allowance / 2);
+    send_home(task, flow, cells, allowance / 2);
 }

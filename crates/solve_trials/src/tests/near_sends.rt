@@ -7,12 +7,9 @@ use super::*;
 struct Near(u64);
 
 impl Stage for Near {
-    fn begin(&self, task: Task<'_>, flow: &mut FlowTable, cells: &mut [u32]) -> (u128, bool) {
-        let begun = Sent {
-            value: 0,
-            left: self.0,
-        };
-        (send_near(task, flow, cells, begun).value, false)
+    fn begin(&self, task: Task<'_>, flow: &mut FlowTable, cells: &mut [u32]) -> bool {
+        send_near(task, flow, cells, self.0);
+        false
     }
 }
 

@@ -9,9 +9,8 @@ use super::*;
 struct Trees(u64);
 
 impl Stage for Trees {
-    fn begin(&self, task: Task<'_>, flow: &mut FlowTable, cells: &mut [u32]) -> (u128, bool) {
-        let reached = grow_trees(task, flow, cells, 0, self.0);
-        (reached.value, reached.is_finished)
+    fn begin(&self, task: Task<'_>, flow: &mut FlowTable, cells: &mut [u32]) -> bool {
+        grow_trees(task, flow, cells, self.0)
     }
 }
 
@@ -169,8 +168,7 @@ fn trees_are_tired_of_a_hub(rt: HostRuntime) {
     assert!(rt; is_added && is_tired && !outcome.is_finished);
 }
 
-/// Where the trees say that they are finished the flow is greatest, as their contract tells. That they mostly are, none
-/// does.
+/// No contract tells that the trees mostly end with a flow that the test shows to be greatest.
 #[test]
 fn trees_on_random_networks(rt: HostRuntime) {
     let draws = Draws {

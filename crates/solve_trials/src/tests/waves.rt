@@ -7,16 +7,12 @@ use super::*;
 struct Waves(u64);
 
 impl Stage for Waves {
-    fn begin(&self, _task: Task<'_>, _flow: &mut FlowTable, _cells: &mut [u32]) -> (u128, bool) {
-        (0, false)
+    fn begin(&self, _task: Task<'_>, _flow: &mut FlowTable, _cells: &mut [u32]) -> bool {
+        false
     }
 
-    fn go_on(&self, task: Task<'_>, flow: &mut FlowTable, cells: &mut [u32], value: u128) -> u128 {
-        let begun = Sent {
-            value,
-            left: self.0,
-        };
-        send_waves(task, flow, cells, begun)
+    fn go_on(&self, task: Task<'_>, flow: &mut FlowTable, cells: &mut [u32]) {
+        send_waves(task, flow, cells, self.0);
     }
 }
 
@@ -28,16 +24,12 @@ struct Both {
 }
 
 impl Stage for Both {
-    fn begin(&self, task: Task<'_>, flow: &mut FlowTable, cells: &mut [u32]) -> (u128, bool) {
-        (grow_trees(task, flow, cells, 0, self.trees).value, false)
+    fn begin(&self, task: Task<'_>, flow: &mut FlowTable, cells: &mut [u32]) -> bool {
+        grow_trees(task, flow, cells, self.trees)
     }
 
-    fn go_on(&self, task: Task<'_>, flow: &mut FlowTable, cells: &mut [u32], value: u128) -> u128 {
-        let begun = Sent {
-            value,
-            left: self.waves,
-        };
-        send_waves(task, flow, cells, begun)
+    fn go_on(&self, task: Task<'_>, flow: &mut FlowTable, cells: &mut [u32]) {
+        send_waves(task, flow, cells, self.waves);
     }
 }
 
@@ -158,7 +150,7 @@ const WAYS: &[Ways] = &[
         ],
         terminals: &[1, 2, 6],
         k: 2,
-        reached: 0,
+        reached: MOST,
         value: 2 * MOST,
     },
     Ways {
@@ -239,7 +231,7 @@ fn count_cleared(rt: &impl Abort, alloc: Global, ways: &Ways) -> Option<u32> {
             return None;
         }
         // With so much the source has sent all that it can: what comes to no sink and not home is cleared.
-        let is_cleared = outcome.reached == 0 && allowance >= 8 + 2 * 2 * 2 + 2;
+        let is_cleared = outcome.reached == 0 && allowance >= 2 * 2 * 2 + 2;
         cleared = cleared.wrapping_add(u32::from(is_cleared));
         last = outcome.reached;
     }
@@ -277,8 +269,8 @@ fn waves_agree_on_random_networks(rt: HostRuntime) {
     assert!(rt; tally.tried > 3000 && tally.carried > 1000 && tally.between > 100);
 }
 
-/// How many steps for each arc waves may take in the larger networks, in both directions and to settle: an eighth of
-/// what [`Levels`] lets them take.
+/// How many steps for each arc waves may take in the larger networks, in both directions: an eighth of what [`Levels`]
+/// lets them take.
 const SHARE: u64 = 256;
 
 /// Whether waves alone reach the greatest value of a network, and so leave nothing to the phases.

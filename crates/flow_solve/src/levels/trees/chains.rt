@@ -2,16 +2,12 @@
 //! touch, and along another chain to a sink.
 //!
 //! The code goes along both chains twice, from where the trees touch to the roots: once for the least residual
-//! capacity, and once to push that. Until the ends turn out to be a source and a sink, the flow counts as under way
-//! between them. So no proof needs to know anything of the trees, not even that a path is simple.
-ghost use Rattle.std.specs.Prelude.{◌≡◌, ℕ, ◌+◌, ◌*◌, ◌<◌, ◌≤◌, IfSome, IsTrue, length};
+//! capacity, and once to push that. The second time each residual capacity is read again, so no proof needs to know
+//! anything of the trees, not even that a path is simple.
+ghost use Rattle.std.specs.Prelude.{◌≡◌, ◌+◌, ◌*◌, ◌/◌, ◌<◌, ◌≤◌, length};
 ghost use Rattle.flow_net.specs.Nets.{IsNode};
-ghost use Rattle.flow_net.specs.NodeSets.{one_of};
 ghost use Rattle.flow_net.specs.Flows.{Fits};
-ghost use Rattle.flow_solve.specs.Task.{HasFlow};
-ghost use Rattle.flow_solve.specs.levels.Entries.{IsOpening};
-ghost use Rattle.flow_solve.specs.levels.Trees.{supplied_by, AreGrowing, AreSameTrees, HaveCells, HaveGrown};
-ghost use Rattle.flow_solve.specs.levels.Trees.{HasTreeCells, IsSupplied, HaveMarked};
+ghost use Rattle.flow_solve.specs.levels.Trees.{AreSameTrees, HasTreeCells, HaveGrown, HaveMarked};
 ghost use Rattle.flow_solve.specs.Steps.{PaysLooks, TakesSteps};
 
 use crate::levels::spending::spend;
@@ -19,14 +15,12 @@ use crate::levels::trees::forest::{LEAST_CHILD, Trees, above_in, label_in, paren
 use crate::residual::half_arcs::Direction::{self, Backwards, Forwards};
 use crate::residual::half_arcs::{cross, head, tail};
 use crate::residual::packing::Packed;
-use crate::task::Task;
 use flow_net::FlowTable;
 
 /// The half-arc that flow to or from a node in a tree goes through, given the one that leads from the node to its
 /// parent.
 pub(crate) fn supply_half(direction: Direction, half: u32) -> u32
-    ensures within { (m : ℕ) → half < 2 * m → result < 2 * m }
-    ensures half { result ≡ supplied_by direction half }
+    ensures { result / 2 ≡ half / 2 }
 {
     match direction {
         Forwards => cross(Backwards, half),
@@ -97,7 +91,7 @@ fn measure(
 }
 
 /// Pushes an amount along a chain of parents, and abandons the nodes whose half-arc to their parent this fills. Answers
-/// the node that the chain leads to, or nothing where that much doesn't remain on each half-arc when it comes to it.
+/// whether that much remained on each half-arc when it came to it.
 #[inline(always)]
 fn push_along(
     packed: Packed<'_>,
@@ -105,45 +99,32 @@ fn push_along(
     trees: &mut Trees<'_>,
     chain: Chain,
     amount: u64,
-) -> Option<u32>
+) -> bool
     requires forest { HasTreeCells packed flow.old trees.old }
     requires node { IsNode packed.net.now chain.node }
     ensures fits { Fits packed.entry.net.now flow.new.flows }
-    ensures root { IfSome result (λ root. IsNode packed.entry.net.now root) }
-    ensures supplied { IfSome result (λ root. IsSupplied chain.direction packed.entry.net.now amount chain.node
-        root flow.old.flows flow.new.flows) }
     ensures steps { TakesSteps flow.old flow.new (2 * chain.len) }
     ensures marks { HaveMarked trees.old trees.new }
 {
-    let net = packed.net;
     let mut node = chain.node;
     'chain: for _ in 0..chain.len {
         let half = trees.parent(node);
-        if half as usize >= packed.halves.len() || tail(net, half) != node {
-            return None;
+        let above = trees.above(node);
+        if half as usize >= packed.halves.len() || !trees.has_cells(above) {
+            return false;
         }
-        let parent = head(net, half);
         let over = supply_half(chain.direction, half);
-        let (_, room) = flow.look(net, over);
-        if room < amount || parent == node {
-            return None;
+        let (_, room) = flow.look(packed.net, over);
+        if room < amount {
+            return false;
         }
-        flow.push(net, over, amount);
+        flow.push(packed.net, over, amount);
         if room == amount {
             trees.abandon(node);
         }
-        node = parent;
+        node = above;
     }
-    Some(node)
-}
-
-/// Whether a node is one of some terminals, by the place among them that stands in its parent's cell.
-fn is_root(trees: &Trees<'_>, terminals: &[u32], node: u32) -> bool
-    requires node { HaveCells trees.now node }
-    ensures { IsTrue result → IsTrue (one_of terminals.now node) }
-{
-    let place = trees.parent(node) as usize;
-    place < terminals.len() && terminals[place] == node
+    true
 }
 
 /// Where the tree of the sources touches that of the sinks, and what a push there takes with it.
@@ -160,67 +141,56 @@ struct Touch {
 }
 
 /// Pushes an amount over the half-arc where the trees touch and along the chains on its both sides, and abandons the
-/// nodes whose half-arc to their parent this fills. Answers whether that much remained everywhere, and went from a
-/// source to a sink; where it did not, the flow still fits, but needn't be feasible.
-fn push_through(task: Task<'_>, flow: &mut FlowTable, trees: &mut Trees<'_>, touch: Touch) -> bool
-    requires task { IsOpening task }
-    requires size { 4 * task.packed.net.now.nodes ≤ length trees.old.cells.now }
-    requires fits { Fits task.packed.net.now flow.old.flows }
-    requires half { touch.half < 2 * length task.packed.net.now.arcs }
-    ensures fits { Fits task.entry.packed.net.now flow.new.flows }
-    ensures flow { IsTrue result → (k : ℕ) → HasFlow task.entry flow.old.flows k
-        → HasFlow task.entry flow.new.flows (k + touch.amount) }
+/// nodes whose half-arc to their parent this fills. Answers whether that much remained everywhere.
+fn push_through(
+    packed: Packed<'_>,
+    flow: &mut FlowTable,
+    trees: &mut Trees<'_>,
+    touch: Touch,
+) -> bool
+    requires forest { HasTreeCells packed flow.old trees.old }
+    requires half { touch.half < 2 * length packed.net.now.arcs }
+    ensures fits { Fits packed.entry.net.now flow.new.flows }
     ensures steps { TakesSteps flow.old flow.new (2 * (touch.before + touch.behind + 1)) }
     ensures marks { HaveMarked trees.old trees.new }
 {
-    let packed = task.packed;
-    let amount = touch.amount;
-    let from = tail(packed.net, touch.half);
-    let to = head(packed.net, touch.half);
-    let (_, room) = flow.look(packed.net, touch.half);
-    if room < amount || from == to {
+    let Touch { half, amount, .. } = touch;
+    let (to, room) = flow.look(packed.net, half);
+    if room < amount {
         return false;
     }
-    flow.push(packed.net, touch.half, amount);
+    flow.push(packed.net, half, amount);
     let before = Chain {
         direction: Forwards,
-        node: from,
+        node: tail(packed.net, half),
         len: touch.before,
-    };
-    let Some(source) = push_along(packed, flow, trees, before, amount) else {
-        return false;
     };
     let behind = Chain {
         direction: Backwards,
         node: to,
         len: touch.behind,
     };
-    let Some(sink) = push_along(packed, flow, trees, behind, amount) else {
-        return false;
-    };
-    is_root(trees, task.s, source) && is_root(trees, task.t, sink)
+    push_along(packed, flow, trees, before, amount)
+        && push_along(packed, flow, trees, behind, amount)
 }
 
 /// Pushes as much as remains along the path over a half-arc from the tree of the sources to that of the sinks. Answers
-/// whether something was pushed. Should the path be none after all, the table is cleared.
+/// whether something was pushed.
 pub(crate) fn augment_over(
-    task: Task<'_>,
+    packed: Packed<'_>,
     flow: &mut FlowTable,
     trees: &mut Trees<'_>,
     half: u32,
 ) -> bool
-    requires growing { AreGrowing task flow.old trees.old }
-    requires half { half < 2 * length task.packed.net.now.arcs }
-    ensures { HaveGrown task.entry flow.old trees.old flow.new trees.new }
+    requires forest { HasTreeCells packed flow.old trees.old }
+    requires half { half < 2 * length packed.net.now.arcs }
+    ensures { HaveGrown packed.entry flow.old trees.old flow.new trees.new }
 {
-    let packed = task.packed;
     if !spend(&mut trees.left, COST) {
         return false;
     }
-    let from = tail(packed.net, half);
-    let before = measure(packed, Forwards, flow, trees, from);
-    let to = head(packed.net, half);
-    let behind = measure(packed, Backwards, flow, trees, to);
+    let before = measure(packed, Forwards, flow, trees, tail(packed.net, half));
+    let behind = measure(packed, Backwards, flow, trees, head(packed.net, half));
     let (_, room) = flow.look(packed.net, half);
     let amount = room.min(before.room).min(behind.room);
     if amount == 0 {
@@ -232,11 +202,5 @@ pub(crate) fn augment_over(
         behind: behind.len,
         amount,
     };
-    if !push_through(task, flow, trees, touch) {
-        flow.clear();
-        trees.value = 0;
-        return false;
-    }
-    trees.value += u128::from(amount);
-    true
+    push_through(packed, flow, trees, touch)
 }

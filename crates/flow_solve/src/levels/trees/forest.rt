@@ -44,8 +44,6 @@ pub(crate) struct Trees<'a> {
     pub nodes: u32,
     /// One more than the number of augmentations.
     pub time: u32,
-    /// The flow's value, with what was pushed where they touched.
-    pub value: u128,
     /// What may still be done: steps, half-arcs that are passed by, and nodes that are walked over.
     pub left: u64,
     /// The trees are tired where no more than this is left: they have brought too little for what they took.
@@ -62,8 +60,7 @@ fn label_cell(node: u32) -> usize
     4 * node as usize - 4
 }
 
-/// Where the half-arc from a node to its parent stands; for a root its place among the terminals, and for an orphan
-/// `NO_PARENT`.
+/// Where the half-arc from a node to its parent stands; for an orphan it is `NO_PARENT`.
 #[inline(always)]
 fn parent_cell(node: u32) -> usize
     requires { 1 ≤ node }
@@ -217,14 +214,12 @@ impl Trees<'_> {
         cells[above_cell(node)] = above;
     }
 
-    /// Makes a node the root of a tree, with a label and its place among the terminals.
-    pub(crate) fn set_root(&mut self, node: u32, label: u32, place: u32)
+    /// Makes a node the root of a tree.
+    pub(crate) fn set_root(&mut self, node: u32, label: u32)
         requires { 1 ≤ node }
         ensures { HaveMarked self.old self.new }
     {
-        let cells = &mut *self.cells;
-        put(cells, label_cell(node), label);
-        put(cells, parent_cell(node), place);
+        put(self.cells, label_cell(node), label);
     }
 
     /// Whether a node is active.

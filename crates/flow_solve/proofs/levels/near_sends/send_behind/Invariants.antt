@@ -1,4 +1,4 @@
--- `send_behind`: the flow is kept, its steps are paid, a look at each of the half-arcs ahead beforehand, and as much
+-- `send_behind`: the flow still fits, its steps are paid, a look at each of the half-arcs ahead beforehand, and as much
 -- remains on the first half-arc as is still to be sent.
 use Rattle.std.proofs.Common.{◌+◌, ◌-◌, ◌≤◌}
 use Rattle.flow_net.specs.Residual.{residual}
@@ -12,5 +12,5 @@ invariant-loop-spot l = record {
   stays : StaysAt l.fn.sending l.sending;
   paid : PaysSteps l.fn.flow l.fn.sending.left l.flow (l.sending.left + (l.end - l.spot));
   left : l.sending.left ≤ l.fn.sending.left;
-  room : l.room ≤ residual l.fn.sending.task.packed.net.now l.flow.flows l.first;
+  room : l.room ≤ residual l.fn.sending.packed.net.now l.flow.flows l.first;
 }

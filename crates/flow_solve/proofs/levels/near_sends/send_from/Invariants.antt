@@ -1,4 +1,4 @@
--- `send_from`: the flow is kept, and its steps are paid, a look at each of the half-arcs ahead beforehand.
+-- `send_from`: the flow still fits, and its steps are paid, a look at each of the half-arcs ahead beforehand.
 use Rattle.std.proofs.Common.{◌+◌, ◌-◌}
 use Rattle.flow_solve.specs.Steps.{PaysSteps}
 use Rattle.flow_solve.specs.levels.NearSends.{IsSending, StaysAt}

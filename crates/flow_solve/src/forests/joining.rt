@@ -46,12 +46,8 @@ pub(crate) struct Joining<'a> {
     pub hints: &'a mut [u32],
     /// The place in its queue of the node whose half-arcs come next.
     at: u32,
-    /// Where those nodes begin in the queue that it has seen by way of the arc at `place`. Those before led nowhere.
-    from: u32,
     /// How many nodes it has seen: the end of its queue.
     tail: u32,
-    /// Which of the arcs at the first node is looked at next, or is the first of the path that it has found.
-    place: u32,
     /// The last half-arc of the path that it has found, or [`END`].
     found: u32,
     /// How many looks and pushes are left.
@@ -64,9 +60,7 @@ pub(crate) fn at_rest<'a>(seen: &'a mut [u32], hints: &'a mut [u32]) -> Joining<
         seen,
         hints,
         at: 0,
-        from: 0,
         tail: 0,
-        place: 0,
         found: END,
         left: 0,
     }
@@ -97,39 +91,27 @@ impl Joining<'_> {
         self.tail = self.tail.saturating_add(1);
     }
 
-    /// Makes the nodes unseen from a place in the queue on, and forgets by which half-arcs.
-    fn forget(&mut self, ground: Ground<'_>, from: u32)
+    /// Makes all nodes unseen, and forgets by which half-arcs.
+    fn forget(&mut self, ground: Ground<'_>)
         ensures { self.new.left ≡ self.old.left }
     {
-        for at in from..self.tail {
+        for at in 0..self.tail {
             let node = get(self.hints, queue_at(ground, at));
             unmark(self.seen, node);
             put(self.hints, place_at(ground, node), 0);
         }
-        self.tail = from;
+        self.tail = 0;
     }
 
     /// Begins at a node, which is seen alone.
     fn begin(&mut self, ground: Ground<'_>, node: u32)
         ensures { self.new.left ≡ self.old.left }
     {
-        self.forget(ground, 0);
+        self.forget(ground);
         note(self.seen, node);
         put(self.hints, queue_at(ground, 0), node);
-        self.at = 1;
-        self.from = 1;
+        self.at = 0;
         self.tail = 1;
-        self.place = 0;
-        self.found = END;
-    }
-
-    /// Goes back to where the path began that was found, once a unit has been sent along it. What was seen on that way
-    /// may be seen again by another arc.
-    fn go_back(&mut self, ground: Ground<'_>)
-        ensures { self.new.left ≡ self.old.left }
-    {
-        self.forget(ground, self.from);
-        self.at = self.from;
         self.found = END;
     }
 
@@ -299,47 +281,15 @@ fn search_from(forest: Forest<'_>, joining: &mut Joining<'_>, flow: &mut FlowTab
     }
 }
 
-/// Goes on with a search in breadth from the nodes that it has seen, until it comes to one that the forest has come to.
-fn search_behind(forest: Forest<'_>, joining: &mut Joining<'_>, flow: &mut FlowTable)
+/// Searches in breadth from a node, until it comes to one that the forest has come to.
+fn search(forest: Forest<'_>, joining: &mut Joining<'_>, flow: &mut FlowTable, node: u32)
     requires fits { Fits forest.ground.net.now flow.old.flows }
     ensures looks { PaysLooks flow.old joining.old.left flow.new joining.new.left }
 {
     let nodes = forest.ground.net.nodes();
+    joining.begin(forest.ground, node);
     'queue: while joining.goes_on(nodes) {
         search_from(forest, joining, flow);
-    }
-}
-
-/// Goes on with a search from its first node, by one of the arcs at that after the other, until it comes to a node that
-/// the forest has come to.
-fn search_out(forest: Forest<'_>, joining: &mut Joining<'_>, flow: &mut FlowTable, node: u32)
-    requires fits { Fits forest.ground.net.now flow.old.flows }
-    ensures looks { PaysLooks flow.old joining.old.left flow.new joining.new.left }
-{
-    let around = joining.arcs_at(forest.ground, node);
-    for place in joining.place..around.all {
-        joining.from = joining.tail;
-        search_along(forest, joining, flow, around, place);
-        if joining.from < joining.tail {
-            search_behind(forest, joining, flow);
-        }
-        if joining.found != END {
-            joining.place = place;
-            return;
-        }
-    }
-}
-
-/// Goes on with a search from its node until it has found a path. Where it finds none it begins anew: what led nowhere
-/// may lead on over half-arcs that were used since.
-fn search_anew(forest: Forest<'_>, joining: &mut Joining<'_>, flow: &mut FlowTable, node: u32)
-    requires fits { Fits forest.ground.net.now flow.old.flows }
-    ensures looks { PaysLooks flow.old joining.old.left flow.new joining.new.left }
-{
-    search_out(forest, joining, flow, node);
-    if joining.found == END {
-        joining.begin(forest.ground, node);
-        search_out(forest, joining, flow, node);
     }
 }
 
@@ -485,22 +435,20 @@ pub(crate) fn raise(
         return None;
     }
     joining.left = wanted.left;
-    joining.begin(forest.ground, node);
     let mut value = 0;
     while value < wanted.value {
-        search_anew(forest, joining, flow, node);
+        search(forest, joining, flow, node);
         if joining.found == END {
             let left = joining.left;
             let left = is_cut_off(forest, joining.seen, flow, node, left)?;
-            joining.forget(forest.ground, 0);
+            joining.forget(forest.ground);
             return Some(Budgeted { value, left });
         }
         let left = send(forest, joining, flow, node)?;
         joining.left = left;
-        joining.go_back(forest.ground);
         value += 1;
     }
-    joining.forget(forest.ground, 0);
+    joining.forget(forest.ground);
     let left = joining.left;
     Some(Budgeted { value, left })
 }

@@ -14,12 +14,12 @@ pub returns-then-joining-clause-least : goal.returns-then-joining-clause-least
 returns-then-joining-clause-least c =
     let net = c.args.forest.ground.net.now in
     let dir = c.args.forest.ground.direction in
-    let seen = c.search_anew.new.joining.seen.now in
+    let seen = c.search.new.joining.seen.now in
     let j = c.loop-value.invariant in
     let done = marked_in c.args.forest.done.now in
     let X = seen_in c.args.forest.done.now seen in
     let closed : IsClosedFor dir net c.loop-value.flow.flows X =
-    subst (λ (z : List ℕ). IsClosedFor dir net z X) c.search_anew.ensures.looks.flows
+    subst (λ (z : List ℕ). IsClosedFor dir net z X) c.search.ensures.looks.flows
     c.in_ok-left.ensures.closed in
     let here : X c.args.node ≡ true = c.in_ok-left.ensures.seen in
     let cut : IsCut (just c.args.node) done X =

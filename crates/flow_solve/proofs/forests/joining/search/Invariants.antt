@@ -1,8 +1,8 @@
--- `search_behind`: the looks are paid.
+-- `search`: the looks are paid.
 use Rattle.std.proofs.Common.{◌-◌}
 use Rattle.flow_net.specs.Flows.{Fits}
 use Rattle.flow_solve.specs.Steps.{PaysLooks}
-use Rattle.flow_solve.proofs.forests.joining.search_behind.Given as goal
+use Rattle.flow_solve.proofs.forests.joining.search.Given as goal
 
 abbrev pub invariant-queue : goal.invariant-queue
 invariant-queue l = record {

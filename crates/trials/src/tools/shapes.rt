@@ -223,3 +223,25 @@ fn a_cube_a_tree_and_two_halves(rt: HostRuntime) {
     assert!(rt; has_grown(alloc, tree(alloc), true, 1));
     assert!(rt; has_grown(alloc, halves(alloc), true, 3));
 }
+
+/// The steps on from the nodes of a part of five to each other, and from the last three to the next part.
+const PART: [&[u32]; 5] = [&[1, 2, 3, 4], &[1, 2, 3], &[1, 2, 5], &[1, 5], &[5]];
+
+/// A thousand parts of five nodes in a row, in each of which all are joined, and three links from each to the next.
+fn chain(alloc: Global) -> Option<Network> {
+    let mut net = Network::new(alloc, 5000);
+    for i in 0..4995u32 {
+        if !add_steps(&mut net, 1 + i, PART[i as usize % 5]) {
+            return None;
+        }
+    }
+    let joined = join_all(&mut net, 4996, 5001);
+    if joined { Some(net) } else { None }
+}
+
+/// It takes a hundred steps for each node or more where a search passes the rest of the chain for each unit.
+#[test]
+fn forests_pass_a_chain(rt: HostRuntime) {
+    let alloc = rt.alloc();
+    assert!(rt; grown_early(alloc, chain(alloc), true, 20) == Some(3));
+}

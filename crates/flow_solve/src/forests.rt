@@ -306,10 +306,10 @@ fn run_pass(
     grow_forests(ground, growth, &mut at_rest(seen, hints), flow, known)
 }
 
-/// Whether a node has more arcs on an average than a number, by more than a thousandth of an arc.
+/// Whether a node has more arcs on an average than a number, by more than a quarter of an arc.
 fn has_more_arcs(net: &Network, least: u64) -> bool {
     let nodes = u64::from(net.nodes());
-    u64::from(net.len()).saturating_sub(nodes / 1000) > least.saturating_mul(nodes)
+    u64::from(net.len()).saturating_sub(nodes / 4) > least.saturating_mul(nodes)
 }
 
 /// So many forests at most go first over arcs whose opposite none has taken: with more, what it saves is less than what
@@ -346,7 +346,7 @@ pub fn connectivity_by_forests(
     let is_balanced = are_balanced(net, cells);
     let paired = are_opposite(net);
     let even = are_even(net, cells, paired);
-    let is_tight = !has_more_arcs(net, least);
+    let is_tight = is_balanced & !has_more_arcs(net, least);
     let dense = has_more_arcs(net, u64::from(net.nodes()).isqrt()) | (is_tight & !paired);
     let mut ground = Ground {
         net,

@@ -3,7 +3,8 @@
 //! It reads the cells of the rows alone, and an arc is taken where its cell stands. It goes back by the cells of the
 //! arcs over which it came to where it is. In a dense network each forest goes on in a row behind the arc that the one
 //! before has taken there: else forests would pass over the same cells again, and grow alike. So they do where arcs one
-//! way are all needed: where forests grow alike, the last one finds them left in circles.
+//! way are all needed: where forests grow alike, the last one finds them left in circles. Parallel arcs stand side by
+//! side there, so that a forest jumps over those that don't lead on.
 //!
 //! Where arcs are scarce, a forest between the first and the last goes first over an arc whose opposite none has taken,
 //! as notes in the hints tell. Else the last forest finds many arcs left in pairs, one against the other, and so comes
@@ -60,6 +61,47 @@ pub(crate) struct Lead {
     pub behind: u32,
 }
 
+/// So many cells alike are passed one by one, and more are jumped over.
+const FEW_ALIKE: u32 = 8;
+
+/// Where cells like one end, of those that stand side by side: the cells with the same node where the forest has come
+/// to it, and else those of them that are taken or not as this one is.
+fn behind_alike(forest: Forest<'_>, cell: u32, end: u32) -> u32
+    requires { cell < end }
+    ensures { cell < result }
+{
+    let number = get(forest.rows, cell as usize);
+    let bit = if is_left(forest.done, number % TAKEN) {
+        0
+    } else {
+        TAKEN
+    };
+    let mut low = cell + 1;
+    let mut high = end;
+    while low < high {
+        let middle = low + (high - low) / 2;
+        if get(forest.rows, middle as usize) | bit == number | bit {
+            low = middle + 1;
+        } else {
+            high = middle;
+        }
+    }
+    low
+}
+
+/// The cell that is looked at after one that doesn't lead on.
+#[inline(always)]
+fn next_cell(forest: Forest<'_>, cell: u32, end: u32) -> u32
+    requires { cell < end }
+    ensures { cell < result }
+{
+    let ahead = get(forest.rows, cell.wrapping_add(FEW_ALIKE) as usize);
+    if forest.ground.dense && ahead == get(forest.rows, cell as usize) {
+        return behind_alike(forest, cell, end);
+    }
+    cell + 1
+}
+
 /// The first of some cells whose arc leads on to a node that the forest hasn't come to, if there is one: of all where
 /// `all` is true, and else of those that aren't taken.
 #[inline(always)]
@@ -69,7 +111,8 @@ fn next_lead(forest: Forest<'_>, from: u32, end: u32, all: bool) -> Option<Lead>
     if end as usize > forest.rows.len() {
         return None;
     }
-    for cell in from..end {
+    let mut cell = from;
+    'cells: while cell < end {
         let number = forest.rows[cell as usize];
         if all || number < TAKEN {
             let behind = node_in(forest.ground, number % TAKEN);
@@ -77,6 +120,7 @@ fn next_lead(forest: Forest<'_>, from: u32, end: u32, all: bool) -> Option<Lead>
                 return Some(Lead { cell, behind });
             }
         }
+        cell = next_cell(forest, cell, end);
     }
     None
 }
@@ -136,7 +180,7 @@ fn lead_from(forest: Forest<'_>, hints: &[u32], front: Front, begin: u32, end: u
     if lead.is_some() || !forest.ground.dense {
         return lead;
     }
-    next_lead(forest, begin, end, false)
+    next_lead(forest, begin, from.min(end), false)
 }
 
 /// Keeps in a dense network the place behind the arc that has been taken in a node's row, for the next forest.

@@ -144,6 +144,7 @@ at_stage ground ready = record {
   even = ground.even;
   numbered = ready && not ground.paired;
   dense = ground.dense;
+  sorted = ground.sorted;
   scarce = ground.scarce;
 }
 

@@ -79,6 +79,8 @@ pub(crate) struct Ground<'a> {
     /// Whether forests go on in a row one behind the other: nodes have many arcs, or few forests need nearly all of
     /// the arcs one way.
     pub dense: bool,
+    /// Whether each row has parallel arcs side by side: nodes have many arcs.
+    pub sorted: bool,
     /// Whether each arc is there both ways, and few forests need nearly all: not so where one forest less is enough.
     pub scarce: bool,
 }
@@ -347,7 +349,8 @@ pub fn connectivity_by_forests(
     let paired = are_opposite(net);
     let even = are_even(net, cells, paired);
     let is_tight = is_balanced & !has_more_arcs(net, least);
-    let dense = has_more_arcs(net, u64::from(net.nodes()).isqrt()) | (is_tight & !paired);
+    let sorted = has_more_arcs(net, u64::from(net.nodes()).isqrt());
+    let dense = sorted | (is_tight & !paired);
     let mut ground = Ground {
         net,
         root: 1,
@@ -358,6 +361,7 @@ pub fn connectivity_by_forests(
         even,
         numbered: false,
         dense,
+        sorted,
         scarce: is_tight & !dense & !even & (least <= MOST_FRESH),
     };
     let start = Budgeted {

@@ -3,8 +3,8 @@
 //! It reads the cells of the rows alone, and an arc is taken where its cell stands. It goes back by the cells of the
 //! arcs over which it came to where it is. In a dense network each forest goes on in a row behind the arc that the one
 //! before has taken there: else forests would pass over the same cells again, and grow alike. So they do where arcs one
-//! way are all needed: where forests grow alike, the last one finds them left in circles. Parallel arcs stand side by
-//! side there, so that a forest jumps over those that don't lead on.
+//! way are all needed: where forests grow alike, the last one finds them left in circles. Where nodes have many
+//! arcs parallel ones stand side by side, so that a forest jumps over those that don't lead on.
 //!
 //! Where arcs are scarce, a forest between the first and the last goes first over an arc whose opposite none has taken,
 //! as notes in the hints tell. Else the last forest finds many arcs left in pairs, one against the other, and so comes
@@ -71,11 +71,7 @@ fn behind_alike(forest: Forest<'_>, cell: u32, end: u32) -> u32
     ensures { cell < result }
 {
     let number = get(forest.rows, cell as usize);
-    let bit = if is_left(forest.done, number % TAKEN) {
-        0
-    } else {
-        TAKEN
-    };
+    let bit = TAKEN * u32::from(!is_left(forest.done, number % TAKEN));
     let mut low = cell + 1;
     let mut high = end;
     while low < high {
@@ -96,7 +92,7 @@ fn next_cell(forest: Forest<'_>, cell: u32, end: u32) -> u32
     ensures { cell < result }
 {
     let ahead = get(forest.rows, cell.wrapping_add(FEW_ALIKE) as usize);
-    if forest.ground.dense && ahead == get(forest.rows, cell as usize) {
+    if forest.ground.sorted && ahead == get(forest.rows, cell as usize) {
         return behind_alike(forest, cell, end);
     }
     cell + 1

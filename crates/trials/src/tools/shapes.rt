@@ -245,3 +245,53 @@ fn forests_pass_a_chain(rt: HostRuntime) {
     let alloc = rt.alloc();
     assert!(rt; grown_early(alloc, chain(alloc), true, 20) == Some(3));
 }
+
+/// Adds a link from the node at a place round a ring to the one so many steps on, and with `both` also an arc back.
+#[must_use]
+fn add_link(net: &mut Network, place: u32, step: u32, both: bool) -> bool {
+    let nodes = net.nodes();
+    let src = 1 + place % nodes;
+    let dst = 1 + place.wrapping_add(step) % nodes;
+    add(net, src, dst) && (!both || add(net, dst, src))
+}
+
+/// A ring of three thousand nodes, each of which has a link across, and six links more.
+fn wheel(alloc: Global, both: bool) -> Option<Network> {
+    let mut net = Network::new(alloc, 3000);
+    for i in 0..3000u32 {
+        let around = add_link(&mut net, i, 1, both);
+        let across = i % 2 == 1 || add_link(&mut net, i, 6 * i + 1, both);
+        let more = i % 500 > 0 || add_link(&mut net, i, 1000 + i / 250, both);
+        if !around || !across || !more {
+            return None;
+        }
+    }
+    Some(net)
+}
+
+/// It takes more where a few links more than three for each node change how forests grow.
+#[test]
+fn forests_need_nearly_all_links(rt: HostRuntime) {
+    let alloc = rt.alloc();
+    let linked = grown_early(alloc, wheel(alloc, false), true, 3);
+    let doubled = grown_early(alloc, wheel(alloc, true), false, 10);
+    assert!(rt; linked == Some(3) && doubled == Some(3));
+}
+
+/// A node with two hundred thousand links to each of three others.
+fn star(alloc: Global) -> Option<Network> {
+    let mut net = Network::new(alloc, 4);
+    for i in 0..600000u32 {
+        if !add(&mut net, 1, 2 + i % 3) {
+            return None;
+        }
+    }
+    Some(net)
+}
+
+/// It takes minutes where each forest passes all links of a node.
+#[test]
+fn forests_jump_over_parallel_arcs(rt: HostRuntime) {
+    let alloc = rt.alloc();
+    assert!(rt; grown_early(alloc, star(alloc), true, 0) == Some(200000));
+}

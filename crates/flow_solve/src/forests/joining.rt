@@ -16,6 +16,9 @@ use crate::residual::cells::{END, get, put};
 use crate::residual::half_arcs::{far, near};
 use flow_net::FlowTable;
 
+/// Where nodes have so many arcs on an average, or more, a search goes on from any node that it has seen.
+const MANY_ARCS: u32 = 24;
+
 /// A number, and how many looks and pushes are left.
 #[derive(Clone, Copy)]
 pub(crate) struct Budgeted {
@@ -134,16 +137,16 @@ impl Joining<'_> {
         around
     }
 
-    /// The node from which the search goes on: the one that it has seen first, and in a dense network any. There most
-    /// rows have the same nodes in the same order, so each unit would pass over the rows from which nothing leads on
-    /// any more.
+    /// The node from which the search goes on: the one that it has seen first, and where nodes have many arcs any. There
+    /// most rows have the same nodes in the same order, so each unit would pass over the rows from which nothing leads
+    /// on any more.
     fn next_seen(&mut self, ground: Ground<'_>) -> u32
         ensures at { self.new.at ≡ self.old.at }
         ensures left { self.new.left ≡ self.old.left }
     {
         let at = queue_at(ground, self.at);
         let first = get(self.hints, at);
-        if !ground.dense {
+        if ground.net.len() / MANY_ARCS < ground.net.nodes() {
             return first;
         }
         let ahead = u64::from(self.tail.wrapping_sub(self.at).max(1));

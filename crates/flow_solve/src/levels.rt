@@ -147,7 +147,6 @@ fn wave(task: Task<'_>, flow: &mut FlowTable, cells: &mut [u32], allowance: u64)
     let Task { packed, s, t } = task;
     let net = packed.net;
     send_waves(task, flow, cells, allowance);
-    cells.fill(0);
     if let Some(tested) = test_flow(Given { net, s, t }, flow, cells) {
         return tested;
     }

@@ -433,7 +433,7 @@ trait Stage {
 #[derive(Clone, Copy)]
 struct Outcome {
     reached: u128,
-    /// Whether the stages say that this is the greatest value.
+    /// Whether a test shows that this is the greatest value.
     is_finished: bool,
     raised: u128,
     greatest: u128,
@@ -445,7 +445,7 @@ impl Outcome {
         self.reached == reached && self.raised == greatest && self.greatest == greatest
     }
 
-    /// Whether both methods reach the same, and the stages no more, and no less if they say that it is greatest.
+    /// Whether both methods reach the same, and the stages no more, and no less if a test shows that it is greatest.
     fn is_possible(&self) -> bool {
         let most = self.greatest;
         self.raised == most && self.reached <= most && (!self.is_finished || self.reached == most)
@@ -511,22 +511,25 @@ fn is_shown_greatest(given: Given<'_>, flow: &mut FlowTable, cells: &mut [u32]) 
     }
 }
 
-/// The value of a flow, or 0 where it isn't feasible: then the table is cleared.
-fn value_of(given: Given<'_>, flow: &mut FlowTable, cells: &mut [u32]) -> u128
+/// What a test shows of a flow, or of that of value 0 where it isn't feasible: then the table is cleared.
+fn test_or_clear(given: Given<'_>, flow: &mut FlowTable, cells: &mut [u32]) -> Tested
     requires terminals { AreTerminals given.net.now given.s.now given.t.now }
     requires fits { Fits given.net.now flow.old.flows }
     requires cells { 4 * given.net.now.nodes ≤ length cells.old }
-    ensures { IsFlow given.entry.net.now given.entry.s.now given.entry.t.now flow.new.flows result }
+    ensures { IsFlow given.entry.net.now given.entry.s.now given.entry.t.now flow.new.flows result.value }
 {
     if let Some(tested) = test_flow(given, flow, cells) {
-        return tested.value;
+        return tested;
     }
     flow.clear();
-    0
+    Tested {
+        value: 0,
+        is_maximum: false,
+    }
 }
 
 /// Raises the empty flow by stages and by the phases after them. Answers the value that the stages reach, whether a
-/// test shows that it is greatest where they say so, and the value that the phases reach.
+/// test shows that it is greatest, and the value that the phases reach.
 fn run_stages<'a, S: Stage>(
     net: &'a Network,
     s: &'a [u32],
@@ -550,13 +553,17 @@ fn run_stages<'a, S: Stage>(
     let packed = Packed { net, first, halves };
     let given = Given { net, s, t };
     let has_ended = stage.begin(Task { packed, s, t }, flow, cells);
-    let is_finished = has_ended && is_shown_greatest(given, flow, cells);
+    let is_shown = has_ended && is_shown_greatest(given, flow, cells);
     pack(net, first, halves);
     let packed = Packed { net, first, halves };
     let task = Task { packed, s, t };
     stage.go_on(task, flow, cells);
-    let reached = value_of(given, flow, cells);
-    (reached, is_finished, run_phases(task, flow, cells, reached))
+    let Tested { value, is_maximum } = test_or_clear(given, flow, cells);
+    (
+        value,
+        is_shown || is_maximum,
+        run_phases(task, flow, cells, value),
+    )
 }
 
 /// A stage that may take as much as it is told.
@@ -613,7 +620,7 @@ struct Tally {
     carried: u32,
     /// In how many it did, and left something to the phases.
     between: u32,
-    /// In how many it said that what it reached is the greatest value.
+    /// In how many a test showed that what it reached is the greatest value.
     finished: u32,
 }
 

@@ -6,7 +6,7 @@
 //! that would be lifted to the ceiling waits for the next search. A wave ends when no excess is left below the ceiling,
 //! or when a new search is due. Every other node goes through its half-arcs backwards, by turns, so that excess does
 //! not drift to one side. In the end such waves return to the sources what no sink takes.
-ghost use Rattle.std.specs.Prelude.{◌≡◌, ◌*◌, ◌<◌, length};
+ghost use Rattle.std.specs.Prelude.{◌≡◌, ◌*◌, ◌<◌, ◌≤◌, length};
 ghost use Rattle.std.specs.List.{All};
 ghost use Rattle.flow_net.specs.Nets.{IsNode};
 ghost use Rattle.flow_net.specs.Flows.{Fits};
@@ -20,12 +20,13 @@ mod levelling;
 mod passing;
 
 use crate::levels::spending::spend;
+use crate::levels::testing::MARKED;
 use crate::residual::packing::Packed;
 use crate::task::Task;
 use discharging::discharge;
-use excess::{BARRED, UNSEEN, Wave};
+use excess::{BARRED, LEVELS, MARK, UNSEEN, Wave};
 use flow_net::FlowTable;
-use levelling::search_levels;
+use levelling::{count_excess, search_levels};
 use passing::{half_at, row_of};
 
 /// Sends as much over a half-arc of a source as remains there and as can be booked: nothing to a source, and to a sink
@@ -139,7 +140,8 @@ fn at_rest<'a>(cells: &'a mut [u32], nodes: u32, allowance: u64) -> Wave<'a>
     }
 }
 
-/// Sends waves from the sources towards the sinks, in so many steps at most.
+/// Sends waves from the sources towards the sinks, in so many steps at most. Marks the nodes that no more leads on from
+/// to a sink.
 fn send_there(task: Task<'_>, flow: &mut FlowTable, cells: &mut [u32], share: u64)
     requires task { IsTask task }
     requires cells { length cells.old ≡ 5 * task.packed.net.now.nodes }
@@ -147,9 +149,16 @@ fn send_there(task: Task<'_>, flow: &mut FlowTable, cells: &mut [u32], share: u6
     ensures fits { Fits task.entry.packed.net.now flow.new.flows }
     ensures steps { TakesSteps flow.old flow.new share }
 {
-    let mut wave = at_rest(cells, task.packed.net.nodes(), share);
+    let nodes = task.packed.net.nodes();
+    let mut wave = at_rest(cells, nodes, share);
     supply(task, flow, &mut wave);
     send(task, flow, &mut wave);
+    // Where all that could leave the sources has come to sinks, it leads on from the sources alone to none.
+    if count_excess(&wave) == 0 {
+        wave.cells[..nodes as usize].fill(0);
+        wave.set_levels(task.s, BARRED);
+    }
+    mark_unseen(cells, nodes);
 }
 
 /// Sends waves home to the sources with the excess that they left, in so many steps at most: the same way with sources
@@ -166,8 +175,28 @@ fn send_home(task: Task<'_>, flow: &mut FlowTable, cells: &mut [u32], share: u64
     send(Task { packed, s: t, t: s }, flow, &mut wave);
 }
 
-/// Sends waves from the sources towards the sinks, and home with what no sink takes. They take no more steps than are
-/// allowed, half of them each way, and where these don't suffice the flow that they leave isn't feasible.
+/// Marks the nodes that the last search hasn't seen, and no others.
+fn mark_unseen(cells: &mut [u32], nodes: u32)
+    requires { nodes ≤ length cells.old }
+    ensures { length cells.new ≡ length cells.old }
+{
+    for cell in cells[..nodes as usize].iter_mut() {
+        *cell = if *cell % LEVELS < BARRED { 0 } else { MARK };
+    }
+}
+
+/// Tells the test which nodes are marked.
+fn tell_marks(cells: &mut [u32], nodes: u32)
+    requires { nodes ≤ length cells.old }
+{
+    for cell in cells[..nodes as usize].iter_mut() {
+        *cell = if *cell < MARK { 0 } else { MARKED };
+    }
+}
+
+/// Sends waves from the sources towards the sinks, and home with what no sink takes. The first `n` cells mark the nodes
+/// from which nothing led on to a sink when they turned home. They take no more steps than are allowed, half of them
+/// each way, and where these don't suffice the flow that they leave isn't feasible.
 pub fn send_waves(task: Task<'_>, flow: &mut FlowTable, cells: &mut [u32], allowance: u64)
     requires task { IsTask task }
     requires cells { length cells.old ≡ 5 * task.packed.net.now.nodes }
@@ -177,4 +206,5 @@ pub fn send_waves(task: Task<'_>, flow: &mut FlowTable, cells: &mut [u32], allow
 {
     send_there(task, flow, cells, allowance / 2);
     send_home(task, flow, cells, allowance / 2);
+    tell_marks(cells, task.packed.net.nodes());
 }

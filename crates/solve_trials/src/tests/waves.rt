@@ -273,7 +273,8 @@ fn waves_agree_on_random_networks(rt: HostRuntime) {
 /// lets them take.
 const SHARE: u64 = 256;
 
-/// Whether waves alone reach the greatest value of a network, and so leave nothing to the phases.
+/// Whether waves alone reach the greatest value of a network and mark a set that shows it, and so leave nothing to the
+/// phases.
 fn waves_reach_all(
     rt: &impl Abort,
     alloc: Global,
@@ -283,7 +284,7 @@ fn waves_reach_all(
 ) -> bool {
     let waves = Waves(SHARE * u64::from(net.len()));
     let outcome = stages(rt, alloc, net, terminals, k, &waves);
-    0 < outcome.greatest && outcome.is(outcome.greatest, outcome.greatest)
+    outcome.is_finished && 0 < outcome.greatest && outcome.is(outcome.greatest, outcome.greatest)
 }
 
 /// How many layers there are, and how many nodes in each.

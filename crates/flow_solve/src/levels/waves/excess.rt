@@ -2,7 +2,7 @@
 //!
 //! Nodes are numbered from 1, and 0 stands for none. Levels count from 0 and are fewer than nodes. With `n` nodes the
 //! `5·n` cells of a stage are, in this order: `n` for each node's level plus [`LEVELS`] times its current place, which
-//! counts blocks if it has [`PLACES`] half-arcs or more; `n` for the search's queue, and then for each node the next
+//! counts blocks if it has [`PLACES`] half-arcs or more, and [`MARK`] if it is marked; `n` for the search's queue, and then for each node the next
 //! one with excess on its level; `n` for the first node with excess of each level; and two for each node's excess.
 ghost use Rattle.std.specs.Prelude.{◌≡◌, ◌+◌, ◌-◌, ◌*◌, ◌≤◌, length};
 ghost use Rattle.std.specs.List.{All};
@@ -11,7 +11,7 @@ ghost use Rattle.flow_solve.specs.levels.Waves.{HasCells, OnlyMarks};
 use crate::residual::cells::{CELL, get, put};
 
 /// So many levels fit the cell of a node. A node that is farther from the roots takes no part.
-const LEVELS: u32 = 1_048_576;
+pub(super) const LEVELS: u32 = 1_048_576;
 
 /// Stands for the level of a node that no search has seen, or that was lifted to the ceiling.
 pub(super) const UNSEEN: u32 = LEVELS - 1;
@@ -23,7 +23,10 @@ pub(super) const BARRED: u32 = LEVELS - 2;
 pub(super) const FARTHEST: u32 = LEVELS - 3;
 
 /// So many places fit the cell of a node: the half-arcs before its current place lead to no nearer level.
-pub(super) const PLACES: usize = 4096;
+pub(super) const PLACES: usize = 2048;
+
+/// Is added to the cell of a marked node: one that led to no sink when the waves turned home.
+pub(super) const MARK: u32 = 2_147_483_648;
 
 /// Waves under way.
 #[derive(Drop)]
@@ -88,7 +91,7 @@ impl Wave<'_> {
     pub(super) fn place(&self, node: u32) -> usize
         requires { (1 ≤ node) × (node ≤ length self.now.cells.now) }
     {
-        (self.cells[node as usize - 1] / LEVELS) as usize
+        (self.cells[node as usize - 1] % MARK / LEVELS) as usize
     }
 
     /// Sets a node's level and its current place.
@@ -96,8 +99,10 @@ impl Wave<'_> {
         requires { 1 ≤ node }
         ensures { OnlyMarks self.old self.new }
     {
-        let number = level % LEVELS + (place % PLACES) as u32 * LEVELS;
-        put(self.cells, node as usize - 1, number);
+        let at = node as usize - 1;
+        let mark = get(self.cells, at) / MARK * MARK;
+        let number = mark + level % LEVELS + (place % PLACES) as u32 * LEVELS;
+        put(self.cells, at, number);
     }
 
     /// Gives some nodes a level.

@@ -8,7 +8,7 @@ ghost use Rattle.flow_net.specs.Flows.{Fits};
 ghost use Rattle.flow_solve.specs.Steps.{PaysLooks};
 ghost use Rattle.flow_solve.specs.levels.Waves.{HasCells, HasLookedOut, IsWaving, OnlyMarks, StaysIn};
 
-use super::excess::{BARRED, FARTHEST, UNSEEN, Wave};
+use super::excess::{BARRED, FARTHEST, MARK, UNSEEN, Wave};
 use super::passing::{half_at, row_of};
 use crate::levels::spending::spend;
 use crate::residual::half_arcs::{head, twin};
@@ -20,7 +20,7 @@ use flow_net::{FlowTable, Network};
 const FUEL: u64 = 16;
 
 /// How many nodes have excess.
-fn count_excess(wave: &Wave<'_>) -> u32
+pub(super) fn count_excess(wave: &Wave<'_>) -> u32
     requires { length wave.now.cells.now ≡ 5 * wave.now.nodes }
 {
     let mut count = 0u32;
@@ -120,7 +120,9 @@ fn forget(cells: &mut [u32], nodes: u32)
     requires { length cells.old ≡ 5 * nodes }
 {
     let n = nodes as usize;
-    cells[..n].fill(UNSEEN);
+    for cell in cells[..n].iter_mut() {
+        *cell = *cell / MARK * MARK + UNSEEN;
+    }
     cells[2 * n..3 * n].fill(0);
 }
 

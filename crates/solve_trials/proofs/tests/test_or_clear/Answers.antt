@@ -1,8 +1,8 @@
--- `value_of`: a table that was cleared carries the flow of value 0.
+-- `test_or_clear`: a table that was cleared carries the flow of value 0.
 use Rattle.std.proofs.Common.{◌≡◌, ℕ, List, length, replicate, sym, subst, ap, ◌∙◌}
 use Rattle.flow_solve.specs.Solving.{IsFlow}
 use Rattle.flow_solve.proofs.Raises.{zero_flow}
-use Rattle.solve_trials.proofs.tests.value_of.Goals as goal
+use Rattle.solve_trials.proofs.tests.test_or_clear.Goals as goal
 
 pub returns : goal.returns
 returns c =

@@ -14,7 +14,7 @@
 //! phases start from zero. The stages before the phases take at most `n²·m` steps together, and the phases at most
 //! `3·n²·m`. Near sends and trees use rows of *entries* (`rows`, `entries`), in which an arc and its opposite may share
 //! one entry. The later stages need each half-arc in its row, and pack anew.
-ghost use Rattle.std.specs.Prelude.{◌≡◌, ◌+◌, ◌*◌, ◌≤◌, IfSome, IsTrue, drop, length};
+ghost use Rattle.std.specs.Prelude.{◌≡◌, ◌+◌, ◌*◌, ◌≤◌, IfSome, IsTrue, drop, length, true};
 ghost use Rattle.flow_net.specs.Limits.{AreTerminals};
 ghost use Rattle.flow_net.specs.NodeSets.{one_of};
 ghost use Rattle.flow_net.specs.Flows.{Fits, IsGreatest};
@@ -37,7 +37,9 @@ mod walking;
 pub(crate) mod waves;
 
 use crate::method::{Method, work_len};
+use crate::residual::half_arcs::Direction;
 use crate::residual::packing::{Packed, pack, pack_behind};
+use crate::sides::leads_on_packed;
 use crate::task::{Given, Task};
 use flow_net::{FlowTable, Network};
 use near_sends::send_near;
@@ -92,7 +94,7 @@ fn pack_first(given: Given<'_>, marks: &mut [u32], first: &mut [u32], halves: &m
     requires firsts { length first.old ≡ given.net.now.nodes + 1 }
     requires halves { length halves.old ≡ 2 * length given.net.now.arcs }
     ensures rows { HasRows given.entry.net.now first.new halves.new }
-    ensures packed { IsTrue result → IsPacked given.entry.net.now first.new halves.new }
+    ensures packed { result ≡ true → IsPacked given.entry.net.now first.new halves.new }
 {
     let Given { net, s, t } = given;
     if is_dense(net) {
@@ -185,7 +187,7 @@ fn run_in(
     ensures least { IsLeastCapacity given.entry.net.now (one_of given.entry.s.now) (one_of given.entry.t.now)
         result.value }
     ensures steps { TakesSteps flow.old flow.new (levels_bound given.entry.net.now) }
-    ensures packed { IsTrue result.is_packed → IsPacked given.entry.net.now first.new halves.new }
+    ensures packed { result.is_packed ≡ true → IsPacked given.entry.net.now first.new halves.new }
 {
     let Given { net, s, t } = given;
     let given_first = allowance(net);
@@ -223,7 +225,7 @@ fn run_stages(given: Given<'_>, flow: &mut FlowTable, work: &mut [u32]) -> Ran
     ensures least { IsLeastCapacity given.entry.net.now (one_of given.entry.s.now) (one_of given.entry.t.now)
         result.value }
     ensures steps { TakesSteps flow.old flow.new (levels_bound given.entry.net.now) }
-    ensures packed { IsTrue result.is_packed → ArePackedBehind given.entry.net.now work.new }
+    ensures packed { result.is_packed ≡ true → ArePackedBehind given.entry.net.now work.new }
     ensures rest { drop (work_cells given.entry.net.now) work.new ≡ drop (work_cells given.entry.net.now) work.old }
 {
     let net = given.net;
@@ -246,7 +248,7 @@ impl Method for Levels {
         (n * n).saturating_mul(u64::from(net.len()))
     }
 
-    fn greatest_flow(
+    fn greatest(
         net: &Network,
         s: &[u32],
         t: &[u32],
@@ -256,17 +258,17 @@ impl Method for Levels {
         run_stages(Given { net, s, t }, flow, work).value
     }
 
-    fn greatest(
-        net: &Network,
-        s: &[u32],
-        t: &[u32],
+    fn least_side(
+        given: Given<'_>,
+        direction: Direction,
         flow: &mut FlowTable,
         work: &mut [u32],
     ) -> u128 {
-        let ran = run_stages(Given { net, s, t }, flow, work);
+        let ran = run_stages(given, flow, work);
         if !ran.is_packed {
-            pack_behind(net, work);
+            pack_behind(given.net, work);
         }
+        leads_on_packed(given, direction, flow, work);
         ran.value
     }
 }

@@ -21,7 +21,6 @@ mod method;
 mod paths;
 mod residual;
 mod sides;
-mod solving;
 pub mod stages;
 mod task;
 

@@ -5,24 +5,27 @@
 //! walks it twice, for the least residual capacity and to push that. With `n` nodes the first `n` cells have the
 //! distances, the next `n` the half-arcs, and the next `n` the search's queue.
 ghost use Rattle.std.specs.Prelude.{◌≡◌, ℕ, ◌+◌, ◌-◌, ◌*◌, ◌<◌, ◌≤◌, IsTrue, IsFalse, IfSome, IfNone, length};
-ghost use Rattle.std.specs.Prelude.{slice_index, sum_by};
+ghost use Rattle.std.specs.Prelude.{drop, slice_index, sum_by};
 ghost use Rattle.std.specs.List.{All};
 ghost use Rattle.flow_net.specs.Nets.{Net, IsNode};
-ghost use Rattle.flow_net.specs.Limits.{IsNet};
+ghost use Rattle.flow_net.specs.Limits.{AreTerminals, IsNet};
 ghost use Rattle.flow_net.specs.NodeSets.{one_of};
-ghost use Rattle.flow_net.specs.Flows.{Fits};
+ghost use Rattle.flow_net.specs.Flows.{Fits, IsGreatest};
+ghost use Rattle.flow_net.specs.LeastCuts.{IsLeastCapacity};
 ghost use Rattle.flow_net.specs.Paths.{HasRoom, push_all};
 ghost use Rattle.flow_solve.specs.residual.Packs.{IsPacked};
 ghost use Rattle.flow_solve.specs.residual.Searches.{AreCells, HasMissed, HasSearched, seen};
-ghost use Rattle.flow_solve.specs.Bounds.{paths_bound};
+ghost use Rattle.flow_solve.specs.Bounds.{paths_bound, work_cells};
+ghost use Rattle.flow_solve.specs.Solving.{IsFlow};
 ghost use Rattle.flow_solve.specs.Steps.{OnlyLooks, TakesSteps};
+ghost use Rattle.flow_solve.specs.Task.{HasFlow, IsTask};
 ghost use Rattle.flow_solve.specs.residual.Trails.{IsFirstSeen, IsMost, IsSeenOf, IsTrail, halves_on};
 
 use crate::method::Method;
 use crate::residual::half_arcs::{Direction, head};
+use crate::residual::packing::{Packed, halves_in, pack_behind};
 use crate::residual::searching::{Plan, WANTED, search};
-use crate::solving::{Raise, solve};
-use crate::task::{Given, Sent, Task};
+use crate::task::{Given, Task};
 use flow_net::{FlowTable, Network};
 
 /// The first of some nodes that a search has seen.
@@ -130,42 +133,68 @@ fn augment_along(trail: Trail<'_>, flow: &mut FlowTable) -> u64
     amount
 }
 
+/// Raises the flow of value 0 along trails, until no source has one. Answers the greatest value.
+fn raise(task: Task<'_>, flow: &mut FlowTable, cells: &mut [u32]) -> u128
+    requires task { IsTask task }
+    requires cells { length cells.old ≡ 5 * task.packed.net.now.nodes }
+    requires flow { HasFlow task flow.old.flows 0 }
+    ensures flow { HasFlow task.entry flow.new.flows result }
+    ensures greatest { IsGreatest task.entry.packed.net.now (one_of task.entry.s.now) (one_of task.entry.t.now) result }
+    ensures least { IsLeastCapacity task.entry.packed.net.now (one_of task.entry.s.now) (one_of task.entry.t.now)
+        result }
+    ensures steps { TakesSteps flow.old flow.new (paths_bound task.entry.packed.net.now) }
+{
+    let Task { packed, s, t } = task;
+    let n = packed.net.nodes() as usize;
+    let (dist, rest) = cells.split_at_mut(n);
+    let (via, rest) = rest.split_at_mut(n);
+    let (queue, _) = rest.split_at_mut(n);
+    let plan = Plan {
+        packed,
+        direction: Direction::Backwards,
+        starts: t,
+        until: s,
+        enough: 1,
+    };
+    let mut raised = 0;
+    while let Some(source) = find_trail(plan, flow, dist, via, queue) {
+        let trail = Trail {
+            net: packed.net,
+            dist,
+            via,
+            source,
+        };
+        raised += u128::from(augment_along(trail, flow));
+    }
+    raised
+}
+
+/// Raises the flow of value 0 over half-arcs that it packs first. Answers the greatest value.
+fn solve(given: Given<'_>, flow: &mut FlowTable, work: &mut [u32]) -> u128
+    requires fits { Fits given.net.now flow.old.flows }
+    requires terminals { AreTerminals given.net.now given.s.now given.t.now }
+    requires cells { work_cells given.net.now ≤ length work.old }
+    ensures flow { IsFlow given.entry.net.now given.entry.s.now given.entry.t.now flow.new.flows result }
+    ensures greatest { IsGreatest given.entry.net.now (one_of given.entry.s.now) (one_of given.entry.t.now) result }
+    ensures least { IsLeastCapacity given.entry.net.now (one_of given.entry.s.now) (one_of given.entry.t.now) result }
+    ensures steps { TakesSteps flow.old flow.new (paths_bound given.entry.net.now) }
+    ensures rest { drop (work_cells given.entry.net.now) work.new ≡ drop (work_cells given.entry.net.now) work.old }
+{
+    let Given { net, s, t } = given;
+    flow.clear();
+    pack_behind(net, work);
+    let (cells, behind) = work.split_at_mut(5 * net.nodes() as usize);
+    let (first, halves) = halves_in(net, behind);
+    let packed = Packed { net, first, halves };
+    raise(Task { packed, s, t }, flow, cells)
+}
+
 /// Augments along a residual path as long as there is one, with a search for each.
 ///
 /// It takes at most `4·(C + 1)·n·m` steps, `C` being the sum of the capacities: that is what is proved. As its paths
 /// are shortest ones, it takes no more than some `n·m` searches either (Edmonds and Karp 1972). It suits small
 /// networks.
 pub struct Paths;
-
-impl Raise for Paths {
-    ghost steps_bound = { paths_bound };
-
-    fn raise(task: Task<'_>, flow: &mut FlowTable, cells: &mut [u32], begun: Sent) -> u128 {
-        let Task { packed, s, t } = task;
-        let n = packed.net.nodes() as usize;
-        let (dist, rest) = cells.split_at_mut(n);
-        let (via, rest) = rest.split_at_mut(n);
-        let (queue, _) = rest.split_at_mut(n);
-        let plan = Plan {
-            packed,
-            direction: Direction::Backwards,
-            starts: t,
-            until: s,
-            enough: 1,
-        };
-        let mut raised = begun.value;
-        while let Some(source) = find_trail(plan, flow, dist, via, queue) {
-            let trail = Trail {
-                net: packed.net,
-                dist,
-                via,
-                source,
-            };
-            raised += u128::from(augment_along(trail, flow));
-        }
-        raised
-    }
-}
 
 impl Method for Paths {
     ghost steps_bound = { paths_bound };
@@ -181,6 +210,6 @@ impl Method for Paths {
         flow: &mut FlowTable,
         work: &mut [u32],
     ) -> u128 {
-        solve::<Paths>(Given { net, s, t }, flow, work)
+        solve(Given { net, s, t }, flow, work)
     }
 }

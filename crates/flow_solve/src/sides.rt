@@ -14,7 +14,7 @@ ghost use Rattle.flow_solve.specs.Bounds.{work_cells};
 ghost use Rattle.flow_solve.specs.residual.Packs.{ArePackedBehind};
 ghost use Rattle.flow_solve.specs.Solving.{IsFlow};
 ghost use Rattle.flow_solve.specs.Task.{IsTask};
-ghost use Rattle.flow_solve.specs.Steps.{OnlyLooks, TakesSteps};
+ghost use Rattle.flow_solve.specs.Steps.{OnlyLooks};
 ghost use Rattle.flow_solve.specs.residual.Searches.{seen};
 ghost use Rattle.flow_solve.specs.Sides.{starts_of, until_of, IsLeastSide, IsLeastSinkSide, IsLeastSourceSide};
 ghost use Rattle.flow_solve.specs.Sides.{HasGreatestFlow, SeesSide};
@@ -73,8 +73,8 @@ fn leads_on(task: Task<'_>, direction: Direction, flow: &mut FlowTable, cells: &
     progress.wanted > 0
 }
 
-/// The same where the half-arcs stand packed in the cells of a solver.
-fn leads_on_packed(
+/// The same where the half-arcs stand packed in the cells of a solver. The first `n` cells of all have the distances.
+pub(crate) fn leads_on_packed(
     given: Given<'_>,
     direction: Direction,
     flow: &mut FlowTable,
@@ -181,33 +181,8 @@ pub fn reach_back(
     rises
 }
 
-/// Finds a flow of the greatest value, answers that value, and searches the residual network in a direction. The first
-/// `n` cells have the distances.
-fn solve_and_search<M: Method>(
-    given: Given<'_>,
-    direction: Direction,
-    flow: &mut FlowTable,
-    work: &mut [u32],
-) -> u128
-    requires fits { Fits given.net.now flow.old.flows }
-    requires terminals { AreTerminals given.net.now given.s.now given.t.now }
-    requires cells { work_cells given.net.now ≤ length work.old }
-    ensures flow { IsFlow given.entry.net.now given.entry.s.now given.entry.t.now flow.new.flows result }
-    ensures greatest { IsGreatest given.entry.net.now (one_of given.entry.s.now) (one_of given.entry.t.now) result }
-    ensures least { IsLeastCapacity given.entry.net.now (one_of given.entry.s.now) (one_of given.entry.t.now) result }
-    ensures side { IsLeastSide direction given.entry.net.now given.entry.s.now given.entry.t.now flow.new.flows
-        (seen (take given.entry.net.now.nodes work.new)) }
-    ensures steps { TakesSteps flow.old flow.new
-        (M.steps_bound given.entry.net.now + 2 * length given.entry.net.now.arcs) }
-    ensures rest { drop (work_cells given.entry.net.now) work.new ≡ drop (work_cells given.entry.net.now) work.old }
-{
-    let value = M::greatest(given.net, given.s, given.t, flow, work);
-    leads_on_packed(given, direction, flow, work);
-    value
-}
-
 /// Finds a flow of the greatest value as [`Method::greatest`] does, and answers that value; `side` marks the least
-/// source side, as [`reach`] does. The half-arcs are packed once for both.
+/// source side, as [`reach`] does.
 pub fn cut_nearest_sources<M: Method>(
     net: &Network,
     s: &[u32],
@@ -228,7 +203,7 @@ pub fn cut_nearest_sources<M: Method>(
     ensures steps { flow.new.steps ≤ flow.old.steps + M.steps_bound net.now + 2 * length net.now.arcs }
     ensures rest { drop (work_cells net.now) work.new ≡ drop (work_cells net.now) work.old }
 {
-    let value = solve_and_search::<M>(Given { net, s, t }, Direction::Forwards, flow, work);
+    let value = M::least_side(Given { net, s, t }, Direction::Forwards, flow, work);
     mark(&work[..net.nodes() as usize], side);
     value
 }
@@ -254,7 +229,7 @@ pub fn cut_nearest_sinks<M: Method>(
     ensures steps { flow.new.steps ≤ flow.old.steps + M.steps_bound net.now + 2 * length net.now.arcs }
     ensures rest { drop (work_cells net.now) work.new ≡ drop (work_cells net.now) work.old }
 {
-    let value = solve_and_search::<M>(Given { net, s, t }, Direction::Backwards, flow, work);
+    let value = M::least_side(Given { net, s, t }, Direction::Backwards, flow, work);
     mark(&work[..net.nodes() as usize], side);
     value
 }

@@ -7,5 +7,6 @@ pub use crate::levels::rows::{mark_terminals, pack_rows};
 pub use crate::levels::testing::{MARKED, Tested, test_flow};
 pub use crate::levels::trees::grow_trees;
 pub use crate::levels::waves::send_waves;
+pub use crate::residual::half_arcs::Direction;
 pub use crate::residual::packing::{Packed, pack};
 pub use crate::task::{Given, Task};

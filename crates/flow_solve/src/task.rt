@@ -24,12 +24,3 @@ pub struct Task<'a> {
     /// The sinks.
     pub t: &'a [u32],
 }
-
-/// A flow's value, and what may still be done.
-#[derive(Clone, Copy)]
-pub struct Sent {
-    /// The value.
-    pub value: u128,
-    /// How many steps may still be taken, and half-arcs passed by.
-    pub left: u64,
-}

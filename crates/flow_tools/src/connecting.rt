@@ -36,7 +36,7 @@ fn pair_value<M: Method>(
 {
     // Brings the network's limits, `IsNet`, into the proof.
     let _ = net.nodes();
-    M::greatest_flow(net, s, t, flow, work) as u64
+    M::greatest(net, s, t, flow, work) as u64
 }
 
 /// The connectivity, by a solve from each node to the next in the circle of all nodes: a set that is neither empty nor

@@ -106,7 +106,7 @@ fn add(net: &mut Network, src: u32, dst: u32, cap: u64) -> bool {
     }
 }
 
-/// A method with no more than each must say: its bound on steps, and `greatest`.
+/// A method with no more than each must say: its bound on steps, and `greatest`. It leaves nothing of use in its cells.
 struct Plain;
 
 impl Method for Plain {
@@ -119,7 +119,10 @@ impl Method for Plain {
         flow: &mut FlowTable,
         work: &mut [u32],
     ) -> u128 {
-        Paths::greatest(net, s, t, flow, work)
+        let value = Paths::greatest(net, s, t, flow, work);
+        let (own, _) = work.split_at_mut(work_len(net.nodes(), net.len()));
+        own.fill(u32::MAX);
+        value
     }
 }
 
@@ -173,7 +176,7 @@ fn run_solvers(net: &Network, s: &[u32], t: &[u32], flow: &mut FlowTable) -> Ans
     };
     let before = searches(net, s, t, flow, &mut work, &mut answer);
     answer.rises = before[0];
-    answer.value = Plain::greatest_flow(net, s, t, flow, &mut work);
+    answer.value = Plain::greatest(net, s, t, flow, &mut work);
     let same = Levels::greatest(net, s, t, flow, &mut work);
     let after = searches(net, s, t, flow, &mut work, &mut answer);
     answer.agree = before == [answer.rises; 3]

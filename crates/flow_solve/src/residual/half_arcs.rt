@@ -9,7 +9,7 @@ use flow_net::Network;
 
 /// Which way a search goes over the half-arcs of the residual network.
 #[derive(Clone, Copy)]
-pub(crate) enum Direction {
+pub enum Direction {
     /// From where a half-arc begins to where it leads.
     Forwards,
     /// From where a half-arc leads to where it begins.

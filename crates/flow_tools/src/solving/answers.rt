@@ -151,7 +151,7 @@ fn find_flow(network: &FlowNetwork, table: &mut FlowTable, work: &mut [u32]) -> 
         ≤ table.old.steps + 4 * network.now.net.nodes * network.now.net.nodes * length network.now.net.arcs }
 {
     let (net, s, t) = (network.net(), network.sources(), network.sinks());
-    Levels::greatest_flow(net, s, t, table, work)
+    Levels::greatest(net, s, t, table, work)
 }
 
 /// The same, and marks the source side of a minimum cut, by as many looks more as there are half-arcs.

@@ -6,6 +6,6 @@ use Rattle.flow_solve.proofs.sides.cut_nearest_sources.Goals as goal
 
 pub returns-clause-side : goal.returns-clause-side
 returns-clause-side g c =
-    let after = c.solve_and_search-value.new in
+    let after = c.least_side-value.new in
     side_marked Forwards c.args.net.now c.args.s.now c.args.t.now after.flow.flows after.work c.mark.new.side
-    (omega arith) c.mark.ensures c.solve_and_search-value.ensures.side
+    (omega arith) c.mark.ensures c.least_side-value.ensures.side

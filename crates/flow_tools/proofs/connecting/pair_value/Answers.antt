@@ -7,13 +7,13 @@ use Rattle.flow_tools.proofs.connecting.pair_value.Goals as goal
 
 pub returns-clause-pair : goal.returns-clause-pair
 returns-clause-pair g c =
-    solved_pair c.args.net.now (one_of c.args.s.now) (one_of c.args.t.now) c.greatest_flow.result c.requires.unit
-    c.greatest_flow.ensures.least
+    solved_pair c.args.net.now (one_of c.args.s.now) (one_of c.args.t.now) c.greatest.result c.requires.unit
+    c.greatest.ensures.least
 
 pub overflow_cast-result : goal.overflow_cast-result
 overflow_cast-result g c =
     let few = c.nodes.ensures.is_net.arcs_most in
-    let bounded = pair_bounded c.args.net.now (one_of c.args.s.now) (one_of c.args.t.now) c.greatest_flow.result
-    (solved_pair c.args.net.now (one_of c.args.s.now) (one_of c.args.t.now) c.greatest_flow.result c.requires.unit
-    c.greatest_flow.ensures.least) in
+    let bounded = pair_bounded c.args.net.now (one_of c.args.s.now) (one_of c.args.t.now) c.greatest.result
+    (solved_pair c.args.net.now (one_of c.args.s.now) (one_of c.args.t.now) c.greatest.result c.requires.unit
+    c.greatest.ensures.least) in
     omega arith

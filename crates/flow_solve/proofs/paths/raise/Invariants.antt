@@ -2,7 +2,7 @@
 use Rattle.std.proofs.Common.{◌+◌, ◌-◌, ◌*◌, ◌≤◌, length}
 use Rattle.flow_solve.specs.Bounds.{capacities}
 use Rattle.flow_solve.specs.Task.{HasFlow}
-use Rattle.flow_solve.proofs.paths.PathsRaise.raise.Given as goal
+use Rattle.flow_solve.proofs.paths.raise.Given as goal
 
 abbrev pub invariant-loop-source : goal.invariant-loop-source
 invariant-loop-source l = record {

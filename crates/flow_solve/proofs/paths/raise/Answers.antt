@@ -7,7 +7,7 @@ use Rattle.flow_solve.specs.residual.Searches.{seen}
 use Rattle.flow_solve.specs.Bounds.{capacities}
 use Rattle.flow_solve.proofs.ResidualLemmas.Routes.{searched_trails}
 use Rattle.flow_solve.proofs.Raises.{raised_by, settled, value_most, capacities_fit, paid_more, paid_all}
-use Rattle.flow_solve.proofs.paths.PathsRaise.raise.Goals as goal
+use Rattle.flow_solve.proofs.paths.raise.Goals as goal
 
 -- the search leaves the trail on which to augment
 pub augment_along-requires-clause-trail : goal.augment_along-requires-clause-trail

@@ -2,7 +2,7 @@
 //!
 //! 1. **Near sends** (`near_sends`) augment along paths over one node or two. No tree exists yet that they could break.
 //! 2. **Search trees** (`trees`; Boykov and Kolmogorov 2004) grow from the sources and the sinks and augment where they
-//!    touch. They end early if paths become expensive or the first one is long. A dense network has none, since a repair
+//!    touch. They end early if what they find is little for what they take. A dense network has none, since a repair
 //!    passes all half-arcs of a node.
 //! 3. **Waves** (`waves`) push excess towards the sinks, farthest level first (after Karzanov 1974), and relabel stuck
 //!    nodes (Goldberg and Tarjan 1988) up to a ceiling. They follow unless the flow after the trees is maximum.
@@ -59,7 +59,10 @@ fn is_dense(net: &Network) -> bool {
 
 /// How many times the number of arcs near sends, trees and the test after them may take, in steps and in half-arcs that
 /// they pass by.
-const OPENING_SHARE: u64 = 48;
+const OPENING_SHARE: u64 = 64;
+
+/// How many times the number of arcs near sends may take of that.
+const NEAR_SHARE: u64 = 4;
 
 /// How much near sends, trees and the test after them may take. A look at each arc is left for the test after waves.
 pub fn allowance(net: &Network) -> u64
@@ -122,7 +125,8 @@ fn open(task: Task<'_>, flow: &mut FlowTable, cells: &mut [u32], allowance: u64)
 {
     let Task { packed, s, t } = task;
     let net = packed.net;
-    let left = send_near(task, flow, cells, allowance);
+    let few = allowance.min(NEAR_SHARE * u64::from(net.len()));
+    let left = allowance - few + send_near(task, flow, cells, few);
     if is_dense(net) || !grow_trees(task, flow, cells, left) {
         return None;
     }

@@ -116,7 +116,7 @@ fn trees_alone_cut_an_image(rt: HostRuntime) {
 /// How many leaves the hub has, and how many paths lead to it and from it.
 const LEAVES: u32 = 3000;
 
-const WAYS: u32 = 16;
+const WAYS: u32 = 64;
 
 /// Adds a path of arcs with capacity 1 over so many nodes of its own, the first of which is given.
 #[must_use]

@@ -202,5 +202,6 @@ pub(crate) fn augment_over(
         behind: behind.len,
         amount,
     };
+    trees.earn(amount);
     push_through(packed, flow, trees, touch)
 }

@@ -48,6 +48,10 @@ pub(crate) struct Trees<'a> {
     pub left: u64,
     /// The trees are tired where no more than this is left: they have brought too little for what they took.
     pub floor: u64,
+    /// How much is missing of a maximum flow at most: the lesser of what could leave the sources and enter the sinks.
+    pub missing: u64,
+    /// How much they may take for all of that.
+    pub worth: u64,
 }
 
 /// Where a node's label stands: twice one more than its distance from the root when that was last looked at, and 1 more
@@ -135,7 +139,20 @@ pub(crate) fn above_in(cells: &[u32], node: u32) -> u32
     cells[above_cell(node)]
 }
 
+/// How much more the trees may take for each path that they find, however little it carries.
+const EARNED: u64 = 256;
+
 impl Trees<'_> {
+    /// Counts a path that carries an amount, and lets the trees go on for it.
+    pub(crate) fn earn(&mut self, amount: u64)
+        ensures { HaveMarked self.old self.new }
+    {
+        let part = u128::from(self.worth) * u128::from(amount) / u128::from(self.missing.max(1));
+        let part = u64::try_from(part).unwrap_or(u64::MAX);
+        self.time = self.time.saturating_add(1);
+        self.floor = self.floor.saturating_sub(part.saturating_add(EARNED));
+    }
+
     /// Whether the trees have taken so much for what they bring that they end.
     pub(crate) fn is_tired(&self) -> bool
         ensures { IsFalse result → 1 ≤ self.now.left }

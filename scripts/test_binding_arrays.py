@@ -8,11 +8,11 @@ from fractions import Fraction
 
 import pytest
 
-from binding_checks import exact_value, named_library, refused
+from binding_checks import exact_value, named_library, python, refused
 from independent import connectivity, cuts, least
 
 import provedflow
-from provedflow import arrays, calls, weights
+from provedflow import arrays, calls, library
 
 try:
     import numpy as np
@@ -115,7 +115,7 @@ REFUSED = [
     (ERROR, "sinks[0] is 2, and the nodes are 0 to 1", ([0], [1], [1], 0, 2, 2)),
     (ERROR, "there are 1 nodes, and 2 to ", ([0], [0], [1], 0, 1, 1)),
     (ERROR, f"and 2 to {provedflow.MOST_NODES} are taken", ([0], [provedflow.MOST_NODES], [1], 0, 1)),
-    (weights.Unbounded, "no cut has a value", ([0, 1, 1], [1, 2, 2], [INFINITE, 1.5, INFINITE], 0, 2)),
+    (library.Unbounded, "no cut has a value", ([0, 1, 1], [1, 2, 2], [INFINITE, 1.5, INFINITE], 0, 2)),
     (ERROR, "the weights add up to 2^1023 or more", ([0, 0], [1, 1], [9e307, 1.0], 0, 1)),
 ]
 if np:
@@ -151,6 +151,16 @@ def test_refused_by_other_calls():
     refused(ERROR, "dst[0] is 1, and the nodes are 0 to 0", provedflow.edge_connectivity, [0], [1], 1)
     refused(ERROR, "there are 1 nodes, and 2 to", provedflow.edge_connectivity, [0], [0], 1, sources=0, sinks=0)
     refused(ERROR, "and is 1000", provedflow.maximum_flow, [0, 0], [1, 1], [0.5, 10 ** 400], 0, 1)
+
+
+def test_without_numpy():
+    """Floats need NumPy, and whole numbers don't."""
+    code = """import sys; sys.modules["numpy"] = None; import provedflow
+print(provedflow.minimum_cut([0, 1], [1, 2], [2, True], 0, 2))
+provedflow.maximum_flow([0], [1], [0.5], 0, 1)"""
+    status, printed, errors = python("-c", code)
+    assert status and printed == "Cut(value=1, side=[True, True, False], flows=[1, 1])\n"
+    assert errors.endswith("ImportError: weights with fractions need NumPy\n")
 
 
 def test_one_node():
@@ -224,7 +234,7 @@ def test_floats(form, rough, checks):
         exact = exact_value(nodes, arcs)
         checks(3)
         if exact is None:
-            refused(weights.Unbounded, "no cut has a value", provedflow.minimum_cut, *given, 0, nodes - 1, nodes)
+            refused(library.Unbounded, "no cut has a value", provedflow.minimum_cut, *given, 0, nodes - 1, nodes)
             continue
         flow = provedflow.maximum_flow(*given, 0, nodes - 1, nodes)
         cut = provedflow.minimum_cut(*given, 0, nodes - 1, nodes, nearest=("sources", "sinks")[number % 2])

@@ -12,7 +12,7 @@ np = pytest.importorskip("numpy")
 
 from provedflow import pixels
 from provedflow.pixels import Grid, fits, steps
-from provedflow.weights import Unbounded
+from provedflow.library import FlowError, Unbounded
 
 SHAPES = {(8,): 2, (2, 4): 4, (3, 3): 8, (2, 2, 2): 6, (2, 1, 4): 26, (1, 3, 3): 18}
 """Small grids, each with how many neighbours its pixels have."""
@@ -205,26 +205,31 @@ def test_masked(call):
         call(Grid((2,), 2))
 
 
-@pytest.mark.parametrize("words, call", [
-    ("have to be whole numbers or floats, and are of the kind complex", lambda full: full.join_step(0, 0.5j)),
-    ("have to be whole numbers or floats", lambda full: full.join_step(0, [Fraction(1, 2)])),
-    ("go from -1 to -1", lambda full: full.join_step(0, -1)),
-    ("sources have to be numbers from 0, and at (1,) is nan", lambda full: full.add_terminals([1, np.nan], 0)),
-    ("sinks have to be numbers from 0, and at (0,) is -0.5", lambda full: full.add_terminals(0, [-0.5, 1])),
-    ("have to have the shape (1,), and have (2,)", lambda full: full.join_step(0, [1, 2])),
-    ("sources have to have the shape (2,), and have (3,)", lambda full: full.add_terminals([1, 2, 3], 0)),
-    ("add up to more than 18446744073709551615", lambda full: full.add_terminals([0, 1], 0)),
-    ("a grid of 2 axes has 4, 8 neighbours, not 6", lambda full: Grid((2, 2), 6)),
-    ("goes up to 9223372036854775808", lambda full: Grid((2,), 2).join(max, of=np.array([2 ** 63, 0], np.uint64))),
-    ("without a number of neighbours", lambda full: full.join(5)),
-    ("one pixel or more along each axis", lambda full: Grid((2, 0), 4)),
-    ("nearest has to be", lambda full: full.cut(nearest="middle")),
+FULL = Grid((2,))
+FULL.add_terminals(2 ** 64 - 1, 0)
+
+
+@pytest.mark.parametrize("kind, words, call", [
+    (TypeError, "step 0: weights has to have numbers, and is an array of complex", lambda: FULL.join_step(0, 0.5j)),
+    (TypeError, "weights[0] has to be a number, and is Fraction(1, 2)", lambda: FULL.join_step(0, [Fraction(1, 2)])),
+    (FlowError, "step 0: weights has to be a whole number from 0 to", lambda: FULL.join_step(0, -1)),
+    (FlowError, "step 0: back[0] has to be a number from 0, and is -0.5", lambda: FULL.join_step(0, 1, [-0.5])),
+    (FlowError, "sources[1] has to be a number from 0, and is nan", lambda: FULL.add_terminals([1, np.nan], 0)),
+    (FlowError, "sinks[1, 0] has to be a number from 0, and is -1.5", lambda: Grid((2, 2)).add_terminals(
+        0, [[1, 2], [-1.5, -0.5]])),
+    (FlowError, "sinks[0] has to be a whole number from 0 to", lambda: FULL.add_terminals(0, [2 ** 64, 1])),
+    (ValueError, "has to have the shape (1,), and has (2,)", lambda: FULL.join_step(0, [1, 2])),
+    (ValueError, "sources has to have the shape (2,), and has (3,)", lambda: FULL.add_terminals([1, 2, 3], 0)),
+    (ValueError, "add up to more than 18446744073709551615", lambda: FULL.add_terminals([0, 1], 0)),
+    (ValueError, "a grid of 2 axes has 4, 8 neighbours, not 6", lambda: Grid((2, 2), 6)),
+    (ValueError, "goes up to 9223372036854775808", lambda: Grid((2,), 2).join(max, of=np.array([2 ** 63, 0], np.uint64))),
+    (ValueError, "without a number of neighbours", lambda: FULL.join(5)),
+    (ValueError, "one pixel or more along each axis", lambda: Grid((2, 0), 4)),
+    (ValueError, "nearest has to be", lambda: FULL.cut(nearest="middle")),
 ])
-def test_refused(words, call):
+def test_refused(kind, words, call):
     """Weights and shapes that can't be taken."""
-    full = Grid((2,))
-    full.add_terminals(2 ** 64 - 1, 0)
-    refused(ValueError, words, call, full)
+    refused(kind, words, call)
 
 
 @pytest.mark.parametrize("step", [(0, 1, 1), (1,), (0, 0), 2, -3])

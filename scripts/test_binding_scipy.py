@@ -11,6 +11,7 @@ pytest.importorskip("scipy.sparse")
 from scipy.sparse import coo_matrix, csc_matrix, csr_matrix, lil_matrix
 from scipy.sparse.csgraph import maximum_flow as scipy_flow
 
+from provedflow.library import FlowError
 from provedflow.scipy import maximum_flow
 
 FORMATS, KINDS = (csr_matrix, csc_matrix, coo_matrix, lil_matrix), (np.int32, np.int64, np.uint16, np.uint64)
@@ -86,8 +87,8 @@ WHOLE = csr_matrix(np.array([[0, 1], [0, 0]]))
     (ValueError, "must differ", (WHOLE, 0, 0)),
     (ValueError, "between 0 and 1", (WHOLE, 0, 2)),
     (ValueError, "between 0 and 1", (WHOLE, -1, 1)),
-    (ValueError, "not be negative", (-WHOLE, 0, 1)),
-    (ValueError, "not be negative", (WHOLE * np.nan, 0, 1)),
+    (FlowError, "capacities[0] has to be a whole number from 0 to", (-WHOLE, 0, 1)),
+    (FlowError, "capacities[0] has to be a number from 0, and is nan", (WHOLE * np.nan, 0, 1)),
     (ValueError, "must be integers or floats", (WHOLE * 1j, 0, 1)),
     (ValueError, "square", (WHOLE[:1], 0, 1)),
 ])

@@ -1,12 +1,11 @@
-"""Arrays of machine integers, as the C library reads and writes them, out of what Python has.
+"""Arrays of machine integers, as the C library reads and writes them, and of floats, out of what Python has.
 
-NumPy is never imported here: only where it is loaded can there be an array of it.
+NumPy is imported for floats in lists alone: only where it is loaded can there be an array of it.
 """
 
 import array
 import operator
 import sys
-from numbers import Integral
 
 from provedflow.library import GREATEST_CAPACITY, FlowError
 
@@ -60,68 +59,59 @@ class Buffer:
 
 
 def read(thing, kind, name, fractions=False):
-    """The elements of an array or a sequence, as a list for the library. Where fractions may be and one element is a
-    float, all are floats: an array of float64 for an array of NumPy, and else a list.
+    """The elements of an array or a sequence, as a list for the library; where fractions may be and one element is a
+    float, an array of float64 in its place.
 
-    Raises TypeError where an element is no such number, and FlowError where one is out of range or the array has more
-    than one axis.
+    Raises TypeError where an element is no such number, FlowError where one is out of range or the array has more than
+    one axis, and ImportError where floats in a list need NumPy, and it isn't installed.
     """
-    numpy = sys.modules.get("numpy")
-    if numpy and isinstance(thing, numpy.ndarray):
-        found = read_numpy(numpy, thing, kind, name, fractions)
-        return found if found.dtype.kind == "f" else Buffer(found)
+    refuse_masked(thing, name)
+    if numpy_of([thing]):
+        if thing.ndim != 1:
+            raise FlowError(f"{name} has to have one axis, and has the shape {thing.shape}")
+        if thing.dtype.kind != "O":
+            return read_numpy(thing, kind, name, fractions)
     if isinstance(thing, array.array) and thing.typecode == kind:
         return Buffer(thing)
-    thing = listed(thing, name)
+    numbers = listed(thing, name)
     try:
-        return Buffer(array.array(kind, thing))
+        return Buffer(array.array(kind, numbers))
     except (TypeError, OverflowError, ValueError):
-        found = floats_of(thing) if fractions else None
-        if found is None:
-            complain(thing, kind, name, fractions)
-            raise
-        return found
+        numbers = list(map(plain, numbers))
+    has_floats = fractions and any(isinstance(number, float) for number in numbers)
+    most = sys.float_info.max if has_floats else GREATEST[kind]
+    for place, number in enumerate(numbers):
+        check_number(number, most, kind, f"{name}[{place}]", fractions)
+    return floats_of(numbers) if has_floats else Buffer(array.array(kind, numbers))
 
 
 def listed(thing, name):
-    """The elements of anything but an array of NumPy, as a sequence of Python's numbers."""
-    if thing is None or isinstance(thing, (str, bytes, bytearray)):
-        raise TypeError(f"{name} has to be an array or a sequence of numbers, and is {type(thing).__name__}")
-    if isinstance(thing, (memoryview, array.array)):
-        return thing.tolist()
-    if not isinstance(thing, (list, tuple, range)):
-        try:
-            thing = list(thing)
-        except TypeError:
-            raise TypeError(f"{name} has to be an array or a sequence of numbers, and is {thing!r}") from None
+    """The elements of a sequence, or whatever can be gone through, as a list."""
+    is_text = thing is None or isinstance(thing, (str, bytes, bytearray))
+    try:
+        thing = thing.tolist() if isinstance(thing, memoryview) else list(None if is_text else thing)
+    except TypeError:
+        what = type(thing).__name__ if is_text else repr(thing)
+        raise TypeError(f"{name} has to be an array or a sequence of numbers, and is {what}") from None
     refuse_masked(thing, name)
     return thing
 
 
+def check_number(number, most, kind, place, fractions):
+    """Checks that an element is a number, and not out of range."""
+    is_float = fractions and isinstance(number, float)
+    number = number if is_float else whole(number, place, "a number" if fractions else "a whole number")
+    if not 0 <= number <= (INFINITE if is_float else most):
+        raise out_of_range(place, number, kind)
+
+
 def floats_of(numbers):
-    """Floats and whole numbers from 0 as a list of floats; None where there are none of the former, or others."""
-    numbers = list(map(plain, numbers))
-    kinds = set(map(type, numbers))
-    if float not in kinds or not all(issubclass(kind, (float, Integral)) for kind in kinds):
-        return None
+    """Numbers as an array of floats, for which NumPy is imported."""
     try:
-        return list(map(float, numbers)) if all(number >= 0 for number in numbers) else None
-    except OverflowError:
-        return None
-
-
-def complain(thing, kind, name, fractions):
-    """Raises an error about the first element that is no number for the library."""
-    for place, element in enumerate(thing):
-        number = plain(element)
-        if not (fractions and isinstance(number, float)):
-            try:
-                number = operator.index(element)
-            except TypeError:
-                what = "a number" if fractions else "a whole number"
-                raise TypeError(f"{name}[{place}] has to be {what}, and is {element!r}") from None
-        if not 0 <= number <= (GREATEST[kind] if isinstance(number, int) else INFINITE):
-            raise out_of_range(f"{name}[{place}]", number, kind) from None
+        import numpy
+    except ImportError:
+        raise ImportError("weights with fractions need NumPy") from None
+    return numpy.array(list(map(float, numbers)))
 
 
 def out_of_range(place, number, kind):
@@ -130,44 +120,41 @@ def out_of_range(place, number, kind):
     return FlowError(f"{place} has to be {'a node' if kind == NODE else what}, and is {number}")
 
 
-def read_numpy(numpy, thing, kind, name, fractions):
-    """The same for a NumPy array: the array itself if its elements lie as they are read, else a converted copy."""
-    refuse_masked(thing, name)
-    if thing.ndim != 1:
-        raise FlowError(f"{name} has to have one axis, and has the shape {thing.shape}")
-    if thing.dtype.kind == "O":
-        found = read(thing.tolist(), kind, name, fractions)
-        return numpy.frombuffer(found.keeper, TYPES[kind]) if isinstance(found, Buffer) else numpy.array(found)
-    floats = fractions and thing.dtype.kind == "f" and thing.dtype.itemsize <= 8
-    if thing.dtype.kind not in "biu" and not floats:
-        raise TypeError(f"{name} has to have {'' if fractions else 'whole '}numbers, and is an array of {thing.dtype}")
-    if thing.size and thing.dtype.kind in "if" and not thing.min() >= 0:  # which nan isn't
-        place = int(thing.argmin())
-        raise out_of_range(f"{name}[{place}]", thing[place].item(), kind)
-    if floats:
+def read_numpy(thing, kind, name, fractions):
+    """The same for an array of NumPy: where its elements lie as they are read, no copy is made."""
+    numpy = sys.modules["numpy"]
+    check_numbers(thing, kind, name, fractions)
+    if thing.dtype.kind == "f":
         return numpy.ascontiguousarray(thing, numpy.float64)
-    if thing.dtype.itemsize > BYTES[kind] and thing.size and thing.max() > GREATEST[kind]:
-        place = int(thing.argmax())
-        raise out_of_range(f"{name}[{place}]", int(thing[place]), kind)
     fits = thing.dtype.itemsize == BYTES[kind] and thing.dtype.isnative
     if fits and thing.flags.c_contiguous and thing.flags.aligned:
-        return thing
-    return numpy.ascontiguousarray(thing, TYPES[kind])
+        return Buffer(thing)
+    return Buffer(numpy.ascontiguousarray(thing, TYPES[kind]))
+
+
+def check_numbers(thing, kind, name, fractions):
+    """Checks the kind of an array of NumPy, with any number of axes, and that no element is out of range."""
+    if thing.dtype.kind not in ("biuf" if fractions else "biu") or thing.dtype.itemsize > 8:
+        raise TypeError(f"{name} has to have {'' if fractions else 'whole '}numbers, and is an array of {thing.dtype}")
+    place, is_wide = None, thing.dtype.itemsize > BYTES[kind]
+    if thing.size and thing.dtype.kind in "if" and not thing.min() >= 0:  # which nan isn't
+        place = thing.argmin()
+    elif thing.size and is_wide and thing.max() > GREATEST[kind]:
+        place = thing.argmax()
+    if place is not None:
+        place = sys.modules["numpy"].unravel_index(place, thing.shape)
+        raise out_of_range(f"{name}{list(map(int, place)) or ''}", thing[place].item(), kind)
 
 
 def refuse_masked(thing, name):
     """Checks that no element of an array, or of lists of these, is masked: what lies below a mask is no number of the
     caller's."""
     numpy = sys.modules.get("numpy")
-    if numpy and is_masked(numpy, thing):
+    if isinstance(thing, (list, tuple)) and numpy and not set(map(type, thing)) <= {int, float}:
+        for element in thing:
+            refuse_masked(element, name)
+    elif numpy and isinstance(thing, numpy.ma.MaskedArray) and numpy.ma.is_masked(thing):
         raise TypeError(f"{name} has masked elements, which are no numbers")
-
-
-def is_masked(numpy, thing):
-    """Whether an array or a list has an element that is masked."""
-    if isinstance(thing, (list, tuple)):
-        return not set(map(type, thing)) <= {int, float} and any(is_masked(numpy, element) for element in thing)
-    return isinstance(thing, numpy.ma.MaskedArray) and bool(numpy.ma.is_masked(thing))
 
 
 def room(numpy, kind, length):
@@ -175,11 +162,6 @@ def room(numpy, kind, length):
     if numpy:
         return Buffer(numpy.empty(length, TYPES[kind]))
     return Buffer(array.array(kind, bytes(length * array.array(kind).itemsize)))
-
-
-def answer(buffer):
-    """What the library has written, as an answer to the caller."""
-    return buffer.keeper.tolist() if isinstance(buffer.keeper, array.array) else buffer.keeper
 
 
 def terminals(thing, name):
@@ -192,9 +174,9 @@ def terminals(thing, name):
     return read(thing, NODE, name)
 
 
-def whole(number, name):
-    """A number that a parameter asks for, as an int."""
+def whole(number, name, what="a whole number"):
+    """A whole number of any kind as an int."""
     try:
         return operator.index(number)
     except TypeError:
-        raise TypeError(f"{name} has to be a whole number, and is {number!r}") from None
+        raise TypeError(f"{name} has to be {what}, and is {number!r}") from None

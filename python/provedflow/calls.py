@@ -4,15 +4,11 @@ from __future__ import annotations
 
 import ctypes
 import threading
-from array import array
-from itertools import compress
 from typing import TYPE_CHECKING, Any, Literal, NamedTuple, Optional, Union
 
-from provedflow.arrays import (
-    AMOUNT, INFINITE, NODE, Buffer, answer, as_given, numpy_of, read, room, terminals, whole)
+from provedflow.arrays import AMOUNT, NODE, Buffer, as_given, numpy_of, read, room, terminals, whole
 from provedflow.library import (
-    ARC, MEMORY, MOST_ARCS, MOST_LINKS, MOST_NODES, OK, TERMINALS, FlowError, library)
-from provedflow.weights import Unbounded, Unit
+    ARC, MEMORY, MOST_ARCS, MOST_LINKS, MOST_NODES, OK, TERMINALS, FlowError, Unbounded, library)
 
 if TYPE_CHECKING:
     from collections.abc import Iterable
@@ -94,7 +90,7 @@ def maximum_flow(src: Numbers, dst: Numbers, capacities: Weights, sources: Nodes
     Flow(value=0.75, flows=[0.5, 0.25, 0.75])
     """
     given = Network(src, dst, sources, sinks, nodes, capacities=capacities)
-    found = given.solve("sources" if given.unit else None)
+    found = given.solve()
     return Flow(given.value(found, False), given.flows(found))
 
 
@@ -115,7 +111,8 @@ def minimum_cut(src: Numbers, dst: Numbers, capacities: Weights, sources: Nodes,
     """
     given = Network(src, dst, sources, sinks, nodes, capacities=capacities)
     found = given.solve(nearest)
-    return Cut(given.value(found, True), found.side, given.flows(found))
+    side = found.side if given.in_numpy else list(map(bool, found.side))
+    return Cut(given.value(found, True), side, given.flows(found))
 
 
 def edge_connectivity(src: Numbers, dst: Numbers, nodes: Optional[SupportsIndex] = None, *,
@@ -172,29 +169,20 @@ def check(src: Numbers, dst: Numbers, capacities: Numbers, sources: Nodes, sinks
     given = Network(src, dst, sources, sinks, nodes, capacities=capacities, flows=flows)
     verdict, words = ctypes.c_uint32(), Words()
     given.ask("provedflow_check_lists", *given.lists(), ctypes.byref(verdict), *words.addresses())
-    word = WORDS[verdict.value]
-    if word in ("greatest", "feasible"):
-        return Verdict(word, words.signed_value(), None)
-    return Verdict(word, None, words.value())
+    word, number = WORDS[verdict.value], words.value()
+    return Verdict(word, number, None) if word in ("greatest", "feasible") else Verdict(word, None, number)
 
 
-class Words:
-    """The two words of a value, for the library to write."""
-
-    def __init__(self):
-        self.words = (ctypes.c_uint64 * 2)()
+class Words(ctypes.c_uint64 * 2):
+    """The two words of a value, for the library to write: 128 bits in two's complement."""
 
     def addresses(self):
         """Where the upper and the lower word lie."""
-        return ctypes.byref(self.words), ctypes.byref(self.words, 8)
+        return ctypes.byref(self), ctypes.byref(self, 8)
 
     def value(self):
-        """The value, an int."""
-        return (self.words[0] << 64) + self.words[1]
-
-    def signed_value(self):
-        """The value, an int that may be negative: the words are those of 128 bits in two's complement."""
-        return self.value() - (self.words[0] >> 63 << 128)
+        """The value, an int that may be negative."""
+        return (self[0] << 64) + self[1] - (self[0] >> 63 << 128)
 
 
 class Found(NamedTuple):
@@ -213,9 +201,10 @@ class Network:
 
     def __init__(self, src, dst, sources, sinks, nodes, **amounts):
         src, dst, sources, sinks, *given = map(as_given, (src, dst, sources, sinks, *amounts.values()))
-        self.numpy = numpy_of([src, dst, sources, sinks, *given])
         self.src, self.dst = read(src, NODE, "src"), read(dst, NODE, "dst")
         self.amounts = {name: read(thing, AMOUNT, name, "flows" not in amounts) for name, thing in zip(amounts, given)}
+        self.in_numpy = numpy_of([src, dst, sources, sinks, *given])
+        self.numpy = self.in_numpy or numpy_of(self.amounts.values())
         self.sources, self.sinks = terminals(sources, "sources"), terminals(sinks, "sinks")
         self.arcs = len(self.src)
         self.nodes = self.count_nodes() if nodes is None else whole(nodes, "nodes")
@@ -227,30 +216,23 @@ class Network:
     def weigh(self, weights):
         """Counts weights that are floats in the unit that two cuts give: the nearest to the terminals that have no
         infinite weight."""
+        from provedflow.weights import Unit  # which needs NumPy
         self.check_ends()
-        src, dst = self.src.keeper, self.dst.keeper
-        if self.numpy:
-            src, dst, weights = map(self.numpy.asarray, (src, dst, weights))
-            endless = weights == INFINITE
-            some = [things[endless] for things in (src, dst, endless)]
-        else:
-            endless = [weight == INFINITE for weight in weights]
-            some = [list(compress(things, endless)) for things in (src, dst, endless)]
+        src, dst = map(self.numpy.asarray, (self.src.keeper, self.dst.keeper))
         self.weights = src, dst, weights
-        infinite = Network(*some[:2], self.sources.keeper, self.sinks.keeper, self.nodes, capacities=some[2])
+        endless = self.numpy.isinf(weights)
+        infinite = Network(src[endless], dst[endless], self.sources.keeper, self.sinks.keeper, self.nodes,
+                           capacities=endless[endless])
         found = [infinite.solve(nearest) for nearest in ("sources", "sinks")]
         if found[0].value:
             raise Unbounded
-        self.unit = Unit(self.numpy, *(self.leaving(side) for _, side, _ in found))
-        units = self.unit.units(weights)
-        self.amounts["capacities"] = Buffer(units if self.numpy else array(AMOUNT, units))
+        self.unit = Unit(*(self.leaving(side) for _, side, _ in found))
+        self.amounts["capacities"] = Buffer(self.unit.units(weights))
 
     def leaving(self, side):
         """The weights of the arcs that leave a side."""
         src, dst, weights = self.weights
-        if self.numpy:
-            return weights[side[src] & ~side[dst]]
-        return [weight for u, v, weight in zip(src, dst, weights) if side[u] and not side[v]]
+        return weights[side[src] & ~side[dst]]
 
     def lists(self):
         """The lists as the library takes them, with the number of nodes before them."""
@@ -258,17 +240,17 @@ class Network:
         return [self.nodes, self.src, self.dst, *amounts[:1], self.sources, self.sinks, *amounts[1:]]
 
     def solve(self, nearest=None):
-        """A maximum flow, or with a terminal that it is nearest a minimum cut too, as the library counts."""
+        """A maximum flow, as the library counts; with a terminal that it is nearest, or a unit, a minimum cut too."""
         if nearest is not None and nearest not in NEAREST:
             raise ValueError(f"nearest has to be 'sources' or 'sinks', and is {nearest!r}")
+        nearest = nearest or (self.unit and "sinks")
         flows, words = room(self.numpy, AMOUNT, self.arcs), Words()
         if nearest is None:
             self.ask("provedflow_flow_lists", *self.lists(), flows, *words.addresses())
             return Found(words.value(), None, flows)
         side = room(self.numpy, "B", self.nodes)
         self.ask("provedflow_cut_lists", *self.lists(), NEAREST[nearest], flows, side, *words.addresses())
-        marks = answer(side)
-        return Found(words.value(), marks.view("bool") if self.numpy else list(map(bool, marks)), flows)
+        return Found(words.value(), side.keeper.view("bool") if self.numpy else side.keeper, flows)
 
     def value(self, found, of_cut):
         """The value of a flow or a cut that was found."""
@@ -278,7 +260,8 @@ class Network:
 
     def flows(self, found):
         """The flows that were found, as an answer to the caller."""
-        return answer(found.flows) if self.unit is None else self.unit.amounts(answer(found.flows))
+        flows = self.unit.amounts(found.flows.keeper) if self.unit else found.flows.keeper
+        return flows if self.in_numpy else flows.tolist()
 
     def count_nodes(self):
         """One more than the greatest node that is named, and at least 2."""

@@ -8,10 +8,9 @@ from numbers import Integral, Rational, Real
 
 import networkx as nx
 
-from provedflow.arrays import plain
+from provedflow.arrays import INFINITE, floats_of, plain
 from provedflow.library import GREATEST_CAPACITY
 
-INFINITE = float("inf")
 MOST_PIECES = 8_000_000
 """The most arcs that great capacities are split into; more would take gigabytes."""
 
@@ -47,8 +46,6 @@ def number_of(amount):
 
 def is_number(amount):
     """Whether this is a number that can be compared, infinite or not; nan isn't, and neither is a text."""
-    if isinstance(amount, (str, bytes)) or amount is None:
-        return False
     try:
         return bool(amount > 0 or amount <= 0) and (amount in (INFINITE, -INFINITE) or bool(amount.as_integer_ratio()))
     except Exception:  # Whatever a foreign kind does where it is no number.
@@ -76,19 +73,24 @@ def kind_of(amounts):
 
 
 def whole_amounts(capacities, kind):
-    """The capacities as whole numbers of a unit, and how many of these make 1."""
-    if kind is int:
-        return capacities, 1
-    amounts = list(map(as_fraction, capacities))
-    scale = math.lcm(*(amount.denominator for amount in amounts))
-    return [int(amount * scale) for amount in amounts], scale
+    """The capacities as whole numbers of a unit, how many of these make 1, and what an infinite one counts as: more
+    than all others together, so that no minimum cut has it. Floats stay as they are."""
+    if kind is float:
+        return capacities, 1, INFINITE
+    amounts, scale = [0 if amount == INFINITE else amount for amount in capacities], 1
+    if kind is Fraction:
+        amounts = list(map(as_fraction, amounts))
+        scale = math.lcm(*(amount.denominator for amount in amounts))
+        amounts = [int(amount * scale) for amount in amounts]
+    most = 1 + sum(amounts)
+    return [most if given == INFINITE else amount for given, amount in zip(capacities, amounts)], scale, most
 
 
-def split(srcs, dsts, amounts, scale):
+def split(srcs, dsts, amounts, kind, scale):
     """The arcs as arrays, one of more than the greatest capacity as several beside each other, and how many each is;
     None where each is one. The amounts are floats or whole numbers of 1/scale."""
-    if any(type(amount) is float for amount in amounts):
-        return (array("I", srcs), array("I", dsts), amounts), None
+    if kind is float:
+        return (array("I", srcs), array("I", dsts), floats_of(amounts)), None
     if max(amounts, default=0) <= GREATEST_CAPACITY:
         return (array("I", srcs), array("I", dsts), array("Q", amounts)), None
     parts = [max(1, -(-amount // GREATEST_CAPACITY)) for amount in amounts]

@@ -1,5 +1,7 @@
 """Graphs of NetworkX as arrays, and the residual networks that its own functions read."""
 
+import contextlib
+import gc
 import math
 from array import array
 from fractions import Fraction
@@ -7,52 +9,50 @@ from fractions import Fraction
 import networkx as nx
 
 from provedflow import calls
-from provedflow.capacities import (
-    INFINITE, TooMuch, as_fraction, edges_of, joined, kind_of, number_of, split, whole_amounts)
-from provedflow.library import MOST_ARCS, MOST_LINKS, MOST_NODES, FlowError
-from provedflow.weights import Unbounded
+from provedflow.arrays import INFINITE
+from provedflow.capacities import TooMuch, as_fraction, edges_of, joined, kind_of, number_of, split, whole_amounts
+from provedflow.library import MOST_ARCS, MOST_LINKS, MOST_NODES, FlowError, Unbounded
+
+
+@contextlib.contextmanager
+def collector_paused():
+    """Pauses the garbage collector, which would go through all lists again and again while they grow."""
+    was_running = gc.isenabled()
+    gc.disable()
+    try:
+        yield
+    finally:
+        if was_running:
+            gc.enable()
 
 
 class Problem:
-    """The arcs of a graph, with capacities that are floats or brought to whole numbers."""
+    """Arcs between some nodes, with capacities that are floats or brought to whole numbers."""
 
-    def __init__(self, G, capacity):
-        check_kind(G)
-        check_size(len(G), 0)
-        self.G, self.numbers = G, {node: number for number, node in enumerate(G)}
-        self.edges = edges_of(G, capacity)
-        self.both_ways = not G.is_directed()
-        given = [amount for _, _, amount in self.edges]
-        self.kind = kind_of(given)
-        self.unit = None  # of floats, which each call has its own for
-        amounts, self.scale, self.most = (given, 1, INFINITE) if self.kind is float else self.finite_amounts(given)
-        srcs, dsts = [self.numbers[u] for u, _, _ in self.edges], [self.numbers[v] for _, v, _ in self.edges]
-        if self.both_ways:
-            srcs, dsts, amounts = srcs + dsts, dsts + srcs, amounts * 2
-        check_size(0, len(amounts))
-        self.arcs, self.parts = split(srcs, dsts, amounts, self.scale)
-
-    def finite_amounts(self, given):
-        """The capacities in whole numbers of a unit, how many units make 1, and what an infinite one counts as: more
-        than all others together, so that no minimum cut has it."""
-        amounts, scale = whole_amounts([0 if amount == INFINITE else amount for amount in given], self.kind)
-        most = 1 + sum(amounts) * (2 if self.both_ways else 1)
-        return [most if amount == INFINITE else units for amount, units in zip(given, amounts)], scale, most
+    def __init__(self, nodes, arcs):
+        self.numbers, self.arcs = {node: number for number, node in enumerate(nodes)}, arcs
+        check_size(len(self.numbers), len(arcs))
+        amounts = [amount for _, _, amount in arcs]
+        self.kind, self.unit = kind_of(amounts), None  # each call has a unit of floats of its own
+        amounts, self.scale, self.most = whole_amounts(amounts, self.kind)
+        srcs, dsts = [self.numbers[u] for u, _, _ in arcs], [self.numbers[v] for _, v, _ in arcs]
+        self.lists, self.parts = split(srcs, dsts, amounts, self.kind, self.scale)
 
     def solve(self, s, t, nearest=None):
-        """A maximum flow, or with a terminal that it is nearest a minimum cut: the value, and all that was found."""
-        check_ends(self.G, s, t)
-        network, found = solved(self.arcs, self.numbers[s], self.numbers[t], len(self.numbers), self.most, nearest)
+        """A flow or a cut: its value, which has to be less than what an infinite capacity counts as, the flow of each
+        arc in units, and of a minimum cut for each node whether it is on the side of s."""
+        try:
+            network = calls.Network(*self.lists[:2], self.numbers[s], self.numbers[t], len(self.numbers),
+                                    capacities=self.lists[2])
+            found = network.solve(nearest)
+        except Unbounded:
+            found = None
+        except FlowError as failure:
+            raise nx.NetworkXError(str(failure)) from None
+        if found is None or found.value >= self.most:
+            raise nx.NetworkXUnbounded("Infinite capacity path, flow unbounded above.")
         self.unit, value = network.unit, network.value(found, nearest is not None)
-        return value if self.unit else self.answer(value), found
-
-    def cut(self, s, t):
-        """The value of the minimum cut nearest t, and its two sides."""
-        value, found = self.solve(s, t, "sinks")
-        sides = set(), set()
-        for node, side in zip(self.numbers, found.side):
-            sides[not side].add(node)
-        return value, sides
+        return value if self.unit else self.answer(value), joined(found.flows.keeper.tolist(), self.parts), found.side
 
     def answer(self, units):
         """A number of units as an answer."""
@@ -60,11 +60,34 @@ class Problem:
             return math.ldexp(units, -self.unit.shift)
         return units if self.kind is int else Fraction(units, self.scale)
 
-    def flow_dict(self, G, flows):
+
+class GraphProblem(Problem):
+    """The edges of a graph as such arcs, both ways where it isn't directed."""
+
+    @collector_paused()
+    def __init__(self, G, capacity):
+        check_kind(G)
+        edges = edges_of(G, capacity)
+        super().__init__(G, edges if G.is_directed() else edges + [(v, u, amount) for u, v, amount in edges])
+        self.G = G
+
+    def solve(self, s, t, nearest=None):
+        check_ends(self.G, s, t)
+        return super().solve(s, t, nearest)
+
+    def cut(self, s, t):
+        """The value of the minimum cut nearest t, and its two sides."""
+        value, _, inside = self.solve(s, t, "sinks")
+        sides = set(), set()
+        for node, side in zip(self.numbers, inside):
+            sides[not side].add(node)
+        return value, sides
+
+    @collector_paused()
+    def flow_dict(self, flows):
         """The flow of each edge as in NetworkX: of two opposite arcs only the one that carries more has its surplus."""
-        rows = {u: dict.fromkeys(row, 0) for u, row in G.adjacency()}
-        ways = self.edges + ([(v, u, most) for u, v, most in self.edges] if self.both_ways else [])
-        for (u, v, _), units in zip(ways, joined(flows, self.parts)):
+        rows = {u: dict.fromkeys(row, 0) for u, row in self.G.adjacency()}
+        for (u, v, _), units in zip(self.arcs, flows):
             back = rows[v].get(u, 0)
             if back:
                 rows[v][u] = max(0, back - units)
@@ -78,6 +101,7 @@ class Problem:
 class EdgeUnits:
     """The edges of a graph as arcs that carry one unit each."""
 
+    @collector_paused()
     def __init__(self, G):
         check_kind(G)
         self.G, self.names = G, list(G)
@@ -128,6 +152,7 @@ class NodeUnits(EdgeUnits):
         return {self.names[end // 2] for arc in self.cut_arcs(s, t) for end in arc} - {s, t}
 
 
+@collector_paused()
 def residual_rows(G, capacity):
     """The edges of the residual network of a graph, as NetworkX's `build_residual_network` makes them, with no flow:
     a dict of attributes for each, in a dict of dicts; and the number that stands for an infinite capacity there."""
@@ -146,6 +171,7 @@ def residual_rows(G, capacity):
     return rows, infinite
 
 
+@collector_paused()
 def graph_of(rows, infinite):
     """The residual network of these rows. They become its own, where `add_edges_from` would copy each attribute."""
     R = nx.DiGraph(inf=infinite)
@@ -157,46 +183,35 @@ def graph_of(rows, infinite):
     return R
 
 
+@collector_paused()
 def send(rows, s, t, cutoff, infinite):
     """Sets the flows of a residual network without flows to a maximum flow, and answers its value."""
-    arcs = [(u, v, attr) for u, row in rows.items() for v, attr in row.items() if attr["capacity"] > 0]
-    given = [number_of(attr["capacity"]) for _, _, attr in arcs]
-    kind = kind_of(given)
-    if kind is float:
-        amounts, scale = [INFINITE if amount == infinite else float(amount) for amount in given], 1
-    else:
-        amounts, scale = whole_amounts(given, kind)
-    numbers = {node: number for number, node in enumerate(rows)}
-    src, dst, units = [numbers[u] for u, _, _ in arcs], [numbers[v] for _, v, _ in arcs], list(amounts)
-    source, nodes = numbers[s], len(numbers)
+    edges = [(u, v, attr) for u, row in rows.items() for v, attr in row.items() if attr["capacity"] > 0]
+    given = [INFINITE if attr["capacity"] == infinite else number_of(attr["capacity"]) for _, _, attr in edges]
+    nodes, arcs, source = list(rows), [(u, v, amount) for (u, v, _), amount in zip(edges, given)], s
     if cutoff is not None and cutoff != INFINITE:  # one node more becomes the source, with an arc that takes no more
-        limit = max(as_fraction(cutoff), 0) * scale
-        src, dst, units = src + [nodes], dst + [source], units + [float(limit) if kind is float else math.ceil(limit)]
-        source, nodes = nodes, nodes + 1
-    check_size(nodes, len(units))
-    lists, parts = split(src, dst, units, scale)
-    most = INFINITE if kind is float else as_fraction(infinite) * scale
-    network, found = solved(lists, source, numbers[t], nodes, most, "sinks" if kind is float else None)
-    value = network.value(found, False)
-    for (u, v, attr), carried in zip(arcs, joined(found.flows.keeper, parts)):
+        limit, source = max(as_fraction(cutoff), 0), object()
+        arcs.append((source, s, float(limit) if kind_of(given) is float else math.ceil(limit)))
+        nodes.append(source)
+    problem = Problem(nodes, arcs)
+    value, flows, inside = problem.solve(source, t)
+    for (u, v, attr), carried in zip(edges, flows):
         if carried:
             attr["flow"] += carried
             rows[v][u]["flow"] -= carried
-    if network.unit:
-        inside = {u for u, side in zip(rows, found.side) if side}
-        set_floats(rows, arcs, network.unit, inside)
-    elif kind is Fraction:
-        value = Fraction(value, scale)
+    if problem.unit:
+        set_floats(rows, edges, problem.unit, {u for u, side in zip(rows, inside) if side})
+    elif problem.kind is Fraction:
         for row in rows.values():
             for attr in row.values():
-                attr["flow"] = Fraction(attr["flow"], scale)
+                attr["flow"] = problem.answer(attr["flow"])
     return value
 
 
 def set_floats(rows, arcs, unit, inside):
     """Sets the flows of a residual network, which are in units, to floats. The flow of an edge is its capacity only
     where it is full; edges of less than a unit are so where they leave the minimum cut."""
-    for (u, v, attr), most in zip(arcs, unit.units([float(attr["capacity"]) for _, _, attr in arcs])):
+    for (u, v, attr), most in zip(arcs, unit.units([float(attr["capacity"]) for _, _, attr in arcs]).tolist()):
         flow, capacity = attr["flow"], float(attr["capacity"])
         is_full = type(flow) is int and flow == most and (most or u in inside and v not in inside)
         if is_full or type(flow) is int and flow > 0:
@@ -206,21 +221,6 @@ def set_floats(rows, arcs, unit, inside):
     for row in rows.values():
         for attr in row.values():
             attr["flow"] = float(attr["flow"])
-
-
-def solved(lists, source, sink, nodes, most, nearest):
-    """The network of these lists, and a flow or a cut of it as the library counts, whose value has to be less than
-    what an infinite capacity counts as."""
-    try:
-        network = calls.Network(*lists[:2], source, sink, nodes, capacities=lists[2])
-        found = network.solve(nearest or ("sources" if network.unit else None))
-        if found.value < most:
-            return network, found
-    except Unbounded:
-        pass
-    except FlowError as failure:
-        raise nx.NetworkXError(str(failure)) from None
-    raise nx.NetworkXUnbounded("Infinite capacity path, flow unbounded above.")
 
 
 def check_ends(G, s, t):

@@ -22,6 +22,13 @@ class FlowError(ValueError):
     """The arrays are no network with its terminals. The text says what is wrong, and where."""
 
 
+class Unbounded(FlowError):
+    """Each cut has an infinite weight."""
+
+    def __init__(self):
+        super().__init__("a path of infinite weights leads from a source to a sink, so no cut has a value")
+
+
 class LibraryNotFound(OSError):
     """The C library libprovedflow.so.0 isn't where it is looked for, or can't be loaded."""
 

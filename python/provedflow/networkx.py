@@ -11,61 +11,42 @@
 
 The functions of `ALGORITHMS` have the parameters and the results of NetworkX's functions of the same names; of several
 maximum flows or minimum cuts of a whole graph the result is one, and not always NetworkX's. `flow_func`, `auxiliary`
-and `residual` are accepted and ignored. NetworkX finds them as the backend `provedflow`: by
-`backend="provedflow"`, or wherever `nx.config.backend_priority` names it. `flow_func`, the function, takes the place of
-NetworkX's own in whatever takes one; the residual network that it has to make takes most of its time.
+and `residual` are accepted and ignored. The function `flow_func` takes the place of NetworkX's own in whatever takes
+one; the residual network that it has to make takes most of its time.
 
-What a graph means is as with NetworkX: nodes of any kind, directed graphs and undirected ones, whose edges have their
-capacity each way; an edge without the attribute, or of capacity float("inf"), is infinite; self-loops and edges of
-capacity 0 or less carry nothing; a path of infinite edges from s to t raises NetworkXUnbounded. Multigraphs raise
-NetworkXError, but for `edge_connectivity`, where each of several parallel edges counts.
+What a graph means is as with NetworkX: an edge without the attribute is infinite, as one of float("inf") is; self-loops
+and edges of capacity 0 or less carry nothing. Multigraphs raise NetworkXError, but for `edge_connectivity`, where each
+of several parallel edges counts.
 
 Capacities may be ints of any size, floats, Fractions and Decimals. Where one is a float, all are, and are rounded as
-`provedflow.maximum_flow` says: the value is a float with the attribute `gap`, and each flow the nearest float to what
-it is in units; in the residual network of `flow_func` it is the capacity just where the edge is full. All others are
-brought to a common denominator, exactly, so that the problem that is solved is the one given: where all are whole, so
-are all answers, and else they are Fractions. A capacity of 2^64 or more becomes several arcs; where that makes too
-many, the NetworkXError says how to round.
+`provedflow.maximum_flow` says, with the attribute `gap`; in the residual network of `flow_func` the flow of an edge is
+its capacity just where it is full. All others are brought to a common denominator, exactly: where all are whole, so are
+all answers, and else they are Fractions. A capacity of 2^64 or more becomes several arcs.
 
-Raised, beside what is said above: NetworkXError where s or t isn't in the graph, where they are the same, where a
-capacity is None, a text, nan or no number at all (with the edge), and beyond the limits of 268,435,456 nodes and
-1,073,741,824 arcs, or 536,870,912 edges where links are counted; where nodes are cut or their connectivity is asked
-for, each node is two with an arc between them, and an edge without direction two arcs; MemoryError;
-provedflow.LibraryNotFound where the C library isn't there.
+Raised: NetworkXUnbounded where a path of infinite edges leads from s to t; NetworkXError where s or t isn't in the
+graph, where they are the same, where a capacity is no number (with the edge), where capacities differ too much (with
+how to round), and beyond the limits of 268,435,456 nodes and 1,073,741,824 arcs, or 536,870,912 edges where links are
+counted; where nodes are cut or their connectivity is asked for, each node is two with an arc between them, and an edge
+without direction two arcs; MemoryError; ImportError for floats without NumPy; provedflow.LibraryNotFound.
 """
 
 from __future__ import annotations
 
-import contextlib
-import gc
 import inspect
 import types
 from array import array
 from itertools import combinations, permutations
-from typing import Any, Iterator
+from typing import Any
 
 import networkx as nx
 from networkx.algorithms import flow as theirs
 
 from provedflow import calls
 from provedflow.graphs import (
-    EdgeUnits, NodeUnits, Problem, check_ends, check_kind, check_size, graph_of, residual_rows, send)
+    EdgeUnits, GraphProblem, NodeUnits, check_ends, check_kind, check_size, graph_of, residual_rows, send)
 from provedflow.library import MOST_LINKS
 
 
-@contextlib.contextmanager
-def collector_paused() -> Iterator[None]:
-    """Pauses the garbage collector, which would go through all lists again and again while they grow."""
-    was_running = gc.isenabled()
-    gc.disable()
-    try:
-        yield
-    finally:
-        if was_running:
-            gc.enable()
-
-
-@collector_paused()
 def maximum_flow(flowG: Any, _s: Any, _t: Any, capacity: str = "capacity",
                  flow_func: Any = None) -> tuple[Any, dict[Any, dict[Any, Any]]]:
     """Finds a flow of the greatest value: the pair of its value and a dict of dicts, flows[u][v].
@@ -80,18 +61,16 @@ def maximum_flow(flowG: Any, _s: Any, _t: Any, capacity: str = "capacity",
     >>> maximum_flow(G, "s", "t")
     (2.5, {'s': {'a': 2.5}, 'a': {'t': 2.5}, 't': {}})
     """
-    problem = Problem(flowG, capacity)
-    value, found = problem.solve(_s, _t)
-    return value, problem.flow_dict(flowG, found.flows.keeper)
+    problem = GraphProblem(flowG, capacity)
+    value, flows, _ = problem.solve(_s, _t)
+    return value, problem.flow_dict(flows)
 
 
-@collector_paused()
 def maximum_flow_value(flowG: Any, _s: Any, _t: Any, capacity: str = "capacity", flow_func: Any = None) -> Any:
     """Finds the greatest value of a flow; the parameters are those of `maximum_flow`."""
-    return Problem(flowG, capacity).solve(_s, _t)[0]
+    return GraphProblem(flowG, capacity).solve(_s, _t)[0]
 
 
-@collector_paused()
 def minimum_cut(flowG: Any, _s: Any, _t: Any, capacity: str = "capacity",
                 flow_func: Any = None) -> tuple[Any, tuple[set[Any], set[Any]]]:
     """Finds a minimum cut: the pair of its value and a partition of the nodes, a set with _s and a set with _t.
@@ -106,16 +85,14 @@ def minimum_cut(flowG: Any, _s: Any, _t: Any, capacity: str = "capacity",
     >>> value, sorted(one_side), sorted(other_side)
     (4, ['a', 'b', 's'], ['t'])
     """
-    return Problem(flowG, capacity).cut(_s, _t)
+    return GraphProblem(flowG, capacity).cut(_s, _t)
 
 
-@collector_paused()
 def minimum_cut_value(flowG: Any, _s: Any, _t: Any, capacity: str = "capacity", flow_func: Any = None) -> Any:
     """Finds the capacity of a minimum cut; the parameters are those of `maximum_flow`."""
-    return Problem(flowG, capacity).solve(_s, _t, "sinks")[0]
+    return GraphProblem(flowG, capacity).solve(_s, _t, "sinks")[0]
 
 
-@collector_paused()
 def gomory_hu_tree(G: Any, capacity: str = "capacity", flow_func: Any = None) -> Any:
     """Finds a Gomory-Hu tree of an undirected graph: the least `weight` of an edge between two nodes in it is the value
     of a minimum cut between them in the graph.
@@ -129,7 +106,7 @@ def gomory_hu_tree(G: Any, capacity: str = "capacity", flow_func: Any = None) ->
         raise nx.NetworkXNotImplemented("not implemented for directed type")
     if not G:
         raise nx.NetworkXError("Empty Graph does not have a Gomory-Hu tree representation")
-    problem, (root, *others) = Problem(G, capacity), G
+    problem, (root, *others) = GraphProblem(G, capacity), G
     parents, weights = dict.fromkeys(others, root), {}
     for node in others:
         parent = parents[node]
@@ -147,7 +124,6 @@ def gomory_hu_tree(G: Any, capacity: str = "capacity", flow_func: Any = None) ->
     return tree
 
 
-@collector_paused()
 def edge_connectivity(G: Any, s: Any = None, t: Any = None, flow_func: Any = None, cutoff: Any = None) -> int:
     """Finds how many edges must fail before the graph falls apart, or before t can't be reached from s; at most the
     cutoff.
@@ -166,17 +142,16 @@ def edge_connectivity(G: Any, s: Any = None, t: Any = None, flow_func: Any = Non
     edges = list(G.edges())
     src, dst = array("I", [numbers[u] for u, _ in edges]), array("I", [numbers[v] for _, v in edges])
     pair = {"sources": numbers[s], "sinks": numbers[t]} if is_pair else {}
-    return limited(calls.edge_connectivity(src, dst, len(G), directed=G.is_directed(), **pair), cutoff)
+    links = calls.edge_connectivity(src, dst, len(G), directed=G.is_directed(), **pair)
+    return links if cutoff is None else min(links, cutoff)
 
 
-@collector_paused()
 def local_edge_connectivity(G: Any, s: Any, t: Any, flow_func: Any = None, auxiliary: Any = None, residual: Any = None,
                             cutoff: Any = None) -> int:
     """Finds how many edges must fail before t can't be reached from s; at most the cutoff."""
     return edge_connectivity(G, s, t, cutoff=cutoff)
 
 
-@collector_paused()
 def minimum_edge_cut(G: Any, s: Any = None, t: Any = None, flow_func: Any = None) -> set[tuple[Any, Any]]:
     """Finds a least set of edges whose removal cuts t off from s, or some node from another.
 
@@ -199,7 +174,6 @@ def minimum_edge_cut(G: Any, s: Any = None, t: Any = None, flow_func: Any = None
     return next(cut for cut in (units.cut(u, v) for u, v in ways) if len(cut) == least)
 
 
-@collector_paused()
 def minimum_st_edge_cut(G: Any, s: Any, t: Any, flow_func: Any = None, auxiliary: Any = None,
                         residual: Any = None) -> set[tuple[Any, Any]]:
     """Finds a least set of edges whose removal cuts t off from s."""
@@ -207,7 +181,6 @@ def minimum_st_edge_cut(G: Any, s: Any, t: Any, flow_func: Any = None, auxiliary
     return EdgeUnits(G).cut(s, t)
 
 
-@collector_paused()
 def node_connectivity(G: Any, s: Any = None, t: Any = None, flow_func: Any = None) -> int:
     """Finds how many nodes must fail before the graph falls apart or one is left, or before t can't be reached from s.
 
@@ -222,14 +195,13 @@ def node_connectivity(G: Any, s: Any = None, t: Any = None, flow_func: Any = Non
     return min((units.count(u, v) for u, v in parted_pairs(G)), default=len(G) - 1)
 
 
-@collector_paused()
 def local_node_connectivity(G: Any, s: Any, t: Any, flow_func: Any = None, auxiliary: Any = None, residual: Any = None,
                             cutoff: Any = None) -> int:
     """Finds how many paths from s to t there are at most that share no other node; at most the cutoff."""
-    return limited(NodeUnits(G).count(s, t), cutoff)
+    paths = NodeUnits(G).count(s, t)
+    return paths if cutoff is None else min(paths, cutoff)
 
 
-@collector_paused()
 def minimum_node_cut(G: Any, s: Any = None, t: Any = None, flow_func: Any = None) -> set[Any]:
     """Finds a least set of nodes whose removal cuts t off from s, or the graph into parts, or leaves one node.
 
@@ -243,7 +215,6 @@ def minimum_node_cut(G: Any, s: Any = None, t: Any = None, flow_func: Any = None
     return min((units.cut(u, v) for u, v in pairs), key=len, default=set(list(G)[1:]))
 
 
-@collector_paused()
 def minimum_st_node_cut(G: Any, s: Any, t: Any, flow_func: Any = None, auxiliary: Any = None,
                         residual: Any = None) -> set[Any]:
     """Finds a least set of nodes whose removal cuts t off from s; it is empty where an edge joins the two."""
@@ -251,7 +222,6 @@ def minimum_st_node_cut(G: Any, s: Any, t: Any, flow_func: Any = None, auxiliary
     return set() if G.has_edge(s, t) or G.has_edge(t, s) else NodeUnits(G).cut(s, t)
 
 
-@collector_paused()
 def all_pairs_node_connectivity(G: Any, nbunch: Any = None, flow_func: Any = None) -> dict[Any, dict[Any, int]]:
     """Finds the local node connectivity of all pairs of nodes, or of those of nbunch, as a dict of dicts."""
     nodes, units = list(G) if nbunch is None else list(set(nbunch)), NodeUnits(G)
@@ -263,14 +233,12 @@ def all_pairs_node_connectivity(G: Any, nbunch: Any = None, flow_func: Any = Non
     return found
 
 
-@collector_paused()
 def average_node_connectivity(G: Any, flow_func: Any = None) -> float:
     """Finds the average of the local node connectivity of all pairs of nodes."""
     found = [paths for row in all_pairs_node_connectivity(G).values() for paths in row.values()]
     return sum(found) / len(found) if found else 0
 
 
-@collector_paused()
 def flow_func(G: Any, s: Any, t: Any, capacity: str = "capacity", residual: Any = None, value_only: bool = False,
               cutoff: Any = None) -> Any:
     """Finds a maximum flow, and returns the residual network that NetworkX's functions read.
@@ -310,11 +278,6 @@ def check_connected(G):
     """Checks that a graph is connected."""
     if not (nx.is_weakly_connected if G.is_directed() else nx.is_connected)(G):
         raise nx.NetworkXError("Input graph is not connected")
-
-
-def limited(found, cutoff):
-    """A number, or the cutoff where that is less."""
-    return found if cutoff is None else min(found, cutoff)
 
 
 def parted_pairs(G):

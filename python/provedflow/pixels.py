@@ -13,25 +13,25 @@ sink. A cut puts each pixel on one of two sides, and costs the weights of the ed
 for the pixels on the sink's side, as with PyMaxflow. Weights are whole numbers from 0 to 2^64 - 1, or floats, where
 infinity is an edge that must not be cut; where one is a float, all are.
 
-A pixel's weights to both terminals cost one arc: the lesser of the two is paid by every cut, so it is added to the
-value, and only what the other is more becomes an arc. So a grid takes one arc for each pixel and two for each pair of
-neighbours: of 1,073,741,824 arcs and 268,435,456 nodes there is room for 14,654 x 14,654 pixels with 4 neighbours,
-10,923 x 10,923 with 8, 535 x 535 x 535 voxels with 6, and 342 x 342 x 342 with 26.
+A grid takes one arc for each pixel and two for each pair of neighbours: of 1,073,741,824 arcs and 268,435,456 nodes
+there is room for 14,654 x 14,654 pixels with 4 neighbours, 10,923 x 10,923 with 8, 535 x 535 x 535 voxels with 6, and
+342 x 342 x 342 with 26.
 """
 
 from __future__ import annotations
 
 import operator
+from copy import copy
 from itertools import product
 from math import prod
 from typing import TYPE_CHECKING, Any, Callable, Literal, NamedTuple, Optional, Union
 
 import numpy as np
 
-from provedflow.arrays import refuse_masked
+from provedflow.arrays import AMOUNT, check_numbers, read, refuse_masked
 from provedflow.calls import minimum_cut
-from provedflow.library import GREATEST_CAPACITY, MOST_ARCS, MOST_NODES
-from provedflow.weights import Unbounded, Unit, exact_sum
+from provedflow.library import GREATEST_CAPACITY, MOST_ARCS, MOST_NODES, Unbounded
+from provedflow.weights import Unit, exact_sum
 
 if TYPE_CHECKING:
     from collections.abc import Sequence
@@ -150,8 +150,8 @@ class Grid:
         parts = self.step_of(step)
         shape = tuple(max(0, size - abs(part)) for size, part in zip(self.shape, parts))
         check_room(self.shape, [done for done, _, _ in self.joined] + [parts], None)
-        there = as_weights(weights, shape, f"the weights of the step {step}")
-        back = there if back is None else as_weights(back, shape, f"the weights of the step {step} back")
+        there = as_weights(weights, shape, f"step {step}: weights")
+        back = there if back is None else as_weights(back, shape, f"step {step}: back")
         self.joined.append((parts, there, back))
 
     def step_of(self, step):
@@ -204,7 +204,7 @@ class Grid:
             masks, is_endless = [mask for _, mask in found], found[0].value
         if is_endless:
             raise Unbounded
-        unit = Unit(np, *map(self.paid, masks))
+        unit = Unit(*map(self.paid, masks))
         found = self.changed(unit.units).cut(nearest)
         return Cut(unit.value(found.value, unit.lost(self.paid(found.mask)), True), found.mask)
 
@@ -214,11 +214,10 @@ class Grid:
 
     def changed(self, change):
         """A grid like this one with other weights."""
-        other = Grid(self.shape)
+        other = copy(self)
         other.terminals = list(map(change, self.terminals))
-        for step, there, back in self.joined:
-            new = change(there)
-            other.joined.append((step, new, new if back is there else change(back)))
+        other.joined = [(step, new := change(there), new if back is there else change(back))
+                        for step, there, back in self.joined]
         return other
 
     def paid(self, mask):
@@ -231,7 +230,7 @@ class Grid:
 
     def arcs(self):
         """The ends and the capacities of all arcs. The source is the node after the last pixel, and the sink the one
-        after that. Arcs of capacity 0 to these are left out."""
+        after that. Every cut pays the lesser of a pixel's two weights, so only what the other is more is an arc."""
         nodes = np.arange(prod(self.shape), dtype=np.uint32).reshape(self.shape)
         sources, sinks = (weights.ravel() for weights in self.terminals)
         near, far = np.flatnonzero(sources > sinks), np.flatnonzero(sources < sinks)
@@ -266,19 +265,14 @@ def as_weights(weights, shape, name):
     """Weights as an array of this shape of 64 bits each, floats or whole numbers."""
     refuse_masked(weights, name)
     weights = np.asarray(weights)
-    kind, size = weights.dtype.kind, weights.size
-    if kind == "O" and not all(isinstance(weight, int) for weight in weights.flat):
-        raise ValueError(f"{name} have to be whole numbers or floats")
-    if kind not in "biuOf" or weights.dtype.itemsize > 8:
-        raise ValueError(f"{name} have to be whole numbers or floats, and are of the kind {weights.dtype}")
-    if size and kind == "f" and not weights.min() >= 0:  # which nan isn't
-        place = np.unravel_index(weights.argmin(), weights.shape)
-        raise ValueError(f"{name} have to be numbers from 0, and at {tuple(map(int, place))} is {weights[place]}")
-    if size and kind != "f" and (weights.min() < 0 or int(weights.max()) > GREATEST_CAPACITY):
-        raise ValueError(f"{name} go from {weights.min()} to {weights.max()}, and 0 to {GREATEST_CAPACITY} are taken")
+    if weights.dtype.kind == "O":
+        found = read(weights.ravel(), AMOUNT, name, True)
+        weights = np.asarray(getattr(found, "keeper", found)).reshape(weights.shape)
+    check_numbers(weights, AMOUNT, name, True)
     if weights.ndim and weights.shape != shape:
-        raise ValueError(f"{name} have to have the shape {shape}, and have {weights.shape}")
-    return np.broadcast_to(weights.astype(np.float64 if size and kind == "f" else np.uint64), shape)
+        raise ValueError(f"{name} has to have the shape {shape}, and has {weights.shape}")
+    has_floats = weights.size and weights.dtype.kind == "f"
+    return np.broadcast_to(weights.astype(np.float64 if has_floats else np.uint64), shape)
 
 
 def fits(shape, all_steps):
@@ -298,6 +292,6 @@ def check_room(shape, all_steps, neighbours):
     while fits((side + 1,) * len(shape), all_steps):
         side += 1
     square = " x ".join([f"{side:,}"] * len(shape))
-    joined = f" with {neighbours} neighbours" if neighbours else f" with {len(all_steps)} steps to neighbours"
-    raise ValueError(f"a grid of {' x '.join(f'{size:,}' for size in shape)} pixels{joined} doesn't fit: it has "
+    joined = f"{neighbours} neighbours" if neighbours else f"{len(all_steps)} steps to neighbours"
+    raise ValueError(f"a grid of {' x '.join(f'{size:,}' for size in shape)} pixels with {joined} doesn't fit: it has "
                      f"{pixels:,} pixels, and {most:,} fit surely, as {square}")

@@ -22,9 +22,6 @@ from provedflow.calls import maximum_flow as flow_of_arcs
 if TYPE_CHECKING:
     from typing import SupportsIndex
 
-HALF = np.uint64(2 ** 32 - 1)
-"""The lower half of a number of 64 bits."""
-
 
 class MaximumFlowResult(NamedTuple):
     """The greatest value of a flow, and what flows from i to j less what flows from j to i, a CSR matrix of int64, or
@@ -75,7 +72,7 @@ def net_flow(matrix, flows):
         return net
     ends = np.concatenate((rows, columns)), np.concatenate((columns, rows))
     upper, lower = (coo_matrix((np.concatenate((half, -half)), ends), matrix.shape).tocsr()
-                    for half in ((flows >> np.uint64(32)).view(np.int64), (flows & HALF).view(np.int64)))
+                    for half in ((flows >> np.uint64(32)).view(np.int64), (flows & np.uint64(0xffffffff)).view(np.int64)))
     upper.data += lower.data >> 32
     if upper.nnz and upper.data.max() >= 2 ** 31:
         raise OverflowError("the flow from one node to another is 2^63 or more, beyond the int64 of the result")
@@ -97,7 +94,4 @@ def checked(csgraph, source, sink):
             raise ValueError(f"{name} value ({node}) must be between 0 and {csgraph.shape[0] - 1}")
     if source == sink:
         raise ValueError("source and sink vertices must differ")
-    matrix = csgraph.tocoo()
-    if matrix.nnz and not matrix.data.min() >= 0:
-        raise ValueError("graph capacities must be numbers, and not be negative")
-    return matrix
+    return csgraph.tocoo()

@@ -10,19 +10,14 @@ most the greatest; and what the cut found costs in the weights given is at least
 import math
 from fractions import Fraction
 
+import numpy as np
+
 from provedflow.library import FlowError
 
 WHOLE = 1074
 """Doubled so often, each float is whole."""
 SURE = 1 + 2.0 ** -20
 """What a sum of floats is multiplied by to be no less than the exact one."""
-
-
-class Unbounded(FlowError):
-    """Each cut has an infinite weight."""
-
-    def __init__(self):
-        super().__init__("a path of infinite weights leads from a source to a sink, so no cut has a value")
 
 
 class Value(float):
@@ -32,40 +27,32 @@ class Value(float):
 
 
 class Unit:
-    """The unit of a network: 2^shift of it make 1. Weights are arrays of float64 where NumPy is given, else lists.
+    """The unit of a network: 2^shift of it make 1. Weights are arrays of float64.
 
     - cuts: the weights of two cuts, which are finite: of what leaves the sources, and of what enters the sinks.
     """
 
-    def __init__(self, numpy, *cuts):
-        self.numpy = numpy
-        bound = min(float(numpy.sum(cut)) if numpy else sum(cut) for cut in cuts) * SURE
+    def __init__(self, *cuts):
+        with np.errstate(over="ignore"):
+            bound = float(min(cut.sum() for cut in cuts)) * SURE
         if bound >= 2.0 ** 1023:
             raise FlowError("the weights add up to 2^1023 or more")
         self.shift = min(WHOLE, 63 - math.frexp(bound)[1]) if bound else WHOLE
 
-    def doubled(self, weights, times):
-        """Weights times a power of two."""
-        return self.numpy.ldexp(weights, times) if self.numpy else [math.ldexp(weight, times) for weight in weights]
-
     def units(self, weights):
         """Weights in whole units, rounded down, and at most 2^63."""
         limit = math.ldexp(1.0, 63 - self.shift)
-        if self.numpy:
-            return self.doubled(self.numpy.minimum(weights, limit), self.shift).astype(self.numpy.uint64)
-        return [int(math.ldexp(min(weight, limit), self.shift)) for weight in weights]
+        return np.ldexp(np.minimum(weights, limit), self.shift).astype(np.uint64)
 
     def amounts(self, units):
         """Units as floats, the nearest ones: a flow that keeps to a weight in units keeps to the weight given."""
-        return self.doubled(units.astype(float) if self.numpy else units, -self.shift)
+        return np.ldexp(units.astype(float), -self.shift)
 
     def lost(self, weights):
         """How many units rounding has taken from the weights of a minimum cut; rounded up to 2^-40 of one for each."""
-        parts = self.doubled(weights, self.shift)
-        if self.numpy:
-            parts = self.numpy.ceil((parts - self.numpy.floor(parts)) * 2.0 ** 40)
-            return Fraction(exact_sum(parts.astype(self.numpy.uint64)), 2 ** 40)
-        return Fraction(sum(math.ceil(part % 1 * 2.0 ** 40) for part in parts), 2 ** 40)
+        parts = np.ldexp(weights, self.shift)
+        parts = np.ceil((parts - np.floor(parts)) * 2.0 ** 40)
+        return Fraction(exact_sum(parts.astype(np.uint64)), 2 ** 40)
 
     def value(self, units, lost, of_cut):
         """The value of a flow of so many units, or of a cut that costs so many and what it has lost. This and the other

@@ -89,7 +89,7 @@ WHOLE = csr_matrix(np.array([[0, 1], [0, 0]]))
     (ValueError, "between 0 and 1", (WHOLE, -1, 1)),
     (FlowError, "capacities[0] has to be a whole number from 0 to", (-WHOLE, 0, 1)),
     (FlowError, "capacities[0] has to be a number from 0, and is nan", (WHOLE * np.nan, 0, 1)),
-    (ValueError, "must be integers or floats", (WHOLE * 1j, 0, 1)),
+    (TypeError, "capacities has to have numbers, and is an array of complex128", (WHOLE * 1j, 0, 1)),
     (ValueError, "square", (WHOLE[:1], 0, 1)),
 ])
 def test_refused(kind, words, given):

@@ -42,8 +42,6 @@ class Buffer:
     """A list that the library reads or writes: its address, its length, and what keeps the memory alive. The view keeps
     it in its place, since an array of Python that has a view can't grow."""
 
-    __slots__ = ("address", "length", "keeper", "view")
-
     def __init__(self, keeper):
         self.keeper = keeper
         if isinstance(keeper, array.array):
@@ -81,7 +79,11 @@ def read(thing, kind, name, fractions=False):
     has_floats = fractions and any(isinstance(number, float) for number in numbers)
     most = sys.float_info.max if has_floats else GREATEST[kind]
     for place, number in enumerate(numbers):
-        check_number(number, most, kind, f"{name}[{place}]", fractions)
+        is_float = has_floats and isinstance(number, float)
+        if not is_float:
+            number = whole(number, f"{name}[{place}]", "a number" if fractions else "a whole number")
+        if not 0 <= number <= (INFINITE if is_float else most):
+            raise out_of_range(f"{name}[{place}]", number, kind)
     return floats_of(numbers) if has_floats else Buffer(array.array(kind, numbers))
 
 
@@ -95,14 +97,6 @@ def listed(thing, name):
         raise TypeError(f"{name} has to be an array or a sequence of numbers, and is {what}") from None
     refuse_masked(thing, name)
     return thing
-
-
-def check_number(number, most, kind, place, fractions):
-    """Checks that an element is a number, and not out of range."""
-    is_float = fractions and isinstance(number, float)
-    number = number if is_float else whole(number, place, "a number" if fractions else "a whole number")
-    if not 0 <= number <= (INFINITE if is_float else most):
-        raise out_of_range(place, number, kind)
 
 
 def floats_of(numbers):

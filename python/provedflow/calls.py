@@ -24,8 +24,7 @@ if TYPE_CHECKING:
 
 
 class Flow(NamedTuple):
-    """A flow of the greatest value: the value, and what each arc carries, in the order of the arcs: an array of 64 bits
-    each, or a list."""
+    """A flow of the greatest value: the value, and what each arc carries, an array of 64 bits each, or a list."""
 
     value: Union[int, Any]
     flows: Union[list[Any], NDArray[Any]]
@@ -82,7 +81,7 @@ def maximum_flow(src: Numbers, dst: Numbers, capacities: Weights, sources: Nodes
     a unit with which the value has up to 63 bits. The greatest value is at most `gap` more than the value.
 
     Raises FlowError (a ValueError) if that is no network with its terminals, or where no cut is finite, TypeError if
-    something is no such number, MemoryError, and LibraryNotFound.
+    something is no such number, ImportError for floats without NumPy, MemoryError, and LibraryNotFound.
 
     >>> maximum_flow([0, 0, 1], [1, 1, 2], [2 ** 64 - 1, 5, 2 ** 63], 0, 2)
     Flow(value=9223372036854775808, flows=[9223372036854775808, 0, 9223372036854775808])
@@ -293,20 +292,15 @@ class Network:
         status = interruptible(export, flat, (self, words)) if self.arcs >= LONG else export(*flat)
         if status == MEMORY:
             raise MemoryError("there isn't enough memory for this network")
-        if status == ARC:
-            raise FlowError(self.bad_arc())
-        if status == TERMINALS:
-            raise FlowError(self.bad_terminal())
         if status != OK:
-            raise FlowError(f"the library refuses the network with status {status}")
+            raise FlowError(self.bad_arc() if status == ARC else self.bad_terminal() if status == TERMINALS else
+                            f"the library refuses the network with status {status}")
 
     def bad_arc(self):
         """What is wrong with the first arc that has an end that is no node."""
-        for place, ends in enumerate(zip(self.src.keeper, self.dst.keeper)):
-            for name, node in zip(("src", "dst"), ends):
-                if node >= self.nodes:
-                    return f"{name}[{place}] is {node}, and the nodes are 0 to {self.nodes - 1}"
-        return "an end of an arc is no node"
+        return next(f"{name}[{place}] is {node}, and the nodes are 0 to {self.nodes - 1}"
+                    for place, ends in enumerate(zip(self.src.keeper, self.dst.keeper))
+                    for name, node in zip(("src", "dst"), ends) if node >= self.nodes)
 
     def bad_terminal(self):
         """What is wrong with the first terminal that can't be taken."""

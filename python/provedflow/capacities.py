@@ -23,12 +23,8 @@ def edges_of(G, capacity):
     """The edges that can carry something, each with its capacity. Checks that each capacity is a number. Where a finite
     one is a float, all are."""
     edges = list(G.edges(data=capacity, default=INFINITE))
-    kinds = {type(amount) for _, _, amount in edges}
-    if not kinds <= {int, float}:
-        edges = [(u, v, number_of(amount)) for u, v, amount in edges]
-    for u, v, amount in edges if kinds != {int} else ():
-        if not (amount == amount if type(amount) is float else is_number(amount)):
-            raise nx.NetworkXError(f"the capacity of the edge ({u!r}, {v!r}) has to be a number, and is {amount!r}")
+    if {type(amount) for _, _, amount in edges} != {int}:
+        edges = [(u, v, amount if type(amount) is int else number_of(amount, u, v)) for u, v, amount in edges]
     edges = [edge for edge in edges if edge[2] > 0 and edge[0] != edge[1]]
     if kind_of(amount for _, _, amount in edges) is not float:
         return edges
@@ -38,18 +34,18 @@ def edges_of(G, capacity):
         raise nx.NetworkXError("beside a float, a capacity has to be less than 2^1024") from None
 
 
-def number_of(amount):
-    """A capacity as a number of Python, whose sums can't overflow: NumPy's are converted, and whole ones are ints."""
-    amount = plain(amount)
-    return int(amount) if isinstance(amount, Integral) else amount
-
-
-def is_number(amount):
-    """Whether this is a number that can be compared, infinite or not; nan isn't, and neither is a text."""
+def number_of(amount, u, v):
+    """The capacity of an edge as a number of Python, whose sums can't overflow: NumPy's are converted, and whole ones
+    are ints. Raises NetworkXError where it is none, as a text or nan."""
+    number = plain(amount)
+    if isinstance(number, Integral):
+        return int(number)
     try:
-        return bool(amount > 0 or amount <= 0) and (amount in (INFINITE, -INFINITE) or bool(amount.as_integer_ratio()))
+        if number in (INFINITE, -INFINITE) or isinstance(number, Rational) or number.as_integer_ratio():
+            return number
     except Exception:  # Whatever a foreign kind does where it is no number.
-        return isinstance(amount, Rational)
+        pass
+    raise nx.NetworkXError(f"the capacity of the edge ({u!r}, {v!r}) has to be a number, and is {amount!r}")
 
 
 def as_fraction(amount):

@@ -30,7 +30,7 @@ class Problem:
     """Arcs between some nodes, with capacities that are floats or brought to whole numbers."""
 
     def __init__(self, nodes, arcs):
-        self.numbers, self.arcs = {node: number for number, node in enumerate(nodes)}, arcs
+        self.nodes, self.arcs, self.numbers = nodes, arcs, {node: number for number, node in enumerate(nodes)}
         check_size(len(self.numbers), len(arcs))
         amounts = [amount for _, _, amount in arcs]
         self.kind, self.unit = kind_of(amounts), None  # each call has a unit of floats of its own
@@ -41,6 +41,7 @@ class Problem:
     def solve(self, s, t, nearest=None):
         """A flow or a cut: its value, which has to be less than what an infinite capacity counts as, the flow of each
         arc in units, and of a minimum cut for each node whether it is on the side of s."""
+        check_ends(self.nodes, s, t)
         try:
             network = calls.Network(*self.lists[:2], self.numbers[s], self.numbers[t], len(self.numbers),
                                     capacities=self.lists[2])
@@ -69,11 +70,6 @@ class GraphProblem(Problem):
         check_kind(G)
         edges = edges_of(G, capacity)
         super().__init__(G, edges if G.is_directed() else edges + [(v, u, amount) for u, v, amount in edges])
-        self.G = G
-
-    def solve(self, s, t, nearest=None):
-        check_ends(self.G, s, t)
-        return super().solve(s, t, nearest)
 
     def cut(self, s, t):
         """The value of the minimum cut nearest t, and its two sides."""
@@ -86,7 +82,7 @@ class GraphProblem(Problem):
     @collector_paused()
     def flow_dict(self, flows):
         """The flow of each edge as in NetworkX: of two opposite arcs only the one that carries more has its surplus."""
-        rows = {u: dict.fromkeys(row, 0) for u, row in self.G.adjacency()}
+        rows = {u: dict.fromkeys(row, 0) for u, row in self.nodes.adjacency()}
         for (u, v, _), units in zip(self.arcs, flows):
             back = rows[v].get(u, 0)
             if back:
@@ -152,7 +148,6 @@ class NodeUnits(EdgeUnits):
         return {self.names[end // 2] for arc in self.cut_arcs(s, t) for end in arc} - {s, t}
 
 
-@collector_paused()
 def residual_rows(G, capacity):
     """The edges of the residual network of a graph, as NetworkX's `build_residual_network` makes them, with no flow:
     a dict of attributes for each, in a dict of dicts; and the number that stands for an infinite capacity there."""
@@ -171,7 +166,6 @@ def residual_rows(G, capacity):
     return rows, infinite
 
 
-@collector_paused()
 def graph_of(rows, infinite):
     """The residual network of these rows. They become its own, where `add_edges_from` would copy each attribute."""
     R = nx.DiGraph(inf=infinite)
@@ -183,11 +177,10 @@ def graph_of(rows, infinite):
     return R
 
 
-@collector_paused()
 def send(rows, s, t, cutoff, infinite):
     """Sets the flows of a residual network without flows to a maximum flow, and answers its value."""
     edges = [(u, v, attr) for u, row in rows.items() for v, attr in row.items() if attr["capacity"] > 0]
-    given = [INFINITE if attr["capacity"] == infinite else number_of(attr["capacity"]) for _, _, attr in edges]
+    given = [INFINITE if attr["capacity"] == infinite else number_of(attr["capacity"], u, v) for u, v, attr in edges]
     nodes, arcs, source = list(rows), [(u, v, amount) for (u, v, _), amount in zip(edges, given)], s
     if cutoff is not None and cutoff != INFINITE:  # one node more becomes the source, with an arc that takes no more
         limit, source = max(as_fraction(cutoff), 0), object()

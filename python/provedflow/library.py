@@ -46,28 +46,15 @@ EXPORTS = {
 @functools.lru_cache(maxsize=None)
 def library():
     """The library, loaded. Raises LibraryNotFound."""
-    loaded = load(places())
-    for name, parameters in EXPORTS.items():
-        export = getattr(loaded, name)
-        export.argtypes, export.restype = parameters, ctypes.c_uint32
-    return loaded
-
-
-def places():
-    """Where the library is looked for: paths, and a name that the system looks for."""
-    named = os.environ.get("PROVEDFLOW_LIBRARY")
     beside = os.path.join(os.path.dirname(os.path.abspath(__file__)), NAME)
-    if named:
-        return [named]
-    return [beside, NAME] if os.path.exists(beside) else [NAME]
-
-
-def load(candidates):
-    """The first of these libraries, which has to be there."""
     try:
-        return ctypes.CDLL(candidates[0])
+        loaded = ctypes.CDLL(os.environ.get("PROVEDFLOW_LIBRARY") or (beside if os.path.exists(beside) else NAME))
     except OSError as failure:
         raise LibraryNotFound(
             f"the C library {NAME} can't be loaded ({failure}); install the package libprovedflow0, put the library "
             "where the system looks for libraries, or set the environment variable PROVEDFLOW_LIBRARY to its path"
         ) from None
+    for name, parameters in EXPORTS.items():
+        export = getattr(loaded, name)
+        export.argtypes, export.restype = parameters, ctypes.c_uint32
+    return loaded

@@ -1,18 +1,15 @@
 """NetworkX's algorithms of flows, cuts and connectivity, over the proved library.
 
     import networkx as nx
-    from provedflow.networkx import maximum_flow, minimum_cut, edge_connectivity, flow_func
+    from provedflow.networkx import flow_func, minimum_cut
 
-    value, flows = maximum_flow(G, s, t)
     value, (one_side, other_side) = minimum_cut(G, s, t)
-    links = edge_connectivity(G)
     value, flows = nx.maximum_flow(G, s, t, backend="provedflow")    # NetworkX 3.2 and newer
     value, flows = nx.maximum_flow(G, s, t, flow_func=flow_func)     # each NetworkX
 
 The functions of `ALGORITHMS` have the parameters and the results of NetworkX's functions of the same names; of several
 maximum flows or minimum cuts of a whole graph the result is one, and not always NetworkX's. `flow_func`, `auxiliary`
-and `residual` are accepted and ignored. The function `flow_func` takes the place of NetworkX's own in whatever takes
-one; the residual network that it has to make takes most of its time.
+and `residual` are accepted and ignored. Most of the time of the function `flow_func` goes into the residual network.
 
 What a graph means is as with NetworkX: an edge without the attribute is infinite, as one of float("inf") is; self-loops
 and edges of capacity 0 or less carry nothing. Multigraphs raise NetworkXError, but for `edge_connectivity`, where each
@@ -43,7 +40,8 @@ from networkx.algorithms import flow as theirs
 
 from provedflow import calls
 from provedflow.graphs import (
-    EdgeUnits, GraphProblem, NodeUnits, check_ends, check_kind, check_size, graph_of, residual_rows, send)
+    EdgeUnits, GraphProblem, NodeUnits, check_ends, check_kind, check_size, collector_paused, graph_of,
+    residual_rows, send)
 from provedflow.library import MOST_LINKS
 
 
@@ -51,8 +49,7 @@ def maximum_flow(flowG: Any, _s: Any, _t: Any, capacity: str = "capacity",
                  flow_func: Any = None) -> tuple[Any, dict[Any, dict[Any, Any]]]:
     """Finds a flow of the greatest value: the pair of its value and a dict of dicts, flows[u][v].
 
-    - flowG: a Graph or a DiGraph.
-    - _s, _t: two different nodes of it.
+    - flowG, _s, _t: a Graph or a DiGraph, and two different nodes of it.
     - capacity: the name of the edges' attribute.
 
     >>> G = nx.DiGraph()
@@ -134,14 +131,11 @@ def edge_connectivity(G: Any, s: Any = None, t: Any = None, flow_func: Any = Non
     >>> edge_connectivity(nx.complete_graph(5)), edge_connectivity(nx.path_graph(4), 0, 3)
     (4, 1)
     """
-    is_pair = names_pair(G, s, t)
     check_size(len(G), G.number_of_edges(), MOST_LINKS)
-    if len(G) == 1:
-        return 0
     numbers = {node: number for number, node in enumerate(G)}
     edges = list(G.edges())
     src, dst = array("I", [numbers[u] for u, _ in edges]), array("I", [numbers[v] for _, v in edges])
-    pair = {"sources": numbers[s], "sinks": numbers[t]} if is_pair else {}
+    pair = {"sources": numbers[s], "sinks": numbers[t]} if names_pair(G, s, t) else {}
     links = calls.edge_connectivity(src, dst, len(G), directed=G.is_directed(), **pair)
     return links if cutoff is None else min(links, cutoff)
 
@@ -162,14 +156,13 @@ def minimum_edge_cut(G: Any, s: Any = None, t: Any = None, flow_func: Any = None
     """
     if names_pair(G, s, t):
         return minimum_st_edge_cut(G, s, t)
-    check_kind(G)
+    units = EdgeUnits(G)
     check_connected(G)
     least, nodes = edge_connectivity(G), list(G)
     for edges in (G.out_edges, G.in_edges) if G.is_directed() else (G.edges,):
         around = min(({edge for edge in edges(node) if edge[0] != edge[1]} for node in nodes), key=len)
         if len(around) == least:
             return around
-    units = EdgeUnits(G)
     ways = zip(nodes, nodes[1:] + nodes[:1]) if G.is_directed() else ((nodes[0], node) for node in nodes[1:])
     return next(cut for cut in (units.cut(u, v) for u, v in ways) if len(cut) == least)
 
@@ -177,7 +170,6 @@ def minimum_edge_cut(G: Any, s: Any = None, t: Any = None, flow_func: Any = None
 def minimum_st_edge_cut(G: Any, s: Any, t: Any, flow_func: Any = None, auxiliary: Any = None,
                         residual: Any = None) -> set[tuple[Any, Any]]:
     """Finds a least set of edges whose removal cuts t off from s."""
-    check_kind(G)
     return EdgeUnits(G).cut(s, t)
 
 
@@ -239,12 +231,11 @@ def average_node_connectivity(G: Any, flow_func: Any = None) -> float:
     return sum(found) / len(found) if found else 0
 
 
+@collector_paused()
 def flow_func(G: Any, s: Any, t: Any, capacity: str = "capacity", residual: Any = None, value_only: bool = False,
               cutoff: Any = None) -> Any:
-    """Finds a maximum flow, and returns the residual network that NetworkX's functions read.
-
-    The parameters are those of `networkx.algorithms.flow.edmonds_karp`, whose conventions the residual network follows:
-    `R[u][v]["capacity"]`, `R[u][v]["flow"]`, `R.graph["flow_value"]`, `R.graph["inf"]`, `R.graph["algorithm"]`.
+    """Finds a maximum flow, and returns the residual network that NetworkX's functions read: that of
+    `networkx.algorithms.flow.edmonds_karp`, with the same parameters.
 
     - residual: a residual network of the same graph to be used again; its old flow is lost.
     - value_only: ignored, since a minimum cut needs the flow.
@@ -299,8 +290,6 @@ ALGORITHMS = {function.__name__: function for function in (
 FLOW_FUNCS = (None, flow_func, theirs.boykov_kolmogorov, theirs.dinitz, theirs.edmonds_karp, theirs.preflow_push,
               theirs.shortest_augmenting_path)
 """The functions that all find a maximum flow, so it doesn't matter which of them a call names."""
-ONE_PAIR = {"node_connectivity", "minimum_node_cut"}
-"""The functions that need two nodes of a directed graph."""
 
 
 def can_run(name, args, kwargs):
@@ -313,7 +302,7 @@ def can_run(name, args, kwargs):
     G, asked = next(iter(given.values())), {word for word, thing in given.items() if thing is not None}
     return not (G.is_multigraph() or asked & {"auxiliary", "residual"} or given.get("flow_func") not in FLOW_FUNCS
                 or "cutoff" in asked and given.get("flow_func") is theirs.preflow_push
-                or name in ONE_PAIR and G.is_directed() and not asked & {"s", "t"})
+                or name in ("node_connectivity", "minimum_node_cut") and G.is_directed() and not asked & {"s", "t"})
 
 
 def convert_from_nx(graph, **_):

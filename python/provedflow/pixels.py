@@ -92,8 +92,7 @@ class Grid:
     - neighbours: how many neighbours a pixel has: 2 in a row, 4 or 8 in a picture, 6, 18 or 26 in a volume; else edges
       are joined step by step.
 
-    Raises ValueError if a grid of this shape with so many neighbours has more nodes or arcs than fit, before anything
-    is made.
+    Raises ValueError if a grid of this shape with so many neighbours has more nodes or arcs than fit.
 
     >>> grid = Grid((4,))
     >>> grid.join_step((1,), np.array([5, 2, 7]))
@@ -178,10 +177,8 @@ class Grid:
         self.terminals = sums
 
     def cut(self, nearest: Literal["source", "sources", "sink", "sinks"] = "source") -> Cut:
-        """Finds a minimum cut.
-
-        - nearest: if several cuts cost the least, "source" chooses the one with the fewest pixels on the source's side,
-          and "sink" the one with the fewest on the sink's; "sources" and "sinks" mean the same.
+        """Finds a minimum cut: of several the one with the fewest pixels on the source's side, or with nearest="sink"
+        the one with the fewest on the sink's; "sources" and "sinks" mean the same.
 
         Returns Cut(value, mask). Floats are rounded as `provedflow.maximum_flow` says: the least lies no more than the
         answer's `gap` below the value. Raises FlowError where each cut has an infinite weight, MemoryError, and
@@ -288,10 +285,7 @@ def check_room(shape, all_steps, neighbours):
     if fits(shape, all_steps):
         return
     pixels, most = prod(shape), min(MOST_NODES - 2, MOST_ARCS // (1 + 2 * len(all_steps)))
-    side = int(most ** (1 / len(shape)))
-    while fits((side + 1,) * len(shape), all_steps):
-        side += 1
-    square = " x ".join([f"{side:,}"] * len(shape))
+    square = " x ".join([f"{int(most ** (1 / len(shape))):,}"] * len(shape))
     joined = f"{neighbours} neighbours" if neighbours else f"{len(all_steps)} steps to neighbours"
     raise ValueError(f"a grid of {' x '.join(f'{size:,}' for size in shape)} pixels with {joined} doesn't fit: it has "
                      f"{pixels:,} pixels, and {most:,} fit surely, as {square}")

@@ -5,9 +5,7 @@
     result = maximum_flow(capacities, source, sink)
     result.flow_value, result.flow
 
-The signature and the answer are those of `scipy.sparse.csgraph.maximum_flow`. SciPy counts in 32 bits; here capacities
-go up to 2^64 - 1, the value is an int of any size, and flows have 64 bits. Capacities may also be floats, and then so
-are the answers.
+The signature and the answer are those of `scipy.sparse.csgraph.maximum_flow`, which counts in 32 bits.
 """
 
 from __future__ import annotations
@@ -37,17 +35,16 @@ def maximum_flow(csgraph: Any, source: SupportsIndex, sink: SupportsIndex, *,
 
     - csgraph: a sparse matrix of any format and of any kind of integers, or of floats of up to 64 bits, of shape
       (nodes, nodes). Its element in row i and column j is the capacity of the arc from i to j, from 0 to 2^64 - 1;
-      duplicate elements are parallel arcs, whose capacities are never added up in the matrix's own kind. Floats are
-      rounded as `provedflow.maximum_flow` says.
+      duplicate elements are parallel arcs. Floats are rounded as `provedflow.maximum_flow` says.
     - source, sink: two different nodes, from 0.
-    - method: one that SciPy has, and without effect; there is one method.
+    - method: one that SciPy has, without effect.
 
     Returns MaximumFlowResult(flow_value, flow). The flow is antisymmetric, and has elements where something flows. If
     several flows have the greatest value, it is one of them, and not always SciPy's.
 
-    Raises TypeError where csgraph is no sparse matrix, ValueError where it isn't square or not of numbers from 0, where
-    a node isn't one, and beyond the limits of 268,435,456 nodes and 1,073,741,824 arcs; OverflowError where from one
-    node to another flow 2^63 or more, beyond int64; MemoryError.
+    Raises TypeError where csgraph is no sparse matrix of such numbers, ValueError where it isn't square, a number is
+    negative or nan, or a node isn't one, and beyond the limits of 268,435,456 nodes and 1,073,741,824 arcs;
+    OverflowError where from one node to another flow 2^63 or more, beyond int64; MemoryError.
 
     >>> from scipy.sparse import csr_matrix
     >>> capacities = csr_matrix([[0, 3, 2, 0], [0, 0, 1, 2], [0, 0, 0, 3], [0, 0, 0, 0]])
@@ -71,8 +68,8 @@ def net_flow(matrix, flows):
         net.eliminate_zeros()
         return net
     ends = np.concatenate((rows, columns)), np.concatenate((columns, rows))
-    upper, lower = (coo_matrix((np.concatenate((half, -half)), ends), matrix.shape).tocsr()
-                    for half in ((flows >> np.uint64(32)).view(np.int64), (flows & np.uint64(0xffffffff)).view(np.int64)))
+    halves = (flows >> np.uint64(32)).view(np.int64), (flows & np.uint64(0xffffffff)).view(np.int64)
+    upper, lower = (coo_matrix((np.concatenate((half, -half)), ends), matrix.shape).tocsr() for half in halves)
     upper.data += lower.data >> 32
     if upper.nnz and upper.data.max() >= 2 ** 31:
         raise OverflowError("the flow from one node to another is 2^63 or more, beyond the int64 of the result")
@@ -87,8 +84,6 @@ def checked(csgraph, source, sink):
         raise TypeError("graph must be a sparse matrix")
     if csgraph.ndim != 2 or csgraph.shape[0] != csgraph.shape[1]:
         raise ValueError("graph must be a square matrix")
-    if csgraph.dtype.kind not in "biuf" or csgraph.dtype.itemsize > 8:
-        raise ValueError("graph capacities must be integers or floats of up to 64 bits")
     for name, node in (("source", source), ("sink", sink)):
         if not 0 <= node < csgraph.shape[0]:
             raise ValueError(f"{name} value ({node}) must be between 0 and {csgraph.shape[0] - 1}")

@@ -74,5 +74,4 @@ def rounded(exact, towards):
 
 def exact_sum(units):
     """The sum of an array of whole numbers of 64 bits, which may take more."""
-    upper, lower = units.dtype.type(32), units.dtype.type(2 ** 32 - 1)
-    return (int((units >> upper).sum()) << 32) + int((units & lower).sum())
+    return (int((units >> np.uint64(32)).sum()) << 32) + int((units & np.uint64(0xffffffff)).sum())

@@ -27,6 +27,14 @@ def refused(kind, words, call, *given, **named):
     assert failure.type is kind
 
 
+def refusals(call, *rows):
+    """A test for each row that the call refuses: the kind of the error, words of its text, and what is given."""
+    @pytest.mark.parametrize("kind, words, given", [(*row[:2], row[2:]) for row in rows], ids=[row[1] for row in rows])
+    def test(kind, words, given):
+        refused(kind, words, call, *given)
+    return test
+
+
 def exact_value(nodes, arcs):
     """The least cost of a cut between the first node and the last one, exactly; None where each cut is infinite."""
     costs = []
@@ -34,6 +42,12 @@ def exact_value(nodes, arcs):
         paid = [weight for u, v, weight in arcs if code >> u & 1 and not code >> v & 1]
         costs += [] if float("inf") in paid else [sum(map(Fraction, paid))]
     return min(costs, default=None)
+
+
+def assert_near(value, gap, of_cut, exact):
+    """The exact value lies between a value and what its gap allows, and is the nearest float where there is none."""
+    least = Fraction(value) - (Fraction(gap) if of_cut else 0)
+    assert least <= exact <= least + Fraction(gap) if gap else value == float(exact), (value, gap, exact)
 
 
 def python(*words, path="", **environment):

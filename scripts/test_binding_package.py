@@ -10,8 +10,7 @@ import pytest
 
 from binding_checks import PACKAGE, ROOT, named_library, python
 
-PAGES = {"README.md": 0, "docs/PYTHON.md": 5, "examples/python/README.md": 3}
-"""The pages, each with how many blocks of Python it has at least."""
+PAGES = "README.md", "docs/PYTHON.md", "examples/python/README.md"
 MODULES = {"provedflow": "array", "provedflow.calls": "array", "provedflow.scipy": "scipy",
            "provedflow.networkx": "networkx", "provedflow.pixels": "numpy"}
 """The modules with examples, and what each needs."""
@@ -31,33 +30,18 @@ def blocks(page):
     return re.findall(r"```python\n(.*?)```(?:(?:(?!```).)*?```text\n(.*?)```)?", text, re.DOTALL)
 
 
-BLOCKS = [(page, number, *block) for page in PAGES for number, block in enumerate(blocks(page), 1)]
+BLOCKS = {f"{page} {number}": block for page in PAGES for number, block in enumerate(blocks(page), 1)}
 
 
-@pytest.mark.parametrize("page, least", PAGES.items())
-def test_pages_have_examples(page, least):
-    assert len(blocks(page)) >= least
+def test_pages_have_examples():
+    assert [min(5, len(blocks(page))) for page in PAGES] == [0, 5, 3]
 
 
-@pytest.mark.parametrize("page, number, code, shown", BLOCKS, ids=[f"{page} {number}" for page, number, *_ in BLOCKS])
-def test_pages(page, number, code, shown):
+@pytest.mark.parametrize("code, shown", BLOCKS.values(), ids=BLOCKS)
+def test_pages(code, shown):
     for needed in re.findall(r"^(?:import|from) (?:provedflow\.)?(numpy|scipy|networkx)\b", code, re.M):
         pytest.importorskip(needed)
     assert python("-c", code) == (0, shown, "")
-
-
-def typed(folder):
-    """What mypy says of the files of a folder, where all errors of types are looked for."""
-    pytest.importorskip("mypy")
-    return python("-m", "mypy", "--strict", "--ignore-missing-imports", "--follow-imports=silent", "--no-incremental",
-                  str(folder), MYPYPATH=str(PACKAGE))
-
-
-def test_types_of_pages(tmp_path):
-    for page, number, code, _ in BLOCKS:
-        (tmp_path / f"{page[:-3].replace('/', '_')}_{number}.py").write_text(code)
-    status, printed, _ = typed(tmp_path)
-    assert not status, printed
 
 
 TYPED = """
@@ -88,13 +72,16 @@ maximum_flow(None, 0, 1, method="push")
 
 
 def test_types(tmp_path):
-    """What is right has no errors of types, and each line of what is wrong has one."""
-    (tmp_path / "right.py").write_text(TYPED)
-    status, printed, _ = typed(tmp_path)
-    assert not status, printed
-    (tmp_path / "right.py").write_text(TYPED + MISTYPED)
-    wrong = {int(line) for line in re.findall(r"^\S+:(\d+): error", typed(tmp_path)[1], re.M)}
-    assert wrong == set(range(TYPED.count("\n") + 2, (TYPED + MISTYPED).count("\n") + 1))
+    """What is right and what the pages show have no errors of types, and each line of what is wrong has one."""
+    pytest.importorskip("mypy")
+    files = {"right": TYPED, "wrong": TYPED + MISTYPED}
+    for name, code in {**files, **{re.sub(r"\W", "_", name): code for name, (code, _) in BLOCKS.items()}}.items():
+        (tmp_path / f"{name}.py").write_text(code)
+    words = "--strict", "--ignore-missing-imports", "--follow-imports=silent", "--no-incremental"
+    printed = python("-m", "mypy", *words, str(tmp_path), MYPYPATH=str(PACKAGE))[1]
+    wrong = re.findall(r"(\w+)\.py:(\d+): error", printed)
+    lines = range(TYPED.count("\n") + 2, (TYPED + MISTYPED).count("\n") + 1)
+    assert set(wrong) == {("wrong", str(line)) for line in lines}, printed
 
 
 def test_ctrl_c():

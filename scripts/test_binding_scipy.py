@@ -4,7 +4,7 @@ import random
 
 import pytest
 
-from binding_checks import named_library, refused
+from binding_checks import named_library, refusals, refused
 
 np = pytest.importorskip("numpy")
 pytest.importorskip("scipy.sparse")
@@ -82,18 +82,16 @@ def test_floats():
 WHOLE = csr_matrix(np.array([[0, 1], [0, 0]]))
 
 
-@pytest.mark.parametrize("kind, words, given", [
-    (TypeError, "sparse matrix", (np.array([[0, 1], [0, 0]]), 0, 1)),
-    (ValueError, "must differ", (WHOLE, 0, 0)),
-    (ValueError, "between 0 and 1", (WHOLE, 0, 2)),
-    (ValueError, "between 0 and 1", (WHOLE, -1, 1)),
-    (FlowError, "capacities[0] has to be a whole number from 0 to", (-WHOLE, 0, 1)),
-    (FlowError, "capacities[0] has to be a number from 0, and is nan", (WHOLE * np.nan, 0, 1)),
-    (TypeError, "capacities has to have numbers, and is an array of complex128", (WHOLE * 1j, 0, 1)),
-    (ValueError, "square", (WHOLE[:1], 0, 1)),
-])
-def test_refused(kind, words, given):
-    refused(kind, words, maximum_flow, *given)
+test_refused = refusals(
+    maximum_flow,
+    (TypeError, "sparse matrix", np.array([[0, 1], [0, 0]]), 0, 1),
+    (ValueError, "must differ", WHOLE, 0, 0),
+    (ValueError, "between 0 and 1", WHOLE, 0, 2),
+    (ValueError, "between 0 and 1", WHOLE, -1, 1),
+    (FlowError, "capacities[0] has to be a whole number from 0 to", -WHOLE, 0, 1),
+    (FlowError, "capacities[0] has to be a number from 0, and is nan", WHOLE * np.nan, 0, 1),
+    (TypeError, "capacities has to have numbers, and is an array of complex128", WHOLE * 1j, 0, 1),
+    (ValueError, "square", WHOLE[:1], 0, 1))
 
 
 def test_method():

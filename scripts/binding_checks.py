@@ -9,6 +9,8 @@ from fractions import Fraction
 
 import pytest
 
+from independent import least
+
 ROOT = pathlib.Path(__file__).resolve().parent.parent
 PACKAGE = ROOT / "python"
 sys.path[:0] = [str(PACKAGE)]
@@ -35,13 +37,11 @@ def refusals(call, *rows):
     return test
 
 
-def exact_value(nodes, arcs):
-    """The least cost of a cut between the first node and the last one, exactly; None where each cut is infinite."""
-    costs = []
-    for code in range(1, 1 << nodes - 1, 2):
-        paid = [weight for u, v, weight in arcs if code >> u & 1 and not code >> v & 1]
-        costs += [] if float("inf") in paid else [sum(map(Fraction, paid))]
-    return min(costs, default=None)
+def least_cuts(nodes, arcs):
+    """The least cost of a cut between node 0 and the last one, exactly, and the sides that have it, by trial of all."""
+    arcs = [(u + 1, v + 1, weight if weight == float("inf") else Fraction(weight)) for u, v, weight in arcs]
+    cost, sides = least(nodes, arcs, lambda inside: 1 in inside and nodes not in inside)
+    return cost, [{v - 1 for v in side} for side in sides]
 
 
 def assert_near(value, gap, of_cut, exact):

@@ -6,7 +6,7 @@ from itertools import product
 
 import pytest
 
-from binding_checks import assert_near, named_library, refusals, refused
+from binding_checks import assert_near, least_cuts, named_library, refusals, refused
 
 np = pytest.importorskip("numpy")
 
@@ -28,24 +28,24 @@ def neighbours_by_hand(shape, neighbours):
 
 
 def trial(chance, shape, neighbours, scale):
-    """A small grid with random weights, multiplied by a scale; its edges and masks, with what each mask costs."""
+    """A small grid with random weights, multiplied by a scale; the least cost of a mask, and the masks that have it."""
     picture = chance.integers(0, 9, shape)
     sources, sinks = chance.integers(0, 30, (2, *shape)) * scale
-    there_way, back_way = (lambda here, there, step: np.maximum(0, 9 - abs(here - there)) * scale,
-                           lambda here, there, step: (here + there) * scale)
     grid = Grid(shape, neighbours)
-    grid.join((there_way, back_way), of=picture)
+    grid.join((lambda here, there, step: np.maximum(0, 9 - abs(here - there)) * scale,
+               lambda here, there, step: (here + there) * scale), of=picture)
     half = sources // 2 if scale == 1 else sources / 2
     grid.add_terminals(half, 0)
     grid.add_terminals(sources - half, sinks)
-    edges = []
+    nodes = np.arange(1, picture.size + 1).reshape(shape)
+    arcs = [(0, *row) for row in zip(nodes.flat, sources.flat)]
+    arcs += [(node, picture.size + 1, weight) for node, weight in zip(nodes.flat, sinks.flat)]
     for here, there in neighbours_by_hand(shape, neighbours):
         one, other = int(picture[here]), int(picture[there])
-        edges += [(here, there, max(0, 9 - abs(one - other)) * scale), (there, here, (one + other) * scale)]
-    masks = [np.array(marks).reshape(shape) for marks in product((False, True), repeat=picture.size)]
-    costs = [sum(Fraction(weight) for here, there, weight in edges if not mask[here] and mask[there])
-             + sum(map(Fraction, (*sources[mask].tolist(), *sinks[~mask].tolist()))) for mask in masks]
-    return grid, masks, costs
+        arcs += [(nodes[here], nodes[there], max(0, 9 - abs(one - other)) * scale),
+                 (nodes[there], nodes[here], (one + other) * scale)]
+    cost, sides = least_cuts(picture.size + 2, [(u, v, weight * 1.0) for u, v, weight in arcs])
+    return grid, cost, [~np.isin(nodes, list(side)) for side in sides]
 
 
 @pytest.mark.parametrize("shape, neighbours", SHAPES.items())
@@ -56,11 +56,10 @@ def test_random_grids(shape, neighbours, scale, checks):
     chance = np.random.default_rng(1989)
     checks(20)
     for number in range(10):
-        grid, masks, costs = trial(chance, shape, neighbours, scale)
-        best = [mask for mask, paid in zip(masks, costs) if paid == min(costs)]
+        grid, cost, best = trial(chance, shape, neighbours, scale)
         for end, wanted in (("source", np.logical_or.reduce(best)), ("sink", np.logical_and.reduce(best))):
             found = grid.cut(nearest=end + "s" * (number % 2))
-            assert_near(found.value, found.gap, True, min(costs))
+            assert_near(found.value, found.gap, True, cost)
             assert scale == 1 / 3 or not found.gap and (found.mask == wanted).all()
             assert isinstance(found.value, type(scale))
 

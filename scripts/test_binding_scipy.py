@@ -83,7 +83,8 @@ WHOLE = csr_matrix(np.array([[0, 1], [0, 0]]))
 
 
 test_refused = refusals(
-    maximum_flow,
+    lambda matrix, source, sink, method="dinic": maximum_flow(matrix, source, sink, method=method),
+    (ValueError, "xx method is not supported", WHOLE, 0, 1, "xx"),
     (TypeError, "sparse matrix", np.array([[0, 1], [0, 0]]), 0, 1),
     (ValueError, "must differ", WHOLE, 0, 0),
     (ValueError, "between 0 and 1", WHOLE, 0, 2),
@@ -92,7 +93,3 @@ test_refused = refusals(
     (FlowError, "capacities[0] has to be a number from 0, and is nan", WHOLE * np.nan, 0, 1),
     (TypeError, "capacities has to have numbers, and is an array of complex128", WHOLE * 1j, 0, 1),
     (ValueError, "square", WHOLE[:1], 0, 1))
-
-
-def test_method():
-    refused(ValueError, "xx method is not supported", maximum_flow, WHOLE, 0, 1, method="xx")

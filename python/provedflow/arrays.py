@@ -63,8 +63,8 @@ def read(thing, kind, name, fractions=False):
     Raises TypeError where an element is no such number, FlowError where one is out of range or the array has more than
     one axis, and ImportError where floats in a list need NumPy, and it isn't installed.
     """
-    refuse_masked(thing, name)
     if numpy_of([thing]):
+        refuse_masked(thing, name)
         if thing.ndim != 1:
             raise FlowError(f"{name} has to have one axis, and has the shape {thing.shape}")
         if thing.dtype.kind != "O":
@@ -91,7 +91,8 @@ def listed(thing, name):
     """The elements of a sequence, or whatever can be gone through, as a list."""
     is_text = thing is None or isinstance(thing, (str, bytes, bytearray))
     try:
-        thing = thing.tolist() if isinstance(thing, memoryview) else list(None if is_text else thing)
+        if not isinstance(thing, (list, tuple)):
+            thing = thing.tolist() if isinstance(thing, memoryview) else list(None if is_text else thing)
     except TypeError:
         what = type(thing).__name__ if is_text else repr(thing)
         raise TypeError(f"{name} has to be an array or a sequence of numbers, and is {what}") from None

@@ -1,5 +1,6 @@
 """Capacities of NetworkX's graphs: numbers of any kind, as floats or brought to whole numbers of 64 bits exactly."""
 
+import contextlib
 import math
 from array import array
 from fractions import Fraction
@@ -24,7 +25,7 @@ def edges_of(G, capacity):
     one is a float, all are."""
     edges = list(G.edges(data=capacity, default=INFINITE))
     if {type(amount) for _, _, amount in edges} != {int}:
-        edges = [(u, v, amount if type(amount) is int else number_of(amount, u, v)) for u, v, amount in edges]
+        edges = [(u, v, number_of(amount, u, v)) for u, v, amount in edges]
     edges = [edge for edge in edges if edge[2] > 0 and edge[0] != edge[1]]
     if kind_of(amount for _, _, amount in edges) is not float:
         return edges
@@ -37,14 +38,13 @@ def edges_of(G, capacity):
 def number_of(amount, u, v):
     """The capacity of an edge as a number of Python, whose sums can't overflow: NumPy's are converted, and whole ones
     are ints. Raises NetworkXError where it is none, as a text or nan."""
-    number = plain(amount)
-    if isinstance(number, Integral):
+    if type(amount) in (int, float) and amount == amount:
+        return amount
+    if isinstance(number := plain(amount), Integral):
         return int(number)
-    try:
+    with contextlib.suppress(Exception):  # whatever a foreign kind raises where it is no number
         if number in (INFINITE, -INFINITE) or isinstance(number, Rational) or number.as_integer_ratio():
             return number
-    except Exception:  # Whatever a foreign kind does where it is no number.
-        pass
     raise nx.NetworkXError(f"the capacity of the edge ({u!r}, {v!r}) has to be a number, and is {amount!r}")
 
 
@@ -112,6 +112,6 @@ def rounding(most):
 
 
 def joined(flows, parts):
-    """The flows of arcs that `split` has split."""
-    rest = iter(flows)
-    return flows if parts is None else [sum(islice(rest, count)) for count in parts]
+    """The flows of arcs that `split` has split, of a list that the library has written."""
+    flows = iter(flows.keeper.tolist())
+    return flows if parts is None else [sum(islice(flows, count)) for count in parts]

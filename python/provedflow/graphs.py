@@ -39,8 +39,7 @@ class Problem:
         self.lists, self.parts = split(srcs, dsts, amounts, self.kind, self.scale)
 
     def solve(self, s, t, nearest=None):
-        """A flow or a cut: its value, which has to be less than what an infinite capacity counts as, the flow of each
-        arc in units, and of a minimum cut for each node whether it is on the side of s."""
+        """A flow or a cut: its value, which has to be less than what an infinite capacity counts as, and all found."""
         check_ends(self.nodes, s, t)
         try:
             network = calls.Network(*self.lists[:2], self.numbers[s], self.numbers[t], len(self.numbers),
@@ -53,7 +52,7 @@ class Problem:
         if found is None or found.value >= self.most:
             raise nx.NetworkXUnbounded("Infinite capacity path, flow unbounded above.")
         self.unit, value = network.unit, network.value(found, nearest is not None)
-        return value if self.unit else self.answer(value), joined(found.flows.keeper.tolist(), self.parts), found.side
+        return value if self.unit else self.answer(value), found
 
     def answer(self, units):
         """A number of units as an answer."""
@@ -73,17 +72,17 @@ class GraphProblem(Problem):
 
     def cut(self, s, t):
         """The value of the minimum cut nearest t, and its two sides."""
-        value, _, inside = self.solve(s, t, "sinks")
+        value, found = self.solve(s, t, "sinks")
         sides = set(), set()
-        for node, side in zip(self.numbers, inside):
+        for node, side in zip(self.numbers, found.side):
             sides[not side].add(node)
         return value, sides
 
     @collector_paused()
-    def flow_dict(self, flows):
+    def flow_dict(self, found):
         """The flow of each edge as in NetworkX: of two opposite arcs only the one that carries more has its surplus."""
         rows = {u: dict.fromkeys(row, 0) for u, row in self.nodes.adjacency()}
-        for (u, v, _), units in zip(self.arcs, flows):
+        for (u, v, _), units in zip(self.arcs, joined(found.flows, self.parts)):
             back = rows[v].get(u, 0)
             if back:
                 rows[v][u] = max(0, back - units)
@@ -187,13 +186,13 @@ def send(rows, s, t, cutoff, infinite):
         arcs.append((source, s, float(limit) if kind_of(given) is float else math.ceil(limit)))
         nodes.append(source)
     problem = Problem(nodes, arcs)
-    value, flows, inside = problem.solve(source, t)
-    for (u, v, attr), carried in zip(edges, flows):
+    value, found = problem.solve(source, t)
+    for (u, v, attr), carried in zip(edges, joined(found.flows, problem.parts)):
         if carried:
             attr["flow"] += carried
             rows[v][u]["flow"] -= carried
     if problem.unit:
-        set_floats(rows, edges, problem.unit, {u for u, side in zip(rows, inside) if side})
+        set_floats(rows, edges, problem.unit, {u for u, side in zip(rows, found.side) if side})
     elif problem.kind is Fraction:
         for row in rows.values():
             for attr in row.values():

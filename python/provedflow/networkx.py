@@ -11,9 +11,8 @@ The functions of `ALGORITHMS` have the parameters and the results of NetworkX's 
 maximum flows or minimum cuts of a whole graph the result is one, and not always NetworkX's. `flow_func`, `auxiliary`
 and `residual` are accepted and ignored. Most of the time of the function `flow_func` goes into the residual network.
 
-What a graph means is as with NetworkX: an edge without the attribute is infinite, as one of float("inf") is; self-loops
-and edges of capacity 0 or less carry nothing. Multigraphs raise NetworkXError, but for `edge_connectivity`, where each
-of several parallel edges counts.
+An edge without the attribute is infinite, as one of float("inf") is; self-loops and edges of capacity 0 or less carry
+nothing. Multigraphs raise NetworkXError, but for `edge_connectivity`, which counts parallel edges.
 
 Capacities may be ints of any size, floats, Fractions and Decimals. Where one is a float, all are, and are rounded as
 `provedflow.maximum_flow` says, with the attribute `gap`; in the residual network of `flow_func` the flow of an edge is
@@ -59,8 +58,8 @@ def maximum_flow(flowG: Any, _s: Any, _t: Any, capacity: str = "capacity",
     (2.5, {'s': {'a': 2.5}, 'a': {'t': 2.5}, 't': {}})
     """
     problem = GraphProblem(flowG, capacity)
-    value, flows, _ = problem.solve(_s, _t)
-    return value, problem.flow_dict(flows)
+    value, found = problem.solve(_s, _t)
+    return value, problem.flow_dict(found)
 
 
 def maximum_flow_value(flowG: Any, _s: Any, _t: Any, capacity: str = "capacity", flow_func: Any = None) -> Any:
@@ -121,6 +120,7 @@ def gomory_hu_tree(G: Any, capacity: str = "capacity", flow_func: Any = None) ->
     return tree
 
 
+@collector_paused()
 def edge_connectivity(G: Any, s: Any = None, t: Any = None, flow_func: Any = None, cutoff: Any = None) -> int:
     """Finds how many edges must fail before the graph falls apart, or before t can't be reached from s; at most the
     cutoff.

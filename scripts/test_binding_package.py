@@ -10,8 +10,9 @@ import pytest
 
 from binding_checks import PACKAGE, ROOT, named_library, python
 
-PAGES = "README.md", "docs/PYTHON.md", "examples/python/README.md"
-MODULES = {"provedflow": "array", "provedflow.calls": "array", "provedflow.scipy": "scipy",
+PAGES = {"README.md": 0, "docs/PYTHON.md": 5, "examples/python/README.md": 3}
+"""The pages, each with how many blocks of Python it has at least."""
+MODULES = {"provedflow": "array", "provedflow.calls": "numpy", "provedflow.scipy": "scipy",
            "provedflow.networkx": "networkx", "provedflow.pixels": "numpy"}
 """The modules with examples, and what each needs."""
 
@@ -34,7 +35,7 @@ BLOCKS = {f"{page} {number}": block for page in PAGES for number, block in enume
 
 
 def test_pages_have_examples():
-    assert [min(5, len(blocks(page))) for page in PAGES] == [0, 5, 3]
+    assert all(len(blocks(page)) >= least for page, least in PAGES.items())
 
 
 @pytest.mark.parametrize("code, shown", BLOCKS.values(), ids=BLOCKS)

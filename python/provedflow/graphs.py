@@ -183,7 +183,7 @@ def send(rows, s, t, cutoff, infinite):
     nodes, arcs, source = list(rows), [(u, v, amount) for (u, v, _), amount in zip(edges, given)], s
     if cutoff is not None and cutoff != INFINITE:  # one node more becomes the source, with an arc that takes no more
         limit, source = max(as_fraction(cutoff), 0), object()
-        arcs.append((source, s, float(limit) if kind_of(given) is float else math.ceil(limit)))
+        arcs.append((source, s, {int: math.ceil, float: float, Fraction: Fraction}[kind_of(given)](limit)))
         nodes.append(source)
     problem = Problem(nodes, arcs)
     value, found = problem.solve(source, t)

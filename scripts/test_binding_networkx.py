@@ -20,7 +20,7 @@ from fractions import Fraction
 
 import pytest
 
-from binding_checks import ROOT, assert_near, least_cuts, named_library, python
+from binding_checks import assert_near, least_cuts, named_library, python
 
 nx = pytest.importorskip("networkx")
 
@@ -91,7 +91,9 @@ def backend_by_hand():
 @pytest.mark.parametrize("way", ["flow_func", "backend"] if nx.__version__ >= "3.2" else ["flow_func"])
 def test_theirs(way, tmp_path):
     """NetworkX's own tests, each way in a process of its own. The backend takes NetworkX 3.2."""
-    python(f"{ROOT}/scripts/wheel.py", str(tmp_path))
+    (tmp_path / "provedflow-0.dist-info").mkdir()
+    (tmp_path / "provedflow-0.dist-info/entry_points.txt").write_text(
+        "[networkx.backends]\nprovedflow = provedflow.networkx:backend\n")
     named = {f"NETWORKX_{word}": "provedflow" if way == "backend" else ""
              for word in ("BACKEND_PRIORITY", "BACKEND_PRIORITY_GENERATORS", "AUTOMATIC_BACKENDS")}
     status, printed, errors = python(__file__, way, path=str(tmp_path), **named)

@@ -39,6 +39,8 @@ LINES = {
     "from Python": (f"python3 -c 'import provedflow; {IN_PYTHON}'", "5"),
     "version in Python": ("python3 -c 'from importlib.metadata import version; print(\"flow\", version(\"provedflow\"))'"
                           " | diff - <(flow --version) && echo same", "same"),
+    "backend": ("python3 -c 'from importlib.metadata import entry_points; [found] = entry_points(name=\"provedflow\", "
+                "group=\"networkx.backends\"); found.load(); print(found.value)'", "provedflow.networkx:backend"),
     "wheel": ("python3 -m pip install --quiet --no-index --target wheel --root-user-action ignore packages/*.whl && "
               f"env -u LD_LIBRARY_PATH PYTHONPATH=wheel python3 -c 'import provedflow; {IN_PYTHON}'", "5"),
 }
@@ -48,7 +50,9 @@ LINES = {
 @pytest.fixture(scope="session")
 def home(flow, made, tmp_path_factory):
     """A folder with the packages, and the program in C."""
-    needs("dpkg-deb")
+    needs("dpkg-gencontrol")
+    for module in ("setuptools", "wheel", "pip"):
+        pytest.importorskip(module)
     home = tmp_path_factory.mktemp("home")
     (home / "four.c").write_text(IN_C)
     subprocess.run(["bash", ROOT / "scripts/package.sh", home / "packages", flow, made], check=True)
@@ -102,8 +106,6 @@ def test_line(run, installed, name):
     for program in ("gcc", "pkg-config"):
         if program in line:
             needs(program)
-    if "pip" in line:
-        pytest.importorskip("pip")
     assert run(line) == shown
 
 

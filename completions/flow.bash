@@ -1,6 +1,6 @@
 # Completion of flow's command lines for bash. It is loaded by bash-completion from
 # /usr/share/bash-completion/completions/flow, or by a line 'source flow.bash' in ~/.bashrc.
-# Written by scripts/from_help.py.
+# scripts/test_pages.py compares it with the help.
 
 _flow() {
   local word=${COMP_WORDS[COMP_CWORD]}

@@ -1,6 +1,6 @@
 # Completion of flow's command lines for fish. It belongs into /usr/share/fish/vendor_completions.d or
 # ~/.config/fish/completions, under the name flow.fish.
-# Written by scripts/from_help.py.
+# scripts/test_pages.py compares it with the help.
 
 # No files before a command is named; a problem or a solution may be any file.
 complete -c flow -n __fish_use_subcommand -f

@@ -135,36 +135,24 @@ def connectivity(problem, undirected, pair):
 
 
 def greatest_value(sources, sinks, arcs):
-    """The greatest value of a flow, by shortest augmenting paths (Edmonds and Karp 1972)."""
-    rest, near, value = Counter(), defaultdict(set), 0
-    for tail, head, capacity in arcs:
-        rest[tail, head] += capacity
-        near[tail].add(head)
-        near[head].add(tail)
-    while steps := shortest_path(rest, near, sources, sinks):
-        least = min(rest[step] for step in steps)
-        for tail, head in steps:
-            rest[tail, head] -= least
-            rest[head, tail] += least
-        value += least
-    return value
-
-
-def shortest_path(rest, near, sources, sinks):
-    """The steps of a shortest path from a source to a sink over what is left of the capacities, if there is one."""
-    before, queue = dict.fromkeys(sources), list(sources)
-    for node in queue:
-        if node in sinks:
-            steps = []
-            while before[node] is not None:
-                steps.append((before[node], node))
-                node = before[node]
-            return steps
-        for head in near[node] - before.keys():
-            if rest[node, head]:
-                before[head] = node
-                queue.append(head)
-    return []
+    """The greatest value of a flow where each arc takes one unit, by shortest augmenting paths (Edmonds, Karp 1972)."""
+    rest, value = defaultdict(Counter), 0
+    for tail, head, _ in arcs:
+        rest[tail][head] += 1
+    while True:
+        before, todo = dict.fromkeys(sources), list(sources)
+        for tail in todo:
+            found = [head for head, units in rest[tail].items() if units and head not in before]
+            before.update(dict.fromkeys(found, tail))
+            todo += found
+        head = next((node for node in todo if node in sinks), None)
+        if head is None:
+            return value
+        value += 1
+        while (tail := before[head]) is not None:
+            rest[tail][head] -= 1
+            rest[head][tail] += 1
+            head = tail
 
 
 def verdict(problem, value, lines, greatest, feasible_only):
@@ -199,58 +187,26 @@ def generated(rng):
     return text_of(nodes, arcs, order[: min(first, 4)], order[first:][: rng.randrange(1, 5)])
 
 
-def mutated(rng, text):
-    """A text with some fields and lines changed, and sometimes cut off."""
-    lines = text.split(b"\n")
-    for _ in range(rng.choice([1, 1, 2, 4])):
-        at, kind = min(rng.choices(range(len(lines)), k=2)), rng.randrange(6)
-        fields = lines[at].split(b" ")
-        if kind == 0:
-            lines.insert(at, rng.choice(LINES + lines))
-        elif kind == 1:
-            lines.append(lines.pop(at))
-        elif kind == 2:
-            lines[at] = rng.choice([b"\t", b"  ", b" \r", b"\x0b"]).join(fields) + rng.choice([b"", b"\r", b" 1"])
-        else:
-            number = b"%d" % rng.choice(NUMBERS + [rng.randrange(10)] * 20)
-            fields[min(rng.randrange(6), len(fields) - 1)] = rng.choice([number] * 20 + [b"-1", b"1x", b"s", b"007"])
-            lines[at] = b" ".join(fields)
-    text = b"\n".join(lines)
-    return text[: rng.randrange(len(text) + 1)] if rng.randrange(8) == 0 else text
-
-
-def garbled(rng, text):
-    """A text with some of its bytes changed, dropped, doubled or swapped, or with whole lines so."""
+def changed(rng, text):
+    """A text with some of its lines, fields and bytes changed, and sometimes cut off."""
     lines = text.split(b"\n")
     for _ in range(rng.choice([0, 1, 1, 2, 3, 8])):
-        kind = rng.randrange(9)
-        at = rng.randrange(len(lines))
-        if kind == 0:
-            del lines[at]
-            lines = lines or [b""]
-        elif kind == 1:
-            lines.insert(at, lines[at])
-        elif kind == 2:
-            other = rng.randrange(len(lines))
+        at, other = sorted(rng.choices(range(len(lines)), k=2))
+        if rng.randrange(8) == 0:
             lines[at], lines[other] = lines[other], lines[at]
-        elif kind == 3:
-            lines.insert(at, rng.choice(LINES))
-        else:
-            line = bytearray(lines[at])
-            place = rng.randrange(len(line) + 1)
-            if kind == 4:
-                line.insert(place, rng.randrange(256))
-            elif kind == 5 and line:
-                del line[min(place, len(line) - 1)]
-            elif kind == 6 and line:
-                line[min(place, len(line) - 1)] = rng.randrange(256)
-            elif kind == 7:
-                line[place:place] = b"%d" % rng.choice(NUMBERS)
-            elif kind == 8:
-                line = bytearray(line.replace(b" ", rng.choice([b"\t", b"\r", b"  ", b"\x0b"]), 1))
-            lines[at] = bytes(line)
+        line, place, byte = lines[at], rng.randrange(len(lines[at]) + 1), bytes([rng.randrange(256)])
+        number = b"%d" % rng.choice(NUMBERS + [rng.randrange(10)] * 20)
+        fields = line.split(b" ")
+        fields[min(rng.randrange(6), len(fields) - 1)] = rng.choice([number] * 20 + [b"-1", b"1x", b"s", b"007"])
+        blank, end = rng.choice([b"\t", b"  ", b" \r", b"\x0b"]), rng.choice([b"", b"\r", b" 1"])
+        lines[at : at + 1] = rng.choice([
+            [], [line, line], [rng.choice(rng.choice([LINES, lines])), line], [line[:place], line[place:]],
+            [line[:place] + byte + line[place:]], [line[:place] + line[place + 1 :]],
+            [line[:place] + byte + line[place + 1 :]], [line[:place] + number + line[place:]],
+            [line.replace(b" ", blank, rng.randrange(1, 4)) + end], *[[b" ".join(fields)]] * 6])
+        lines = lines or [b""]
     text = b"\n".join(lines)
-    return text[: rng.randrange(len(text) + 1)] if rng.randrange(4) == 0 else text
+    return text[: rng.randrange(len(text) + 1)] if rng.randrange(6) == 0 else text
 
 
 def answer(problem, words, flows):

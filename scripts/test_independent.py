@@ -1,23 +1,21 @@
 """The program held against the second reading of the definitions in independent.py.
 
-So many problems are generated for each kind of change, and half of them changed. Two solutions of each are tried.
+Half of the problems that are generated are changed. Two solutions of each are tried.
 """
 import random
 
 import pytest
 
-from independent import JOBS, answer, garbled, generated, mutated, read_problem, read_solution, verdict
+from independent import JOBS, answer, changed, generated, read_problem, read_solution, verdict
 
-CHANGES = {"fields": (mutated, 1_000), "bytes": (garbled, 2_400)}
-BATCH, FIRST_SEED = 100, 1956
+COUNT, BATCH, FIRST_SEED = 3_400, 100, 1956
 
 
 @pytest.mark.long
-@pytest.mark.parametrize("change, first", [(change, FIRST_SEED + at) for change, (_, count) in CHANGES.items()
-                                           for at in range(0, count, BATCH)])
-def test_independent(ask, checks, tmp_path, change, first):
+@pytest.mark.parametrize("first", range(FIRST_SEED, FIRST_SEED + COUNT, BATCH))
+def test_independent(ask, checks, tmp_path, first):
     for seed in range(first, first + BATCH):
-        checks(try_one(ask, tmp_path / "problem", CHANGES[change][0], random.Random(seed)))
+        checks(try_one(ask, tmp_path / "problem", random.Random(seed)))
 
 
 def lines(put, status=0):
@@ -25,10 +23,10 @@ def lines(put, status=0):
     return status, "".join(f"{line}\n" for line in put).encode(), b""
 
 
-def try_one(ask, file, change, rng):
+def try_one(ask, file, rng):
     """One problem by all jobs, and two solutions of it. Answers the number of checks."""
     text = generated(rng)
-    text = change(rng, text) if rng.randrange(2) else text
+    text = changed(rng, text) if rng.randrange(2) else text
     try:
         problem = read_problem(text)
     except ValueError as fault:
@@ -46,7 +44,7 @@ def try_one(ask, file, change, rng):
     for flags in ([], ["--feasible"]):
         first, *others = solved.split(b"\n")
         solution = b"\n".join([first, *rng.sample(others, len(others))])
-        solution = change(rng, solution) if rng.randrange(4) else b"s 0\nf 1 1 0"
+        solution = changed(rng, solution) if rng.randrange(4) else b"s 0\nf 1 1 0"
         try:
             line, status = verdict(problem, *read_solution(solution, problem[0]), value, bool(flags))
             wanted = lines([line], status)

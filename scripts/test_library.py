@@ -3,7 +3,7 @@
 The programs of c/tests/ are compiled as C99 and as C++11, by gcc and by clang, with the static library and with the
 shared one, and run: plainly, with the sanitizers of addresses and undefined behaviour, and the calls from two threads
 also with the sanitizer of threads. In one of them each request for memory is refused in turn. Random problems are
-answered by the library and by the program. The header for C++17 is tried, by CMake too, and the library is called from
+answered by the library and by the second reading of the definitions. The header for C++17 is tried, by CMake too, and the library is called from
 Rust and Go.
 """
 
@@ -12,12 +12,12 @@ import os
 import pathlib
 import random
 import re
-import shutil
 import subprocess
 
 import pytest
 
-from conftest import ROOT
+from conftest import ROOT, needs
+from independent import connectivity, cuts, generated, leaving, read_problem, verdict
 
 TESTS = ROOT / "c/tests"
 STRICT = ["-O2", "-g", "-Wall", "-Wextra", "-Wpedantic", "-Werror", "-Wl,--fatal-warnings", "-I", ROOT / "c"]
@@ -44,15 +44,9 @@ def said(*words, **more):
     return done.stdout
 
 
-def need(command, *words):
-    """Skips the test where a command isn't installed."""
-    if shutil.which(command) is None or words and run(command, *words).returncode != 0:
-        pytest.skip(f"{command} isn't installed")
-
-
 def compiled(name, compiler, kind, sanitized, made, folder):
     """The path of a program of c/tests/."""
-    need(compiler)
+    needs(compiler)
     links = [made / "libprovedflow.a"] if kind == "static" else ["-L", made, "-lprovedflow", f"-Wl,-rpath,{made}"]
     said(compiler, *COMPILERS[compiler], *STRICT, *SANITIZED[sanitized], TESTS / f"{name}.c", "-x", "none", *links,
          "-pthread", "-o", folder / name)
@@ -73,7 +67,7 @@ def test_program(name, compiler, kind, sanitized, made, tmp_path):
 @pytest.mark.parametrize("sanitized", ["plain", "addresses"])
 @pytest.mark.parametrize("compiler", ["g++", "clang++"])
 def test_classes(compiler, sanitized, made, tmp_path):
-    need(compiler)
+    needs(compiler)
     said(compiler, *CLASSES, *SANITIZED[sanitized], TESTS / "lists.cpp", made / "libprovedflow.a", "-o",
          tmp_path / "lists")
     assert re.search(r"^lists: [1-9]\d* passed, 0 failed\n\Z", said(tmp_path / "lists"), re.M)
@@ -88,7 +82,7 @@ def test_classes(compiler, sanitized, made, tmp_path):
     ("std::vector<std::uint32_t>", "int", "this is no list")])
 @pytest.mark.parametrize("compiler", ["g++", "clang++"])
 def test_refused_elements(compiler, src, cap, words):
-    need(compiler)
+    needs(compiler)
     done = run(compiler, "-std=c++17", "-I", ROOT / "c", "-fsyntax-only", "-x", "c++", "-", input=f"""
 #include <provedflow.hpp>
 auto flow(const {src} &src, const {cap} &cap) {{ return provedflow::maximum_flow(2, src, src, cap, 0, 1); }}
@@ -98,7 +92,7 @@ auto flow(const {src} &src, const {cap} &cap) {{ return provedflow::maximum_flow
 
 
 def test_size_of_32_bits(tmp_path):
-    need("g++")
+    needs("g++")
     (tmp_path / "gnu").mkdir()
     (tmp_path / "gnu/stubs-32.h").touch()  # Of the headers for 32 bits only this one isn't in those for 64.
     system = pathlib.Path("/usr/include/x86_64-linux-gnu")
@@ -108,7 +102,7 @@ def test_size_of_32_bits(tmp_path):
 
 
 def test_cuts_in_process(made, tmp_path):
-    need("g++")
+    needs("g++")
     if not pathlib.Path("/usr/include/maxflow-3.0").exists():
         pytest.skip("libmaxflow-dev isn't installed")
     said("g++", "-std=c++17", "-isystem/usr/include/maxflow-3.0", f"-I{made}", ROOT / "bench/in_process.cpp",
@@ -117,7 +111,7 @@ def test_cuts_in_process(made, tmp_path):
 
 
 def test_cmake(made, tmp_path):
-    need("cmake")
+    needs("cmake")
     version = re.search(r'PROVEDFLOW_VERSION "(.*)"', (made / "provedflow.h").read_text())[1]
     (tmp_path / "CMakeLists.txt").write_text(f"""cmake_minimum_required(VERSION 3.13)
 project(trial CXX)
@@ -146,7 +140,7 @@ endforeach()
 @pytest.mark.parametrize("compiler, words", [("rustc", ["-O", "-L", "MADE", "four.rs", "-o"]),
                                              ("go", ["build", "-o"])])
 def test_language(compiler, words, made, tmp_path):
-    need(compiler, "version" if compiler == "go" else "--version")
+    needs(compiler)
     where = {**os.environ, "CGO_CFLAGS": f"-I{made}", "CGO_LDFLAGS": f"-L{made}", "GO111MODULE": "off",
              "GOCACHE": str(tmp_path / "go"), "GOPATH": str(tmp_path / "path"), "LD_LIBRARY_PATH": str(made)}
     words = [str(made) if word == "MADE" else word for word in words]
@@ -154,58 +148,34 @@ def test_language(compiler, words, made, tmp_path):
     assert re.findall(r"\d+", said(tmp_path / "four", env=where)) == "0 0 5 3 2 1 2 3".split()
 
 
-def random_problem(chance):
-    """A problem: nodes, sources, sinks and arcs, counted from 0, with parallel and opposite arcs and self-loops."""
-    nodes = chance.randint(2, 12)
-    order = chance.sample(range(nodes), nodes)
-    ends = chance.randint(1, max(1, nodes // 3))
-    sources, sinks = order[:ends], order[ends:ends + chance.randint(1, max(1, nodes // 3))]
-    most = chance.choice([1, 3, 20, 2 ** 32, 2 ** 64 - 1])
-    arcs = [(chance.randrange(nodes), chance.randrange(nodes), chance.randint(0, most))
-            for _ in range(chance.randint(0, 4 * nodes))]
-    return nodes, sources, sinks, arcs
+PROBLEMS = [read_problem(generated(random.Random(seed))) for seed in range(400)]
 
 
-CHANCE = random.Random(1956)
-PROBLEMS = [random_problem(CHANCE) for _ in range(400)]
-
-
-def as_text(nodes, sources, sinks, arcs):
-    """A problem in the DIMACS format."""
-    lines = [f"p max {nodes} {len(arcs)}", *(f"n {v + 1} s" for v in sources), *(f"n {v + 1} t" for v in sinks)]
-    return "".join(f"{line}\n" for line in [*lines, *(f"a {u + 1} {v + 1} {cap}" for u, v, cap in arcs)])
-
-
-def as_numbers(nodes, sources, sinks, arcs):
+def as_numbers(nodes, arcs, sources, sinks):
     """A problem as c/tests/problems.c reads it."""
-    return " ".join(map(str, [nodes, len(arcs), len(sources), len(sinks), *sources, *sinks, *sum(arcs, ())])) + "\n"
+    numbers = [nodes, len(arcs), len(sources), len(sinks), *(v - 1 for v in (*sources, *sinks))]
+    return " ".join(map(str, numbers + [number for u, v, cap in arcs for number in (u - 1, v - 1, cap)])) + "\n"
 
 
-def verdict(flow, file, place, flows):
-    """The number of the verdict on a flow; None where it brings so little that no solution can claim it."""
-    _, sources, _, arcs = PROBLEMS[place]
-    value = sum(units * ((u in sources) - (v in sources)) for (u, v, _), units in zip(arcs, flows))
-    if value < 0:
-        return None
-    lines = [f"s {value}", *(f"f {u + 1} {v + 1} {units}" for (u, v, _), units in zip(arcs, flows))]
-    return VERDICTS[run(flow, "check", file, input="".join(f"{line}\n" for line in lines)).stdout.split()[0]]
+def number_of_verdict(problem, flows, greatest):
+    """That on a flow whose solution claims the value that it has."""
+    lines = [(u, v, units) for (u, v, _), units in zip(problem[1], flows)]
+    value = sum(units * ((u in problem[2]) - (v in problem[2])) for u, v, units in lines)
+    return VERDICTS[verdict(problem, value, lines, greatest, False)[0].split()[0]]
 
 
 @functools.cache
-def by_program(flow, folder, place, flows):
-    """What the program says of a problem and of a flow, as answers() has it."""
-    nodes, _, _, arcs = PROBLEMS[place]
-    file = folder / f"{place}.max"
-    file.write_text(as_text(*PROBLEMS[place]))
-    near, far = (set(map(int, said(flow, "cut", *words, file).split()[3::2])) for words in ([], ["--sink"]))
-    links = [said(flow, "connect", *words, file).split()[1]
-             for words in ([], ["--undirected"], ["--pair"], ["--undirected", "--pair"])]
+def by_definitions(place, flows):
+    """What the second reading says of a problem and of a flow, as answers() has it."""
+    problem = nodes, arcs, *_ = PROBLEMS[place]
+    near, far = cuts(problem, flows)
+    value = sum(cap for *_, cap in leaving(arcs, near))
     room = [i for i, (arc, units) in enumerate(zip(arcs, flows)) if units < arc[2]]
     more = [units + (i in room[:1]) for i, units in enumerate(flows)]
-    return {"value": list(divmod(int(said(flow, "solve", "--value", file).split()[1]), 2 ** 64)),
-            "near": [int(node + 1 in near) for node in range(nodes)],
-            "far": [int(node + 1 in far) for node in range(nodes)], "links": list(map(int, links)),
-            "check": [verdict(flow, file, place, flows), verdict(flow, file, place, more)]}
+    return {"value": [*divmod(value, 2 ** 64)],
+            **{name: [int(v in side) for v in range(1, nodes + 1)] for name, side in (("near", near), ("far", far))},
+            "links": [connectivity(problem, undirected, pair) for pair in (False, True) for undirected in (False, True)],
+            "check": [number_of_verdict(problem, units, value) for units in (flows, more)]}
 
 
 def answers(text):
@@ -217,13 +187,11 @@ def answers(text):
 
 @pytest.mark.parametrize("kind", KINDS)
 @pytest.mark.parametrize("compiler", COMPILERS)
-def test_random_problems(compiler, kind, made, flow, tmp_path, tmp_path_factory, checks):
+def test_random_problems(compiler, kind, made, tmp_path, checks):
     program = compiled("problems", compiler, kind, "addresses", made, tmp_path)
     found = answers(said(program, input="".join(as_numbers(*problem) for problem in PROBLEMS)))
     assert len(found) == len(PROBLEMS)
     for place, answer in enumerate(found):
-        wanted = by_program(flow, tmp_path_factory.getbasetemp(), place, tuple(answer.pop("flow")))
-        if wanted["check"][1] is None:
-            wanted = {**wanted, "check": [wanted["check"][0], answer["check"][1]]}
-        assert answer == wanted and wanted["check"][0] == 0, as_text(*PROBLEMS[place])
+        wanted = by_definitions(place, tuple(answer.pop("flow")))
+        assert answer == wanted and wanted["check"][0] == VERDICTS["optimal"], PROBLEMS[place]
     checks(len(found))

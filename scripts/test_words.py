@@ -15,17 +15,10 @@ FILES = {"b.max": NET_B, "-": NET_B, "b.sol": SOLUTION_B, "fault.max": b"p min 2
 """The files of the folder in which the program runs."""
 
 WORDS = [
-    ("solve", SOLVED_A, b"", 0),
-    ("solve --value", b"s 5\n", b"", 0),
     ("solve --value b.max", b"s 2\n", b"", 0),
     ("solve --value -", b"s 2\n", b"", 0),
     ("cut b.max", b"s 2\nn 1\n", b"", 0),
     ("cut --sink b.max", b"s 2\nn 1\nn 2\n", b"", 0),
-    ("cut --arcs", b"s 5\nn 1\na 1 2 3\na 1 3 2\n", b"", 0),
-    ("cut --sink --arcs", b"s 5\nn 1\nn 2\nn 3\na 2 4 2\na 3 4 3\n", b"", 0),
-    ("connect", b"k 0\n", b"", 0),
-    ("connect --undirected", b"k 2\n", b"", 0),
-    ("connect --pair", b"k 2\n", b"", 0),
     ("connect --pair b.max", b"k 1\n", b"", 0),
     ("check missing.max missing.sol", b"", b"flow: cannot open missing.max\n", 4),
     ("check b.max missing.sol", b"", b"flow: cannot open missing.sol\n", 4),
@@ -34,7 +27,8 @@ WORDS = [
     # Both inputs are opened before anything is read.
     ("check fault.max missing.sol", b"", b"flow: cannot open missing.sol\n", 4),
 ]
-"""Words over the files and net A as standard input, what is put and told, and the status."""
+"""Words over the files and net A as standard input, what is put and told, and the status. test_independent.py has the
+answers of each flag on standard input."""
 
 REFUSED = [
     ("solve --dot", b"error: unexpected argument '--dot' found\n\n"
@@ -54,38 +48,21 @@ REFUSED = [
 """Words that are refused, and all that is told of them, where that is expected whole. No tip says how to pass an
 unknown flag as a value."""
 
-HELP = [
-    ("solve", "  s VALUE "),
-    ("solve", "  f SRC DST FLOW "),
-    ("solve", "  $ printf 'p max 3 2\\nn 1 s\\nn 3 t\\na 1 2 5\\na 2 3 2\\n' | flow solve\n"
-     "  s 2\n  f 1 2 2\n  f 2 3 2\n"),
-    ("cut", "  n NODE "),
-    ("cut", "With --sink it is the one\nnearest the sinks"),
-    ("cut", " | flow cut --arcs\n  s 2\n  n 1\n  n 2\n  a 2 3 2\n"),
-    ("connect", "  k VALUE "),
-    ("connect", "--undirected each link is given by one arc line"),
-    ("connect", " | flow connect\n  k 1\n"),
-    ("check", "  over SRC DST FLOW CAP "),
-    ("check", "  unbalanced NODE IN OUT "),
-    ("check", "  value GIVEN FOUND "),
-    ("check", "  feasible VALUE "),
-    ("check", "  not-maximal VALUE "),
-    ("check", "  optimal VALUE "),
-    ("check", "            s VALUE            the value that the flow is said to have\n            f SRC DST FLOW "),
-]
-"""What the help of a command has to say."""
-
+HELP = {
+    "solve": ["  s VALUE ", "  f SRC DST FLOW ", "  $ printf 'p max 3 2\\nn 1 s\\nn 3 t\\na 1 2 5\\na 2 3 2\\n' | "
+              "flow solve\n  s 2\n  f 1 2 2\n  f 2 3 2\n"],
+    "cut": ["  n NODE ", "With --sink it is the one\nnearest the sinks",
+            " | flow cut --arcs\n  s 2\n  n 1\n  n 2\n  a 2 3 2\n"],
+    "connect": ["  k VALUE ", "--undirected each link is given by one arc line", " | flow connect\n  k 1\n"],
+    "check": ["  over SRC DST FLOW CAP ", "  unbalanced NODE IN OUT ", "  value GIVEN FOUND ", "  feasible VALUE ",
+              "  not-maximal VALUE ", "  optimal VALUE ", "            s VALUE            the value that the flow is "
+              "said to have\n            f SRC DST FLOW "],
+}
+"""What the help of a command has to say, and below what that of each has to."""
 HELP_OF_ALL = [
-    "            p max NODES ARCS ",
-    "            n ID s | n ID t ",
-    "            a SRC DST CAP ",
-    "Limits: 2 to 1000000 nodes, 4000000\n",
-    "capacities up to 18446744073709551615, lines of 200 bytes",
-    "standard input is read; - names a file like any other.\n",
-    "docs/GUIDE.md",
-    "docs/MESSAGES.md",
-]
-"""What the help of every command has to say."""
+    "            p max NODES ARCS ", "            n ID s | n ID t ", "            a SRC DST CAP ",
+    "Limits: 2 to 1000000 nodes, 4000000\n", "capacities up to 18446744073709551615, lines of 200 bytes",
+    "standard input is read; - names a file like any other.\n", "docs/GUIDE.md", "docs/MESSAGES.md"]
 
 GIVEN = [
     ("solve", b"p max 1000000 4000000\n", b"", b"flow: line 2: terminals missing\n", 3),
@@ -186,10 +163,9 @@ def test_help_cut_short(run, run_cut_short, checks, words):
     checks(2)
 
 
-@named("command, wanted", HELP)
-def test_help(run, checks, command, wanted):
-    status, put, _ = run(f"{command} --help")
-    assert status == 0
-    for sentence in [wanted, *HELP_OF_ALL]:
-        assert sentence in put.decode()
-    checks(1 + len(HELP_OF_ALL))
+@pytest.mark.parametrize("command", HELP)
+def test_help(run, checks, command):
+    status, put, told = run(f"{command} --help")
+    assert (status, told) == (0, b"")
+    assert [sentence for sentence in HELP[command] + HELP_OF_ALL if sentence not in put.decode()] == []
+    checks(len(HELP[command] + HELP_OF_ALL))

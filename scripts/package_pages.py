@@ -6,15 +6,13 @@ FOLDER has the pages and examples as they lie in the repository. What stands bet
 of another such link only the words stay. The licence stands in the file `copyright`.
 """
 
-import os
 import pathlib
 import re
 import sys
 
-MARKS = "<!-- repository: begin -->", "<!-- repository: end -->"
-MARKED = re.compile("^{0}\n.*?{1}\n+|{0}.*?{1}".format(*MARKS), re.DOTALL | re.MULTILINE)
+BEGIN, END = "<!-- repository: begin -->", "<!-- repository: end -->"
+MARKED = re.compile(f"^{BEGIN}\n.*?{END}\n+|{BEGIN}.*?{END}", re.DOTALL | re.MULTILINE)
 LINK = re.compile(r"\[([^][]*)\]\(([^)#\s]+)(?:#[^)\s]*)?\)")
-RENAMED = {"[LICENSE](LICENSE)": "[copyright](copyright)"}
 
 
 def is_dead(page, link):
@@ -24,20 +22,11 @@ def is_dead(page, link):
 
 def packaged(page, text):
     """The text of a page as it stands in the package."""
-    for old, new in RENAMED.items():
-        text = text.replace(old, new)
-    lines = MARKED.sub("", text).split("\n")
+    lines = MARKED.sub("", text.replace("[LICENSE](LICENSE)", "[copyright](copyright)")).split("\n")
     first_links = [LINK.match(line, 2) if line.startswith("| ") else None for line in lines]
     lines = [line for line, first in zip(lines, first_links) if not (first and is_dead(page, first))]
     return LINK.sub(lambda link: link.group(1) if is_dead(page, link) else link.group(), "\n".join(lines))
 
 
-def main():
-    if len(sys.argv) != 2 or not os.path.isdir(sys.argv[1]):
-        sys.exit("usage: package_pages.py FOLDER")
-    for page in pathlib.Path(sys.argv[1]).rglob("*.md"):
-        page.write_text(packaged(page, page.read_text(encoding="utf-8")), encoding="utf-8")
-
-
-if __name__ == "__main__":
-    main()
+for page in pathlib.Path(sys.argv[1]).rglob("*.md"):
+    page.write_text(packaged(page, page.read_text(encoding="utf-8")), encoding="utf-8")

@@ -14,26 +14,18 @@ from array import array
 import pytest
 
 import provedflow
+from independent import text_of
+
+np = pytest.importorskip("numpy")
 
 
 def by_sets(nodes, arcs):
     """The least numbers of arcs that leave a set which is neither empty nor all, and that have one end in such a set;
     nodes count from 0."""
-    count = [[0] * nodes for _ in range(nodes)]
-    for tail, head in arcs:
-        if tail != head:
-            count[tail][head] += 1
-    leaving, all_nodes = [0] * (1 << nodes), (1 << nodes) - 1
-    for side in range(1, all_nodes):
-        last = side.bit_length() - 1  # the set is that of its other nodes, and the last
-        number = leaving[side & ~(1 << last)]
-        for node in range(nodes):
-            if side >> node & 1:
-                number -= count[node][last]
-            else:
-                number += count[last][node]
-        leaving[side] = number
-    return min(leaving[1:-1]), min(leaving[side] + leaving[all_nodes ^ side] for side in range(1, all_nodes))
+    sets = np.arange(1, 2**nodes - 1)[:, None]
+    tails, heads = np.array(arcs, int).reshape(-1, 2).T
+    leaving = (sets >> tails & ~(sets >> heads) & 1).sum(axis=1)
+    return leaving.min(), (leaving + leaving[::-1]).min()
 
 
 def both_ways(arcs):
@@ -161,8 +153,7 @@ def by_library(library, monkeypatch):
 @pytest.fixture
 def by_program(ask):
     def by_program(nodes, arcs, *flags):
-        text = f"p max {nodes} {len(arcs)}\nn 1 s\nn 2 t\n" + "".join(f"a {u + 1} {v + 1} 1\n" for u, v in arcs)
-        return ask(["connect", *flags], text.encode())
+        return ask(["connect", *flags], text_of(nodes, [(u + 1, v + 1, 1) for u, v in arcs], [1], [2]))
     return by_program
 
 

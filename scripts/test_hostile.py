@@ -159,16 +159,14 @@ DEVICES = {
 
 
 @pytest.mark.parametrize("name", DEVICES)
-def test_device(flow, tmp_path, name):
+def test_device(ask, flow, tmp_path, name):
     line, status, message = DEVICES[name]
     (tmp_path / "net").write_bytes(NET)
-    done = subprocess.run(["bash", "-c", line, flow], capture_output=True, timeout=60, cwd=tmp_path)
-    told = done.stderr.replace(bytes(tmp_path), b"FOLDER")
-    assert (done.returncode, done.stdout, told) == (status, b"", message)
+    ended, put, told = ask(["-c", line, flow], program="bash", cwd=tmp_path)
+    assert (ended, put, told.replace(bytes(tmp_path), b"FOLDER")) == (status, b"", message)
 
 
-def test_a_reader_that_goes_away(flow, tmp_path):
+def test_a_reader_that_goes_away(ask, flow, tmp_path):
     (tmp_path / "big").write_text("p max 2 300000\nn 1 s\nn 2 t\n" + "a 1 2 1\n" * 300000)
-    line = '"$0" solve big | head -c 5; echo "${PIPESTATUS[0]}"'
-    done = subprocess.run(["bash", "-c", line, flow], capture_output=True, timeout=60, cwd=tmp_path)
-    assert (done.stdout, done.stderr) == (b"s 3004\n", WRITE_FAILED)
+    line = '"$0" solve big | head -c 5; exit "${PIPESTATUS[0]}"'
+    assert ask(["-c", line, flow], program="bash", cwd=tmp_path) == (4, b"s 300", WRITE_FAILED)

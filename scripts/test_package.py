@@ -4,11 +4,14 @@ The root isn't a whole system: dpkg goes on where it lacks what a package depend
 compiler, the loader and Python find what was installed.
 """
 import os
+import pathlib
+import shlex
 import subprocess
 
 import pytest
 
 from conftest import ROOT, needs
+from test_documents import LINK
 
 pytestmark = [pytest.mark.long, pytest.mark.xdist_group("package")]
 PLACE = "usr/lib/x86_64-linux-gnu"
@@ -48,29 +51,17 @@ LINES = {
 
 
 @pytest.fixture(scope="session")
-def home(flow, made, tmp_path_factory):
-    """A folder with the packages, and the program in C."""
+def run(flow, made, tmp_path_factory):
+    """Runs a line of bash in a folder with the packages, where it finds what they have brought into the root."""
     needs("dpkg-gencontrol")
     for module in ("setuptools", "wheel", "pip"):
         pytest.importorskip(module)
     home = tmp_path_factory.mktemp("home")
-    (home / "four.c").write_text(IN_C)
-    subprocess.run(["bash", ROOT / "scripts/package.sh", home / "packages", flow, made], check=True)
-    return home
-
-
-@pytest.fixture(scope="session")
-def root(home):
-    """A root for the packages, without any."""
+    root = home / "root"
     for name in ("info", "updates"):
-        (home / "root/var/lib/dpkg" / name).mkdir(parents=True)
-    (home / "root/var/lib/dpkg/status").touch()
-    return home / "root"
-
-
-@pytest.fixture(scope="session")
-def run(home, root):
-    """Runs a line of bash in the folder, where it finds what the packages have brought."""
+        (root / "var/lib/dpkg" / name).mkdir(parents=True)
+    (root / "var/lib/dpkg/status").touch()
+    (home / "four.c").write_text(IN_C)
     env = dict(os.environ, ROOT=str(root), PATH=f"{root}/usr/bin:{os.environ['PATH']}:/usr/sbin:/sbin",
                LD_LIBRARY_PATH=f"{root}/{PLACE}", PYTHONPATH=f"{root}/usr/lib/python3/dist-packages",
                PKG_CONFIG_LIBDIR=f"{root}/{PLACE}/pkgconfig", PKG_CONFIG_SYSROOT_DIR=str(root), LC_ALL="C.UTF-8",
@@ -81,27 +72,24 @@ def run(home, root):
         done = subprocess.run(["bash", "-c", line], cwd=home, env=env, text=True, capture_output=True, timeout=600)
         assert done.returncode == 0, done.stderr
         return done.stdout.rstrip("\n")
+    run(shlex.join(["bash", f"{ROOT}/scripts/package.sh", "packages", str(flow), str(made)]))
+    run("$DPKG --install packages/*.deb")
     return run
 
 
-@pytest.fixture(scope="session")
-def installed(run):
-    run("$DPKG --install packages/*.deb")
-
-
 @pytest.mark.parametrize("package", PACKAGES)
-def test_state(run, installed, checks, package):
+def test_state(run, checks, package):
     assert run(f"$DPKG --status {package} | sed -n 's/^Status: //p'") == "install ok installed"
     assert run(f"$DPKG --verify {package}") == ""
     checks(2)
 
 
-def test_what_the_program_cannot_stand_beside(run, installed):
+def test_what_the_program_cannot_stand_beside(run):
     assert run("$DPKG --status flow | sed -n 's/^Conflicts: //p'") == "libopm-simulators-bin"
 
 
 @pytest.mark.parametrize("name", LINES)
-def test_line(run, installed, name):
+def test_line(run, name):
     line, shown = LINES[name]
     for program in ("gcc", "pkg-config"):
         if program in line:
@@ -111,13 +99,22 @@ def test_line(run, installed, name):
 
 @pytest.mark.parametrize("example", [
     "segmentation/segment", "scheduling/schedule", "roads/roads", "redundancy/redundancy"])
-def test_example(run, installed, example):
+def test_example(run, example):
     for package in ("numpy", "scipy", "networkx", "PIL", "matplotlib"):
         pytest.importorskip(package)
     *_, last = run(f"python3 $ROOT/usr/share/doc/flow/examples/{example}.py --out drawn").splitlines()
     assert last.startswith("drawn: drawn/")
 
 
-def test_removal(run, root, installed):
+def test_pages_name_what_is_there(run, checks):
+    pages = [pathlib.Path(page) for page in run("find $ROOT/usr/share/doc -name '*.md'").splitlines()]
+    for page in pages:
+        assert "repository: " not in page.read_text()
+        links = [name for name, _ in LINK.findall(page.read_text())]
+        assert [name for name in links if name and not (page.parent / name).exists()] == [], page
+    checks(len(pages))
+
+
+def test_removal(run):
     run(f"$DPKG --purge {' '.join(PACKAGES)}")
-    assert [path for path in root.rglob("*") if "var" not in path.relative_to(root).parts and not path.is_dir()] == []
+    assert run("find $ROOT -not -type d -not -path '*/root/var/*'") == ""

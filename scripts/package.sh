@@ -22,8 +22,9 @@ if [ $# -eq 3 ]; then
   program=$(realpath "$2")
   libraries=$(realpath "$3")
 else
-  program=$(bash "$(dirname "$0")/install.sh" --library "$scratch/built")
   libraries=$scratch/built
+  program=$(bash "$(dirname "$0")/install.sh" "$libraries")
+  bash "$(dirname "$0")/library.sh" "$libraries" > /dev/null
 fi
 cd "$(dirname "$0")/.."
 

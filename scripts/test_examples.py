@@ -72,8 +72,7 @@ def data(tmp_path_factory):
     (folder / "bad.gml").write_text("graph [ edge [ source 1 target 2 ] ]")
     write(folder, roads="Von,nach,Last\nA,B,3\nC,D,4\nB,E,1e2\n", kinds="from,to,capacity\nA,B,3 t\nB,C,2 kg\n",
           ways="from,to,capacity\nA,B,3\nC,B,4\n", order="from,to,capacity\nA,B,3\nC,D,4\nA,D,5\n",
-          twice="from,to,capacity\nB,A,3\nA,B,4\nC,B,5\n", dot="from;to;capacity\nA;B;7\nA;B;1.000\n",
-          comma='from,to,capacity\nA,B,"1,200"\n', million='from,to,capacity\nA,B,"1,000,000"\nA,B,"1,200"\n',
+          twice="from,to,capacity\nB,A,3\nA,B,4\nC,B,5\n", comma='from,to,capacity\nA,B,"1,200"\n',
           spots="place,x,y,role\nA,1,5,source\nB,2,5,\nC,3,5,\nD,4,5,\nE,5,5,sink\n", ring="from,to\nA,B\nB,C\nC,A\n",
           parts="from,to\nA,B\nB,C\nD,E\n", one="from,to\nA,A\n", grid="from,to\n" + GRID * 2)
     grey, strokes = np.full((6, 8), 20, np.uint8), np.zeros((6, 8, 4), np.uint8)
@@ -111,13 +110,10 @@ CASES = {
         ("roads.csv", "roads.py: roads.csv: row 1: the column from isn't among Von, nach, Last\n"),
         ("kinds.csv", "roads.py: kinds.csv: the capacities have different units: kg, t\n"),
         ("none.csv", "roads.py: there is no file none.csv\n"),
-        ("ways.csv --sources A --sinks B --more 1/3", "roads.py: '1/3' isn't a number from 0, as 52 or 52.5\n"),
         ("ways.csv --sources A --sinks B --more 1e-3", "A to B with 0.001 more: 3.001\n"),
         ("ways.csv --sources A --sinks B --more 1e999999999", "roads.py: '1e999999999' isn't a number from 0"),
         ("ways.csv --sources A --sinks B --more 0", "error: --more is a number above 0, without a unit\n"),
-        ("comma.csv", "csv: row 2: the capacity '1,200' can be 1200 or 1.2: write 1,200.0 or 1,2000\n"),
-        ("dot.csv", "csv: row 3: the capacity '1.000' can be 1000 or 1: write 1.000,0 or 1.0000\n"),
-        ("million.csv --sources A --sinks B", "from A to B: 1001200\n")),
+        ("comma.csv", "csv: row 2: the capacity '1,200' can be 1200 or 1.2: write 1,200.0 or 1,2000\n")),
     "redundancy/redundancy.py": (
         ("ring.csv", "each spot needs a new link, so that 3 must fail: 2 new links or more, from spot to spot"),
         ("parts.csv", "the network has 2 parts that no link joins, of 3, 2 places; 1 new link would join them. Of the "

@@ -16,28 +16,20 @@ from test_documents import LINK
 pytestmark = [pytest.mark.long, pytest.mark.xdist_group("package")]
 PLACE = "usr/lib/x86_64-linux-gnu"
 PACKAGES = ["flow", "libprovedflow0", "libprovedflow-dev", "python3-provedflow"]
-IN_C = """#include <provedflow.h>
-#include <stdio.h>
-
-int main(void) {
-    uint32_t src[] = {0, 0, 1, 1, 2}, dst[] = {1, 2, 2, 3, 3}, source[] = {0}, sink[] = {3};
-    uint64_t cap[] = {3, 2, 1, 2, 3}, low = 0;
-    uint32_t status = provedflow_flow(4, 5, src, dst, cap, 1, source, 1, sink, NULL, NULL, &low);
-    printf("status %u, value %llu\\n", status, (unsigned long long)low);
-    return 0;
-}
-"""
 IN_PYTHON = "print(provedflow.maximum_flow([0, 0, 1, 1, 2], [1, 2, 2, 3, 3], [3, 2, 1, 2, 3], 0, 3).value)"
 FOUR = "$ROOT/usr/share/doc/flow/examples/four_nodes.max"
-BUILD = "gcc -o four four.c $(pkg-config --cflags --libs provedflow)"
+CALLS = ROOT / "c/tests/calls.c"
+BUILD = f"gcc -o calls {CALLS} $(pkg-config --cflags --libs provedflow)"
+PASSED = "tail -n 1 | sed -E 's/: [1-9][0-9]* passed/: passed/'"
 LINES = {
     "value": (f"flow solve --value {FOUR}", "s 5"),
     "cut": (f"flow cut {FOUR}", "s 5\nn 1"),
     "connectivity": (f"flow connect --undirected {FOUR}", "k 2"),
     "verdict": (f"flow solve {FOUR} | flow check {FOUR}", "optimal 5"),
-    "shared": (f"{BUILD} && ./four", "status 0, value 5"),
-    "needed": (f"{BUILD} && objdump -p four | sed -n 's/^ *NEEDED *//p' | sort", "libc.so.6\nlibprovedflow.so.0"),
-    "static": (f"gcc -o still four.c -I$ROOT/usr/include $ROOT/{PLACE}/libprovedflow.a && ./still", "status 0, value 5"),
+    "shared": (f"{BUILD} && ./calls | {PASSED}", "calls: passed, 0 failed"),
+    "needed": (f"{BUILD} && objdump -p calls | sed -n 's/^ *NEEDED *//p' | sort", "libc.so.6\nlibprovedflow.so.0"),
+    "static": (f"gcc -o still {CALLS} -I$ROOT/usr/include $ROOT/{PLACE}/libprovedflow.a && ./still | {PASSED}",
+               "calls: passed, 0 failed"),
     "version in C": ("test $(pkg-config --modversion provedflow) = $(flow --version | cut -c6-) && echo same", "same"),
     "from Python": (f"python3 -c 'import provedflow; {IN_PYTHON}'", "5"),
     "version in Python": ("python3 -c 'from importlib.metadata import version; print(\"flow\", version(\"provedflow\"))'"
@@ -61,7 +53,6 @@ def run(flow, made, tmp_path_factory):
     for name in ("info", "updates"):
         (root / "var/lib/dpkg" / name).mkdir(parents=True)
     (root / "var/lib/dpkg/status").touch()
-    (home / "four.c").write_text(IN_C)
     env = dict(os.environ, ROOT=str(root), PATH=f"{root}/usr/bin:{os.environ['PATH']}:/usr/sbin:/sbin",
                LD_LIBRARY_PATH=f"{root}/{PLACE}", PYTHONPATH=f"{root}/usr/lib/python3/dist-packages",
                PKG_CONFIG_LIBDIR=f"{root}/{PLACE}/pkgconfig", PKG_CONFIG_SYSROOT_DIR=str(root), LC_ALL="C.UTF-8",

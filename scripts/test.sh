@@ -26,26 +26,13 @@ export RT_JOBS
 export MIMALLOC_PURGE_DELAY=-1
 
 folder=$(mktemp -d)
-end() {
-  for begun in $(jobs -rp); do
-    kill "$begun" 2> /dev/null
-  done
-  wait
-  rm -rf "$folder"
-}
-trap end EXIT
+trap 'rm -rf "$folder"' EXIT
 
 # The gate: every proof from nothing, each wrong body, each test, and each program as two compilers make it. It would put
 # libraries from before back, so these go first.
 rm -rf crates/*/out/rlib
 say "the gate, $RT_JOBS checks at a time"
-(
-  while sleep 60; do
-    say "the gate: $(grep -c '^rt: .* proved$' "$folder/gate") proofs"
-  done
-) &
 rt ci 2>&1 | tee "$folder/gate" || exit 1
-kill $!
 gate=$(grep -E '^[0-9]+ passed, 0 failed$' "$folder/gate" | tail -n 1)
 [ -n "$gate" ] || exit 1
 passed=${gate%% *}

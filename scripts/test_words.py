@@ -49,16 +49,13 @@ REFUSED = [
 unknown flag as a value."""
 
 HELP = {
-    "solve": ["  s VALUE ", "  f SRC DST FLOW ", "  $ printf 'p max 3 2\\nn 1 s\\nn 3 t\\na 1 2 5\\na 2 3 2\\n' | "
-              "flow solve\n  s 2\n  f 1 2 2\n  f 2 3 2\n"],
-    "cut": ["  n NODE ", "With --sink it is the one\nnearest the sinks",
-            " | flow cut --arcs\n  s 2\n  n 1\n  n 2\n  a 2 3 2\n"],
-    "connect": ["  k VALUE ", "--undirected each link is given by one arc line", " | flow connect\n  k 1\n"],
-    "check": ["  over SRC DST FLOW CAP ", "  unbalanced NODE IN OUT ", "  value GIVEN FOUND ", "  feasible VALUE ",
-              "  not-maximal VALUE ", "  optimal VALUE ", "            s VALUE            the value that the flow is "
-              "said to have\n            f SRC DST FLOW "],
+    "solve": "$ printf 'p max 3 2\\nn 1 s\\nn 3 t\\na 1 2 5\\na 2 3 2\\n' | flow solve\n  s 2\n  f 1 2 2\n  f 2 3 2\n",
+    "cut": " | flow cut --arcs\n  s 2\n  n 1\n  n 2\n  a 2 3 2\n",
+    "connect": " | flow connect\n  k 1\n",
+    "check": "  s VALUE            the value that the flow is said to have\n            f SRC DST FLOW ",
 }
-"""What the help of a command has to say, and below what that of each has to."""
+"""What the help of a command has to say beside what test_pages.py compares with the manual page; below, what that of
+each command has to."""
 HELP_OF_ALL = [
     "            p max NODES ARCS ", "            n ID s | n ID t ", "            a SRC DST CAP ",
     "Limits: 2 to 1000000 nodes, 4000000\n", "capacities up to 18446744073709551615, lines of 200 bytes",
@@ -167,5 +164,5 @@ def test_help_cut_short(run, run_cut_short, checks, words):
 def test_help(run, checks, command):
     status, put, told = run(f"{command} --help")
     assert (status, told) == (0, b"")
-    assert [sentence for sentence in HELP[command] + HELP_OF_ALL if sentence not in put.decode()] == []
-    checks(len(HELP[command] + HELP_OF_ALL))
+    assert [sentence for sentence in [HELP[command], *HELP_OF_ALL] if sentence not in put.decode()] == []
+    checks(1 + len(HELP_OF_ALL))

@@ -2,10 +2,8 @@
 
 In a block fenced as ```console, a line `$ COMMAND` is run by bash, with the lines of its here document, and the lines
 after it are what it prints, on standard output and standard error together. The commands of a page run one after the
-other in a scratch folder of its own, with a copy of examples/, with the program on the PATH as `flow`, and with the
-library for C where the compiler and the loader find it; `$?` is the status of the command before. In a block fenced as
-```console checkout, they run in the repository itself, where standard output alone is compared, with the repository's
-path shown as /path/to/flow, and they must leave no file behind that git would take.
+other in a scratch folder of its own, with a copy of examples/ and a link to crates/, with the program on the PATH as
+`flow`, and with the library for C where the compiler and the loader find it; `$?` is the status of the command before.
 """
 import os
 import re
@@ -20,7 +18,7 @@ PAGES = ["README.md", "CONTRIBUTING.md", *sorted(str(page.relative_to(ROOT)) for
 PROSE = sorted({str(page.relative_to(ROOT)) for kind in ("*.md", "docs/*.md", "examples/**/*.md")
                 for page in ROOT.glob(kind)} - {"README.md", "docs/BENCHMARKS.md"})  # Benchmarks write these two.
 LIBRARY_PLACES = ("C_INCLUDE_PATH", "CPLUS_INCLUDE_PATH", "LIBRARY_PATH", "LD_LIBRARY_PATH")
-BLOCK = re.compile(r"^```(.*?)\n(.*?)^```$", re.M | re.S)
+BLOCK = re.compile(r"^```console\n(.*?)^```$", re.M | re.S)
 COMMAND = re.compile(r"\$ ([^\n]*<< ?'?(\w+)'?[^\n]*\n.*?^\2$|[^\n]*)\n(.*?)(?=^\$ |\Z)", re.M | re.S)
 LINK = re.compile(r"\]\((?![a-z]+:)([^)#\s]*)(?:#([^)\s]*))?\)")
 NUMBER = (r"(?:\d[\d,.]*[\s-]*|(?:one|two|three|four|five|six|seven|eight|nine|ten|twelve|fifteen|twenty|thirty|forty|"
@@ -30,29 +28,21 @@ SPEED = re.compile(rf"\b{NUMBER}(?:CPU[\s-])?(?:[mµ]?s|(?:milli|micro)?seconds?
 NO_SPEED = re.compile(r"^```.*?^```$|^    .*?$|`[^`\n]+`|times the greatest capacity", re.M | re.S)  # Code, a limit.
 
 
-def changes():
-    """What git says has changed in the repository; nothing where there is no git."""
-    return subprocess.run("git status --porcelain", shell=True, cwd=ROOT, capture_output=True, text=True).stdout
-
-
 @pytest.fixture
 def shell(flow, made, tmp_path):
-    """Runs a command of a page after one that ended with this status; answers its status, what it printed, and its
-    errors."""
+    """Runs a command of a page after one that ended with this status; answers its status and what it printed."""
     folder, programs = tmp_path / "work", tmp_path / "bin"
     programs.mkdir()
     (programs / "flow").symlink_to(flow)
     shutil.copytree(ROOT / "examples", folder / "examples")
+    (folder / "crates").symlink_to(ROOT / "crates")
     env = dict(os.environ, PATH=f"{programs}:{os.environ['PATH']}", LC_ALL="C", PYTHONDONTWRITEBYTECODE="1")
     env.update(dict.fromkeys(LIBRARY_PLACES, str(made)))
 
-    def run(command, status, in_checkout):
-        done = subprocess.run(
-            ["bash", "-c", f"(exit {status})\n{command}\n"], cwd=ROOT if in_checkout else folder, env=env, timeout=600,
-            stdin=subprocess.DEVNULL, stdout=subprocess.PIPE, errors="replace",
-            stderr=subprocess.PIPE if in_checkout else subprocess.STDOUT)
-        printed = done.stdout.replace(str(ROOT), "/path/to/flow") if in_checkout else done.stdout
-        return done.returncode, printed, done.stderr
+    def run(command, status):
+        done = subprocess.run(["bash", "-c", f"(exit {status})\n{command}\n"], cwd=folder, env=env, errors="replace",
+                              stdin=subprocess.DEVNULL, stdout=subprocess.PIPE, stderr=subprocess.STDOUT, timeout=600)
+        return done.returncode, done.stdout
     return run
 
 
@@ -60,16 +50,12 @@ def shell(flow, made, tmp_path):
 def test_commands(shell, checks, page):
     text = (ROOT / page).read_text()
     assert len(re.findall("^```", text, re.M)) % 2 == 0, "a block without an end"
-    for kind, lines in BLOCK.findall(text):
-        if kind not in ("console", "console checkout"):
-            continue
+    for lines in BLOCK.findall(text):
         assert lines.startswith("$ "), f"a console block that doesn't begin with a command:\n{lines}"
-        status, in_checkout = 0, kind == "console checkout"
+        status = 0
         for command, _, shown in COMMAND.findall(lines):
-            before = in_checkout and changes()
-            status, printed, errors = shell(command, status, in_checkout)
-            assert printed == shown, f"{command}\nended with status {status} {errors or ''}"
-            assert not in_checkout or changes() == before, f"{command}\nleft the repository not as it was"
+            status, printed = shell(command, status)
+            assert printed == shown, f"{command}\nended with status {status}"
             checks()
 
 

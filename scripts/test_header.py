@@ -6,10 +6,6 @@ and the same result. A slice is a pointer and then a length of type size_t, name
 """
 
 import re
-import shutil
-import subprocess
-
-import pytest
 
 from conftest import ROOT
 
@@ -42,13 +38,3 @@ def test_header(checks):
                 for result, name, parameters in DECLARATION.findall(header)]
     assert exported and sorted(declared) == sorted(exported)
     checks(len(declared))
-
-
-def test_size_of_32_bits_is_refused():
-    if not shutil.which("cc"):
-        pytest.skip("cc isn't installed")
-    texts = (f'#include <stdint.h>\n{line}#include "{ROOT}/c/provedflow.h"\n'
-             for line in ("", "#undef SIZE_MAX\n#define SIZE_MAX 0xFFFFFFFF\n"))
-    taken, refused = (subprocess.run(["cc", "-std=c99", "-fsyntax-only", "-x", "c", "-"], input=text,
-                                     capture_output=True, text=True, check=False) for text in texts)
-    assert taken.returncode == 0 and refused.returncode != 0 and "size_t of 64 bits" in refused.stderr

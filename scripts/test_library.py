@@ -91,14 +91,16 @@ auto flow(const {src} &src, const {cap} &cap) {{ return provedflow::maximum_flow
     assert len(errors) == 1 and words in errors[0], done.stderr
 
 
-def test_size_of_32_bits(tmp_path):
-    needs("g++")
+@pytest.mark.parametrize("compiler, header, name", [
+    ("gcc", "provedflow.h", "provedflow.h"), ("g++", "provedflow.hpp", "provedflow")])
+def test_size_of_32_bits(compiler, header, name, tmp_path):
+    needs(compiler)
     (tmp_path / "gnu").mkdir()
     (tmp_path / "gnu/stubs-32.h").touch()  # Of the headers for 32 bits only this one isn't in those for 64.
     system = pathlib.Path("/usr/include/x86_64-linux-gnu")
     headers = [word for folder in (tmp_path, *system.glob("c++/*"), system) for word in ("-isystem", folder)]
-    done = run("g++", "-m32", "-std=c++17", "-fsyntax-only", *headers, ROOT / "c/provedflow.hpp")
-    assert "provedflow needs a size_t of 64 bits" in done.stderr
+    done = run(compiler, "-m32", "-fsyntax-only", *headers, ROOT / "c" / header)
+    assert f"{name} needs a size_t of 64 bits" in done.stderr
 
 
 def test_cuts_in_process(made, tmp_path):

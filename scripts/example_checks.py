@@ -1,18 +1,16 @@
 """What the tests of the examples share: scripts that are run, and files that they read."""
 
 import os
-import pathlib
 import re
 import subprocess
 import sys
 
 import pytest
 
-ROOT = pathlib.Path(__file__).resolve().parent.parent
+from conftest import ROOT
+
 EXAMPLES = ROOT / "examples"
-SECONDS = 60  # What a script on small data may take.
 sys.path[:0] = [str(EXAMPLES / folder) for folder in ("common", "guide", "redundancy", "scheduling")]
-sys.path.append(str(ROOT / "python"))
 
 
 @pytest.fixture(autouse=True)
@@ -27,7 +25,7 @@ def built(flow, library, tmp_path, monkeypatch):
 def run(words, cwd, **options):
     """Runs a script of the examples: its status, what it wrote, and its complaint."""
     done = subprocess.run([sys.executable, "-B", EXAMPLES / words[0], *words[1:]], text=True, check=False, cwd=cwd,
-                          timeout=SECONDS, **{"stdout": subprocess.PIPE, "stderr": subprocess.PIPE, **options})
+                          timeout=60, **{"stdout": subprocess.PIPE, "stderr": subprocess.PIPE, **options})
     return done.returncode, done.stdout, done.stderr
 
 

@@ -135,10 +135,10 @@ def connectivity(problem, undirected, pair):
 
 
 def greatest_value(sources, sinks, arcs):
-    """The greatest value of a flow where each arc takes one unit, by shortest augmenting paths (Edmonds, Karp 1972)."""
+    """The greatest value of a flow, by shortest augmenting paths (Edmonds and Karp 1972)."""
     rest, value = defaultdict(Counter), 0
-    for tail, head, _ in arcs:
-        rest[tail][head] += 1
+    for tail, head, capacity in arcs:
+        rest[tail][head] += capacity
     while True:
         before, todo = dict.fromkeys(sources), list(sources)
         for tail in todo:
@@ -148,11 +148,15 @@ def greatest_value(sources, sinks, arcs):
         head = next((node for node in todo if node in sinks), None)
         if head is None:
             return value
-        value += 1
+        steps = []
         while (tail := before[head]) is not None:
-            rest[tail][head] -= 1
-            rest[head][tail] += 1
+            steps.append((tail, head))
             head = tail
+        least = min(rest[tail][head] for tail, head in steps)
+        for tail, head in steps:
+            rest[tail][head] -= least
+            rest[head][tail] += least
+        value += least
 
 
 def verdict(problem, value, lines, greatest, feasible_only):

@@ -3,8 +3,8 @@
 The programs of c/tests/ are compiled as C99 and as C++11, by gcc and by clang, with the static library and with the
 shared one, and run: plainly, with the sanitizers of addresses and undefined behaviour, and the calls from two threads
 also with the sanitizer of threads. In one of them each request for memory is refused in turn. Random problems are
-answered by the library and by the second reading of the definitions. The header for C++17 is tried, by CMake too, and the library is called from
-Rust and Go.
+answered by the library and by the second reading of the definitions. The header for C++17 is tried, by CMake too, and
+the library is called from Rust and Go.
 """
 
 import functools

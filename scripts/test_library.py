@@ -176,7 +176,7 @@ def by_definitions(place, flows):
     more = [units + (i in room[:1]) for i, units in enumerate(flows)]
     return {"value": [*divmod(value, 2 ** 64)],
             **{name: [int(v in side) for v in range(1, nodes + 1)] for name, side in (("near", near), ("far", far))},
-            "links": [connectivity(problem, undirected, pair) for pair in (False, True) for undirected in (False, True)],
+            "links": [connectivity(problem, both, pair) for pair in (False, True) for both in (False, True)],
             "check": [number_of_verdict(problem, units, value) for units in (flows, more)]}
 
 

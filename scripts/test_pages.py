@@ -82,7 +82,8 @@ def test_completion(helps, shell, line):
     """What a shell offers at the end of a line: the commands, or the options."""
     needs(shell)
     name, dashes, _ = line.rpartition("--")
-    offers = [long for _, long, _ in OPTION.findall(helps[name.strip()])] if dashes else COMMANDS + ["help"] * (not line)
+    known = [long for _, long, _ in OPTION.findall(helps[name.strip()])]
+    offers = known if dashes else COMMANDS + ["help"] * (not line)
     line = f"flow {line}"
     file, words = shlex.quote(str(ROOT / "completions/flow")), line.split(" ")
     if shell == "bash":

@@ -88,25 +88,29 @@ def declares_alone(file):
     return all(re.match(r"(pub )?mod \w+$|$", line) for line in file.read_text().splitlines())
 
 
-def needs_a_name(file, kind, *path):
-    """Tests are named where they are declared, and so are the files of a folder of specs/ or proofs/."""
-    is_test = {"tests", "test"} & set("_".join([*path[:-1], file.stem]).split("_"))
-    has_goals_alone = kind == "proofs" and file.stem in ("Answers", "Invariants", "Proof")
-    return not (is_test or has_goals_alone or file.stem in ("Lib", "lib") or declares_alone(file))
-
-
 @pytest.mark.parametrize("crate", sorted(path.name for path in ROOT.glob("crates/*")))
-def test_names(checks, crate):
-    """The part of docs/ARCHITECTURE.md on a crate names each file of its src/ and specs/ by the path within the crate,
-    and the first line of a lemma file says what it is about."""
-    parts = re.split(r"^## `?([^`\n]*)`?\n", (ROOT / "docs/ARCHITECTURE.md").read_text(), flags=re.M)
-    part = dict(zip(parts[1::2], parts[2::2])).get(crate, "")
-    for kind in ("src/**/*.rt", "specs/**/*.antt", "proofs/**/*.antt"):
+def test_first_lines(checks, crate):
+    """The first line of a file of a crate says what the file is about, but for files of goals and of tests."""
+    for kind, sign in (("src/**/*.rt", "//! "), ("specs/**/*.antt", "-- "), ("proofs/**/*.antt", "-- ")):
         for file in sorted((ROOT / "crates" / crate).glob(kind)):
-            path = file.relative_to(ROOT / "crates" / crate)
-            if needs_a_name(file, *path.parts):
-                assert file.read_text().startswith("-- ") if kind.startswith("proofs") else f"`{path}`" in part, path
+            if not declares_alone(file) and not {"tests", "Answers", "Invariants", "Proof"} & {file.stem}:
+                assert file.read_text().startswith(sign), file
                 checks()
+
+
+def test_paths():
+    """What the page that tells where to look names in code is there."""
+    page = (ROOT / "docs/ARCHITECTURE.md").read_text()
+    named = re.findall(r"`([\w./-]+\.(?:rt|antt|py|sh|cpp|h|hpp|cmake))`", page)
+    assert named and [name for name in named if not any((ROOT / at / name).exists() for at in ("", "crates"))] == []
+
+
+def test_constants():
+    """Each constant that the same page says steers is one of the code."""
+    page = (ROOT / "docs/ARCHITECTURE.md").read_text()
+    code = "".join(file.read_text() for file in ROOT.glob("crates/*/src/**/*.rt"))
+    named = re.findall(r"`([A-Z_]{5,})`", page)
+    assert named and [name for name in named if not re.search(rf"\bconst {name}\b", code)] == []
 
 
 def test_proofs_by_hand():

@@ -1,3 +1,4 @@
+//! Networks, tables and problems, call by call.
 ghost use Rattle.std.specs.Prelude.{◌*◌, ◌<◌, length};
 ghost use Rattle.flow_net.specs.Flows.{Fits};
 

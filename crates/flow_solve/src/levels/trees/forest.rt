@@ -140,7 +140,7 @@ pub(crate) fn above_in(cells: &[u32], node: u32) -> u32
 }
 
 /// How much more the trees may take for each path that they find, however little it carries.
-const EARNED: u64 = 256;
+const EARNED: u64 = 384;
 
 impl Trees<'_> {
     /// Counts a path that carries an amount, and lets the trees go on for it.

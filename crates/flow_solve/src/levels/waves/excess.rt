@@ -2,8 +2,9 @@
 //!
 //! Nodes are numbered from 1, and 0 stands for none. Levels count from 0 and are fewer than nodes. With `n` nodes the
 //! `5·n` cells of a stage are, in this order: `n` for each node's level plus [`LEVELS`] times its current place, which
-//! counts blocks if it has [`PLACES`] half-arcs or more, and [`MARK`] if it is marked; `n` for the search's queue, and then for each node the next
-//! one with excess on its level; `n` for the first node with excess of each level; and two for each node's excess.
+//! counts blocks if it has [`PLACES`] half-arcs or more, and [`MARK`] if it is marked; `n` for the search's queue, and
+//! then for each node the next one with excess on its level; `n` for the first node with excess of each level; and two
+//! for each node's excess.
 ghost use Rattle.std.specs.Prelude.{◌≡◌, ◌+◌, ◌-◌, ◌*◌, ◌≤◌, length};
 ghost use Rattle.std.specs.List.{All};
 ghost use Rattle.flow_solve.specs.levels.Waves.{HasCells, OnlyMarks};

@@ -108,4 +108,4 @@ def test_pages_name_what_is_there(run, checks):
 
 def test_removal(run):
     run(f"$DPKG --purge {' '.join(PACKAGES)}")
-    assert run("find $ROOT -not -type d -not -path '*/root/var/*'") == ""
+    assert run('find $ROOT -not -type d -not -path "$ROOT/var/*"') == ""
